@@ -1,0 +1,42 @@
+use borrow.Author.Needs.{needs}
+use Rattle.descriptor.proofs.instruction.sparse_k.Statement.{statement}
+use Rattle.descriptor.proofs.instruction.sparse_k.Tie as tie
+use Rattle.descriptor.proofs.instruction.sparse_k.Reads as reads
+use Rattle.descriptor.proofs.instruction.sparse_k.Lts as lts
+
+-- src/instruction.rt:564:22
+enum-told : tie.Need-enum-told
+enum-told c = search needs
+
+-- src/instruction.rt:565:23
+enum-told-2 : tie.Need-enum-told-2
+enum-told-2 c = search needs
+
+-- src/instruction.rt:566:25
+enum-told-3 : tie.Need-enum-told-3
+enum-told-3 c = search needs
+
+-- src/instruction.rt:567:21
+enum-told-4 : tie.Need-enum-told-4
+enum-told-4 c = search needs
+
+-- src/instruction.rt:560:1
+returns : tie.Need-returns
+returns c = rw (c .enum-told .given .1)
+
+-- src/instruction.rt:560:1
+returns-2 : tie.Need-returns-2
+returns-2 c = rw (c .enum-told2 .given .1)
+
+-- src/instruction.rt:560:1
+returns-3 : tie.Need-returns-3
+returns-3 c = rw (c .enum-told3 .given .1)
+
+-- src/instruction.rt:560:1
+returns-4 : tie.Need-returns-4
+returns-4 c = rw (c .enum-told4 .given .1)
+
+pub sparse-k-spec : {M : Type 1} → statement M
+sparse-k-spec =
+    tie.close
+    (tie.spec enum-told enum-told-2 enum-told-3 enum-told-4 returns returns-2 returns-3 returns-4)

@@ -1,0 +1,54 @@
+-- What a joined test says of its parts. Assumes nothing.
+use Prim.Native.Nat.{ℕ}
+use mathlib.Core.Path.{_≡_, refl, sym}
+use mathlib.Core.Bool.{Bool, true, false, _&&_, cond, true≢false}
+use mathlib.Core.List.{List, [], _∷_}
+use Rattle.laws.specs.Tests.{all, allFrom}
+
+pub never : {A : Type 0} → false ≡ true → A
+never e = absurd (true≢false (sym e))
+
+pub and-split : (a b : Bool) → (a && b) ≡ true → (a ≡ true) × (b ≡ true)
+and-split true b h = (refl, h)
+and-split false b h = never h
+
+pub and-join : (a b : Bool) → a ≡ true → b ≡ true → (a && b) ≡ true
+and-join a b p q = simp (p, q)
+
+-- every test of the list holds
+abbrev pub Each : List Bool → Type 0
+Each [] = Unit
+Each (b ∷ bs) = (b ≡ true) × Each bs
+
+from : (t : Bool) (bs : List Bool) → allFrom t bs ≡ true → (t ≡ true) × Each bs
+from t [] h = (h, tt)
+from t (b ∷ bs) h =
+    let r : ((t && b) ≡ true) × Each bs = from (t && b) bs h in
+    let s : (t ≡ true) × (b ≡ true) = and-split t b (r .0) in
+    (s .0, (s .1, r .1))
+
+pub each : (bs : List Bool) → all bs ≡ true → Each bs
+each [] h = tt
+each (b ∷ bs) h = from b bs h
+
+join : (t : Bool) (bs : List Bool) → t ≡ true → Each bs → allFrom t bs ≡ true
+join t [] p e = p
+join t (b ∷ bs) p e = join (t && b) bs (and-join t b p (e .0)) (e .1)
+
+pub all-of : (bs : List Bool) → Each bs → all bs ≡ true
+all-of [] e = refl
+all-of (b ∷ bs) e = join b bs (e .0) (e .1)
+
+-- an answer with a property that the second choice has not is the first choice
+pub chosen : {A : Type 0} (P : A → Type 0) (b : Bool) (x y : A) → (P y → ⊥) → P (cond b x y) → b ≡ true
+chosen P true x y n h = refl
+chosen P false x y n h = absurd (n h)
+
+-- one choice after another by two tests is one choice by both
+pub cond-and : {A : Type 0} (a b : Bool) (x y : A) → cond (a && b) x y ≡ cond a (cond b x y) y
+cond-and true b x y = refl
+cond-and false b x y = refl
+
+pub cond-same : {A : Type 0} (b : Bool) (x : A) → cond b x x ≡ x
+cond-same true x = refl
+cond-same false x = refl

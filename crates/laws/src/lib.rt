@@ -1,0 +1,1 @@
+// The general definitions and laws that several crates cite: specs/ and proofs/. There is no code here.
