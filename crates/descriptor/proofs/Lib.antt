@@ -1,1 +1,4 @@
 pub mod InstructionLaws
+pub mod RequestLaws
+pub mod Exact
+pub mod EntriesProved

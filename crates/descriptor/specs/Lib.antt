@@ -1,3 +1,5 @@
 pub mod Instruction
 pub mod Shared
 pub mod Request
+pub mod Claims
+pub mod Entries

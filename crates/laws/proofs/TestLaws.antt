@@ -1,9 +1,10 @@
 -- What a joined test says of its parts. Assumes nothing.
 use Prim.Native.Nat.{ℕ}
-use mathlib.Core.Path.{_≡_, refl, sym}
+use mathlib.Core.Path.{_≡_, refl, sym, subst}
 use mathlib.Core.Bool.{Bool, true, false, _&&_, cond, true≢false}
 use mathlib.Core.List.{List, [], _∷_}
-use Rattle.laws.specs.Tests.{all, allFrom}
+use mathlib.Core.Option.{Option, none, some, Option·some-injective, Option·none-ne-some}
+use Rattle.laws.specs.Tests.{all, allFrom, find}
 
 pub never : {A : Type 0} → false ≡ true → A
 never e = absurd (true≢false (sym e))
@@ -52,3 +53,13 @@ cond-and false b x y = refl
 pub cond-same : {A : Type 0} (b : Bool) (x : A) → cond b x x ≡ x
 cond-same true x = refl
 cond-same false x = refl
+
+-- what a search finds passes the test
+first-passes : {A : Type 0} (test : A → Bool) (y x : A) (o : Option A) (b : Bool)
+    → test y ≡ b → (o ≡ some x → test x ≡ true) → cond b (some y) o ≡ some x → test x ≡ true
+first-passes test y x o true p k e = subst (λ z. test z ≡ true) (Option·some-injective y x e) p
+first-passes test y x o false p k e = k e
+
+pub find-passes : {A : Type 0} (test : A → Bool) (xs : List A) (x : A) → find test xs ≡ some x → test x ≡ true
+find-passes test [] x e = absurd (Option·none-ne-some x e)
+find-passes test (y ∷ ys) x e = first-passes test y x (find test ys) (test y) refl (find-passes test ys x) e
