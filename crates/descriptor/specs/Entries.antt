@@ -27,7 +27,10 @@ Claim (instruction kind d word reason) =
     × (I.decoded kind false false word ≡ I.found d)
     × (I.wordReason kind false false word ≡ reason)
 Claim (shared d word) = (S.encoded d ≡ S.made word) × (S.decoded word ≡ S.found d)
-Claim (address a reason) = S.encoded (record { start = a; leading = 0; stride = 0; base = 0; mode = 0; swizzle = 0 }) .reason ≡ reason
+Claim (address a reason) =
+    (S.encoded (record { start = a; leading = 0; stride = 0; base = 0; mode = 0; swizzle = 0 }) .reason ≡ reason)
+    × (S.encoded (record { start = 0; leading = a; stride = 0; base = 0; mode = 0; swizzle = 0 }) .reason ≡ reason)
+    × (S.encoded (record { start = 0; leading = 0; stride = a; base = 0; mode = 0; swizzle = 0 }) .reason ≡ reason)
 Claim (request columns reason) = requestReason columns ≡ reason
 
 abbrev pub Each : List Entry → Type 0

@@ -6,7 +6,7 @@ ghost use Rattle.laws.specs.Tests.{all};
 ghost use Rattle.laws.specs.Layout.{pack, says, stands, ranges};
 ghost use Rattle.laws.specs.Rules.{firstBroken};
 ghost use Rattle.laws.proofs.LayoutLaws.{Inside};
-ghost use Rattle.descriptor.specs.Instruction.{layout, dtypeCode, code, kindNumber, kindOf, ofKind, isI8, bit, dtypeOf, dtypeSeen, elementOf, elementSeen, values, numbers, named, namedSeen, encodedNumbers, rules, zero, decoded, encoded, mListed, nListed, typesListed, listing, denseK, kOf, wordReason};
+ghost use Rattle.descriptor.specs.Instruction.{layout, dtypeCode, code, kindNumber, kindOf, ofKind, isI8, bit, dtypeOf, dtypeSeen, elementOf, elementSeen, values, numbers, named, namedSeen, encodedNumbers, rules, noDescriptor, decoded, encoded, mListed, nListed, typesListed, listing, denseK, kOf, wordReason};
 
 pub enum Kind {
     F16,
@@ -395,24 +395,27 @@ pub fn named_by(kind: Kind, f: Fields) -> Named
     })
 }
 
-// No descriptor: every number of it is 0.
-fn nothing() -> Instruction
-    ensures { λ r. ⌜ r ≡ zero ⌝ }
+// The answer to a word that has no reading.
+pub fn refused_read() -> InstructionRead
+    ensures { λ r. ⌜ r ≡ noDescriptor ⌝ }
 {
-    Instruction {
-        selector: 0,
-        sparse: false,
-        saturate: false,
-        dtype: Dtype::F16,
-        atype: Element::F16,
-        btype: Element::F16,
-        anegate: false,
-        bnegate: false,
-        atranspose: false,
-        btranspose: false,
-        n: 0,
-        m: 0,
-        shift: 0,
+    InstructionRead {
+        reason: 12,
+        descriptor: Instruction {
+            selector: 0,
+            sparse: false,
+            saturate: false,
+            dtype: Dtype::F16,
+            atype: Element::F16,
+            btype: Element::F16,
+            anegate: false,
+            bnegate: false,
+            atranspose: false,
+            btranspose: false,
+            n: 0,
+            m: 0,
+            shift: 0,
+        },
     }
 }
 
@@ -421,10 +424,7 @@ pub fn decode(kind: Kind, ws: bool, sp: bool, word: u32) -> InstructionRead
     ensures { λ r. ⌜ r ≡ decoded kind ws sp word ⌝ }
 {
     let Named::Is(d) = named_by(kind, split(word)) else {
-        return InstructionRead {
-            reason: 12,
-            descriptor: nothing(),
-        };
+        return refused_read();
     };
     if fixed_stand(word) & follows(kind, ws, sp, d) {
         InstructionRead {
@@ -432,10 +432,7 @@ pub fn decode(kind: Kind, ws: bool, sp: bool, word: u32) -> InstructionRead
             descriptor: d,
         }
     } else {
-        InstructionRead {
-            reason: 12,
-            descriptor: nothing(),
-        }
+        refused_read()
     }
 }
 

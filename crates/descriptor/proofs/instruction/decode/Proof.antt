@@ -21,8 +21,8 @@ enum-known-d c = search needs
 enum-told : tie.Need-enum-told
 enum-told c = search needs
 
-nothing-requires : tie.Need-nothing-requires
-nothing-requires c κs = search needs
+refused-read-requires : tie.Need-refused-read-requires
+refused-read-requires c κs = search needs
 
 fixed-stand-requires : tie.Need-fixed-stand-requires
 fixed-stand-requires c κs = search needs
@@ -30,8 +30,8 @@ fixed-stand-requires c κs = search needs
 follows-requires : tie.Need-follows-requires
 follows-requires c κs = search needs
 
-nothing-requires-2 : tie.Need-nothing-requires-2
-nothing-requires-2 c κs = search needs
+refused-read-requires-2 : tie.Need-refused-read-requires-2
+refused-read-requires-2 c κs = search needs
 
 -- what the word says names what the code found
 naming : (c : tie.After-named-by)
@@ -49,14 +49,14 @@ reading c =
 
 returns : tie.Need-returns
 returns c =
-    rw (c .nothing .ensures)
-    (sym (decoded-none _ _ _ _ (naming (c .before .before .before) ∙ ap namedSeen (c .before .enum-told .given .1))))
+    c .refused-read .ensures
+    ∙ sym (decoded-none _ _ _ _ (naming (c .before .before .before) ∙ ap namedSeen (c .before .enum-told .given .1)))
 
 returns-2 : tie.Need-returns-2
 returns-2 c = rw (reading (c .before), c .if1 .taken)
 
 returns-3 : tie.Need-returns-3
-returns-3 c = rw (reading (c .before .before), c .before .if1 .left, c .nothing2 .ensures)
+returns-3 c = rw (reading (c .before .before), c .before .if1 .left, c .refused-read2 .ensures)
 
 pub decode-spec : {M : Type 1} → statement M
 decode-spec =
@@ -66,10 +66,10 @@ decode-spec =
     named-by-requires
     enum-known-d
     enum-told
-    nothing-requires
+    refused-read-requires
     returns
     fixed-stand-requires
     follows-requires
-    nothing-requires-2
+    refused-read-requires-2
     returns-2
     returns-3)
