@@ -7,12 +7,12 @@ use mathlib.Core.Option.{Option, none, some}
 use lib.Dec.{eqb, leb}
 use lib.ListN.{getD}
 use Rattle.laws.specs.Tests.{find}
-use Rattle.descriptor.specs.Instruction as I
-use Rattle.descriptor.specs.declared.instruction.Kind.{Kind}
-use Rattle.descriptor.specs.declared.instruction.Fields.{Fields}
-use Rattle.descriptor.specs.declared.instruction.InstructionRead.{InstructionRead}
-use Rattle.descriptor.specs.declared.instruction.InstructionWord.{InstructionWord}
-use Rattle.descriptor.specs.declared.shared.Shared.{Shared}
+use Rattle.instruction.specs.Instruction as I
+use Rattle.instruction.specs.declared.Kind.{Kind}
+use Rattle.instruction.specs.declared.Fields.{Fields}
+use Rattle.instruction.specs.declared.InstructionRead.{InstructionRead}
+use Rattle.instruction.specs.declared.InstructionWord.{InstructionWord}
+use Rattle.shared_memory.specs.declared.Shared.{Shared}
 use Rattle.staplehorn.specs.declared.words.Opcode.{Opcode}
 use Rattle.staplehorn.specs.declared.words.OpcodeRead.{OpcodeRead}
 use Rattle.staplehorn.specs.declared.words.KindRead.{KindRead}

@@ -1,15 +1,14 @@
 // The descriptor words and requests, on plain numbers.
-use descriptor::instruction::Kind;
-use descriptor::instruction::Fields;
-use descriptor::instruction::InstructionRead;
-use descriptor::instruction::InstructionWord;
-use descriptor::shared::Shared;
-
+use instruction::Fields;
+use instruction::InstructionRead;
+use instruction::InstructionWord;
+use instruction::Kind;
+use shared_memory::Shared;
 ghost use mathlib.Core.Path.{_≡_};
 ghost use Rattle.staplehorn.specs.Words.{kindOf, kindSeen, opcodeOf, opcodeSeen, decodedFor, fieldsOf, encodedFor, judgedFor, listedFor, kFor, sharedOf};
-ghost use Rattle.descriptor.specs.Instruction as I;
-ghost use Rattle.descriptor.specs.Shared as S;
-ghost use Rattle.descriptor.specs.Request.{requestReason};
+ghost use Rattle.instruction.specs.Instruction as I;
+ghost use Rattle.shared_memory.specs.Shared as S;
+ghost use Rattle.request.specs.Request.{requestReason};
 
 // A kind with `.ws` and `.sp`.
 pub struct Opcode {
@@ -77,10 +76,10 @@ fn decode_word(kind: u32, ws: u32, sp: u32, word: u32) -> InstructionRead
     ensures { λ r. ⌜ r ≡ decodedFor (opcodeOf kind ws sp) word ⌝ }
 {
     let OpcodeRead::Is(o) = opcode_of(kind, ws, sp) else {
-        return descriptor::instruction::refused_read();
+        return instruction::refused_read();
     };
     let k = o.kind;
-    descriptor::instruction::decode(k, o.ws, o.sp, word)
+    instruction::decode(k, o.ws, o.sp, word)
 }
 
 // The word of some numbers.
@@ -94,7 +93,7 @@ fn encode_numbers(kind: u32, ws: u32, sp: u32, f: Fields) -> InstructionWord
         };
     };
     let k = o.kind;
-    descriptor::instruction::encode_fields(k, o.ws, o.sp, f)
+    instruction::encode_fields(k, o.ws, o.sp, f)
 }
 
 // An array as fields.
@@ -153,7 +152,7 @@ pub extern "C" fn staplehorn_instruction_decode(
 {
     let r = decode_word(kind, ws, sp, word);
     let d = r.descriptor;
-    *fields = array_of(descriptor::instruction::fields_of(d));
+    *fields = array_of(instruction::fields_of(d));
     r.reason
 }
 
@@ -182,7 +181,7 @@ fn judge_word(kind: u32, ws: u32, sp: u32, word: u32) -> u32
         return 12;
     };
     let k = o.kind;
-    descriptor::instruction::judge(k, o.ws, o.sp, word)
+    instruction::judge(k, o.ws, o.sp, word)
 }
 
 // The reason of a word: 12 with no reading, 13 not listed, else 0.
@@ -216,15 +215,12 @@ fn k_of(kind: u32, sp: u32) -> KRead
     ensures { λ r. ⌜ r ≡ kFor (opcodeOf kind 0 sp) ⌝ }
 {
     let OpcodeRead::Is(o) = opcode_of(kind, 0, sp) else {
-        return KRead {
-            reason: 12,
-            k: 0,
-        };
+        return KRead { reason: 12, k: 0 };
     };
     let k = o.kind;
     KRead {
         reason: 0,
-        k: descriptor::instruction::k(k, o.sp),
+        k: instruction::k(k, o.sp),
     }
 }
 
@@ -245,7 +241,7 @@ pub extern "C" fn staplehorn_shared_decode(word: u64, fields: &mut [u64; 6]) -> 
     ensures reason { λ r. ⌜ r ≡ S.decoded word .reason ⌝ }
     ensures fields { λ _. ⌜ now (fields .exit) ≡ S.numbers (S.decoded word .descriptor) ⌝ }
 {
-    let r = descriptor::shared::decode(word);
+    let r = shared_memory::decode(word);
     let d = r.descriptor;
     *fields = [d.start, d.leading, d.stride, d.base, d.mode, d.swizzle];
     r.reason
@@ -257,7 +253,7 @@ pub extern "C" fn staplehorn_shared_encode(fields: &[u64; 6], word: &mut u64) ->
     ensures reason { λ r. ⌜ r ≡ S.encoded (sharedOf (now (fields .entry))) .reason ⌝ }
     ensures word { λ _. ⌜ now (word .exit) ≡ S.encoded (sharedOf (now (fields .entry))) .word ⌝ }
 {
-    let r = descriptor::shared::encode(Shared {
+    let r = shared_memory::encode(Shared {
         start: fields[0],
         leading: fields[1],
         stride: fields[2],
@@ -274,5 +270,5 @@ pub extern "C" fn staplehorn_shared_encode(fields: &[u64; 6], word: &mut u64) ->
 pub extern "C" fn staplehorn_request(columns: u32) -> u32
     ensures { λ r. ⌜ r ≡ requestReason columns ⌝ }
 {
-    descriptor::request::request(columns)
+    request::reason(columns)
 }

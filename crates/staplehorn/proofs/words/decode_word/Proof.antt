@@ -1,3 +1,4 @@
+-- `staplehorn::words::decode_word` meets its contract. Assumes nothing.
 use mathlib.Core.Path.{_≡_, refl, sym, _∙_, ap}
 use mathlib.Core.Option.{Option}
 use Rattle.staplehorn.specs.declared.words.Opcode.{Opcode}
@@ -5,37 +6,25 @@ use Rattle.staplehorn.specs.Words.{decodedFor, opcodeSeen}
 use borrow.Author.Needs.{needs}
 use Rattle.staplehorn.proofs.words.decode_word.Statement.{statement}
 use Rattle.staplehorn.proofs.words.decode_word.Tie as tie
-use Rattle.staplehorn.proofs.words.decode_word.Reads as reads
-use Rattle.staplehorn.proofs.words.decode_word.Lts as lts
-use Rattle.descriptor.proofs.instruction.decode.Reads as decode-reads
-use Rattle.descriptor.proofs.instruction.refused_read.Reads as refused-read-reads
-use Rattle.staplehorn.proofs.words.opcode_of.Reads as opcode-of-reads
 
--- src/words.rt:79:29
 opcode-of-requires : tie.Need-opcode-of-requires
 opcode-of-requires c κs = search needs
 
--- src/words.rt:79:24
 enum-known-o : tie.Need-enum-known-o
 enum-known-o c = search needs
 
--- src/words.rt:80:9
 enum-told : tie.Need-enum-told
 enum-told c = search needs
 
--- src/words.rt:80:9
 refused-read-requires : tie.Need-refused-read-requires
 refused-read-requires c κs = search needs
 
--- src/words.rt:80:9
 returns : tie.Need-returns
 returns c = c .refused-read .ensures ∙ sym (ap (λ (o : Option Opcode). decodedFor o (c .before .before .before .before .args .word)) (sym (c .before .before .before .opcode-of .ensures) ∙ ap opcodeSeen (c .before .enum-told .given .1)))
 
--- src/words.rt:83:5
 decode-requires : tie.Need-decode-requires
 decode-requires c κs = search needs
 
--- src/words.rt:76:1
 returns-2 : tie.Need-returns-2
 returns-2 c = c .decode .ensures ∙ sym (ap (λ (o : Option Opcode). decodedFor o (c .before .before .before .before .before .args .word)) (sym (c .before .before .before .before .opcode-of .ensures) ∙ ap opcodeSeen (c .before .before .o .given .1)))
 

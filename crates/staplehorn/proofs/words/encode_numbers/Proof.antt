@@ -1,3 +1,4 @@
+-- `staplehorn::words::encode_numbers` meets its contract. Assumes nothing.
 use mathlib.Core.Path.{_≡_, refl, sym, _∙_, ap}
 use mathlib.Core.Option.{Option}
 use Rattle.staplehorn.specs.declared.words.Opcode.{Opcode}
@@ -5,32 +6,22 @@ use Rattle.staplehorn.specs.Words.{encodedFor, opcodeSeen}
 use borrow.Author.Needs.{needs}
 use Rattle.staplehorn.proofs.words.encode_numbers.Statement.{statement}
 use Rattle.staplehorn.proofs.words.encode_numbers.Tie as tie
-use Rattle.staplehorn.proofs.words.encode_numbers.Reads as reads
-use Rattle.staplehorn.proofs.words.encode_numbers.Lts as lts
-use Rattle.descriptor.proofs.instruction.encode_fields.Reads as encode-fields-reads
-use Rattle.staplehorn.proofs.words.opcode_of.Reads as opcode-of-reads
 
--- src/words.rt:90:29
 opcode-of-requires : tie.Need-opcode-of-requires
 opcode-of-requires c κs = search needs
 
--- src/words.rt:90:24
 enum-known-o : tie.Need-enum-known-o
 enum-known-o c = search needs
 
--- src/words.rt:91:9
 enum-told : tie.Need-enum-told
 enum-told c = search needs
 
--- src/words.rt:91:9
 returns : tie.Need-returns
 returns c = sym (ap (λ (o : Option Opcode). encodedFor o (c .before .before .before .args .f)) (sym (c .before .before .opcode-of .ensures) ∙ ap opcodeSeen (c .enum-told .given .1)))
 
--- src/words.rt:97:5
 encode-fields-requires : tie.Need-encode-fields-requires
 encode-fields-requires c κs = search needs
 
--- src/words.rt:87:1
 returns-2 : tie.Need-returns-2
 returns-2 c = c .encode-fields .ensures ∙ sym (ap (λ (o : Option Opcode). encodedFor o (c .before .before .before .before .before .args .f)) (sym (c .before .before .before .before .opcode-of .ensures) ∙ ap opcodeSeen (c .before .before .o .given .1)))
 

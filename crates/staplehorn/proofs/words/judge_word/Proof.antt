@@ -1,3 +1,4 @@
+-- `staplehorn::words::judge_word` meets its contract. Assumes nothing.
 use mathlib.Core.Path.{_≡_, refl, sym, _∙_, ap}
 use mathlib.Core.Option.{Option}
 use Rattle.staplehorn.specs.declared.words.Opcode.{Opcode}
@@ -5,32 +6,22 @@ use Rattle.staplehorn.specs.Words.{judgedFor, opcodeSeen}
 use borrow.Author.Needs.{needs}
 use Rattle.staplehorn.proofs.words.judge_word.Statement.{statement}
 use Rattle.staplehorn.proofs.words.judge_word.Tie as tie
-use Rattle.staplehorn.proofs.words.judge_word.Reads as reads
-use Rattle.staplehorn.proofs.words.judge_word.Lts as lts
-use Rattle.descriptor.proofs.instruction.judge.Reads as judge-reads
-use Rattle.staplehorn.proofs.words.opcode_of.Reads as opcode-of-reads
 
--- src/words.rt:181:29
 opcode-of-requires : tie.Need-opcode-of-requires
 opcode-of-requires c κs = search needs
 
--- src/words.rt:181:24
 enum-known-o : tie.Need-enum-known-o
 enum-known-o c = search needs
 
--- src/words.rt:182:9
 enum-told : tie.Need-enum-told
 enum-told c = search needs
 
--- src/words.rt:182:9
 returns : tie.Need-returns
 returns c = sym (ap (λ (o : Option Opcode). judgedFor o (c .before .before .before .args .word)) (sym (c .before .before .opcode-of .ensures) ∙ ap opcodeSeen (c .enum-told .given .1)))
 
--- src/words.rt:185:5
 judge-requires : tie.Need-judge-requires
 judge-requires c κs = search needs
 
--- src/words.rt:178:1
 returns-2 : tie.Need-returns-2
 returns-2 c = c .judge .ensures ∙ sym (ap (λ (o : Option Opcode). judgedFor o (c .before .before .before .before .before .args .word)) (sym (c .before .before .before .before .opcode-of .ensures) ∙ ap opcodeSeen (c .before .before .o .given .1)))
 

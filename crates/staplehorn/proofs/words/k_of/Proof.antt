@@ -1,3 +1,4 @@
+-- `staplehorn::words::k_of` meets its contract. Assumes nothing.
 use Prim.Native.Nat.{ℕ}
 use mathlib.Core.Path.{_≡_, refl, sym, _∙_, ap}
 use mathlib.Core.Option.{Option}
@@ -6,32 +7,22 @@ use Rattle.staplehorn.specs.Words.{kFor, opcodeSeen}
 use borrow.Author.Needs.{needs}
 use Rattle.staplehorn.proofs.words.k_of.Statement.{statement}
 use Rattle.staplehorn.proofs.words.k_of.Tie as tie
-use Rattle.staplehorn.proofs.words.k_of.Reads as reads
-use Rattle.staplehorn.proofs.words.k_of.Lts as lts
-use Rattle.descriptor.proofs.instruction.k.Reads as k-reads
-use Rattle.staplehorn.proofs.words.opcode_of.Reads as opcode-of-reads
 
--- src/words.rt:218:29
 opcode-of-requires : tie.Need-opcode-of-requires
 opcode-of-requires c κs = search needs
 
--- src/words.rt:218:24
 enum-known-o : tie.Need-enum-known-o
 enum-known-o c = search needs
 
--- src/words.rt:219:9
 enum-told : tie.Need-enum-told
 enum-told c = search needs
 
--- src/words.rt:219:9
 returns : tie.Need-returns
 returns c = sym (ap (λ (o : Option Opcode). kFor o) (sym (c .before .before .opcode-of .ensures) ∙ ap opcodeSeen (c .enum-told .given .1)))
 
--- src/words.rt:227:12
 k-requires : tie.Need-k-requires
 k-requires c κs = search needs
 
--- src/words.rt:215:1
 returns-2 : tie.Need-returns-2
 returns-2 c = ap (λ (n : ℕ). record { reason = 0; k = n }) (c .k .ensures) ∙ sym (ap (λ (o : Option Opcode). kFor o) (sym (c .before .before .before .before .opcode-of .ensures) ∙ ap opcodeSeen (c .before .before .o .given .1)))
 

@@ -1,4 +1,0 @@
-pub mod InstructionLaws
-pub mod RequestLaws
-pub mod Exact
-pub mod EntriesProved

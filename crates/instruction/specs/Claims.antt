@@ -1,0 +1,22 @@
+-- What is claimed of instruction descriptors beyond what each function does; proofs/Exact.antt has the proof. Assumes nothing.
+use Prim.Native.Nat.{ℕ, _^_, _<_}
+use mathlib.Core.Path.{_≡_}
+use mathlib.Core.Bool.{Bool}
+use Rattle.instruction.specs.Instruction.{decoded, encoded, encodedNumbers, found, made, numbers, values}
+use Rattle.instruction.specs.declared.Kind.{Kind}
+use Rattle.instruction.specs.declared.Instruction.{Instruction}
+use Rattle.instruction.specs.declared.Fields.{Fields}
+
+-- Under an opcode. Demand 2: what we write as a descriptor reads back the same, and no other word reads as it.
+pub record InstructionExact (kind : Kind) (ws sp : Bool) : Type 0 where
+  -- the word of a descriptor reads as the descriptor
+  pub back : (d : Instruction) → encoded kind ws sp d .reason ≡ 0 → decoded kind ws sp (encoded kind ws sp d .word) ≡ found d
+  -- a word that reads as a descriptor is the word of that descriptor
+  pub word : (w : ℕ) (d : Instruction) → w < 2 ^ 32 → decoded kind ws sp w ≡ found d → encoded kind ws sp d ≡ made w
+  -- so no two words read as one descriptor
+  pub sole : (v w : ℕ) (d : Instruction)
+      → v < 2 ^ 32 → w < 2 ^ 32 → decoded kind ws sp v ≡ found d → decoded kind ws sp w ≡ found d → v ≡ w
+  -- the word of some numbers reads as a descriptor that has those numbers
+  pub fields : (f : Fields)
+      → encodedNumbers kind ws sp (values f) .reason ≡ 0
+      → numbers (decoded kind ws sp (encodedNumbers kind ws sp (values f) .word) .descriptor) ≡ values f

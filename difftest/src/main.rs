@@ -1,0 +1,15 @@
+//! Compares the proved library with the reference. `difftest words` compares descriptor words, fields and requests.
+
+mod words;
+
+fn main() {
+    let part = std::env::args().nth(1).unwrap_or_default();
+    let good = match part.as_str() {
+        "words" => words::run(),
+        _ => {
+            eprintln!("usage: difftest words");
+            std::process::exit(2);
+        }
+    };
+    std::process::exit(if good { 0 } else { 1 });
+}

@@ -1,0 +1,68 @@
+//! The functions of include/staplehorn.h. Every array has the size that the header gives, so each call is sound.
+
+mod c {
+    extern "C" {
+        pub fn staplehorn_instruction_decode(kind: u32, ws: u32, sp: u32, word: u32, fields: *mut [u32; 13]) -> u32;
+        pub fn staplehorn_instruction_encode(kind: u32, ws: u32, sp: u32, fields: *const [u32; 13], word: *mut u32) -> u32;
+        pub fn staplehorn_instruction_judge(kind: u32, ws: u32, sp: u32, word: u32) -> u32;
+        pub fn staplehorn_instruction_listed(kind: u32, ws: u32, sp: u32, fields: *const [u32; 13]) -> u32;
+        pub fn staplehorn_instruction_k(kind: u32, sp: u32, k: *mut u32) -> u32;
+        pub fn staplehorn_shared_decode(word: u64, fields: *mut [u64; 6]) -> u32;
+        pub fn staplehorn_shared_encode(fields: *const [u64; 6], word: *mut u64) -> u32;
+        pub fn staplehorn_request(columns: u32) -> u32;
+    }
+}
+
+/// What stands in an out-parameter before a call: a place that the callee leaves alone shows.
+const UNTOUCHED: u32 = 0xA5A5_A5A5;
+const UNTOUCHED_64: u64 = 0xA5A5_A5A5_A5A5_A5A5;
+
+/// The numbers of an opcode: a kind, `.ws`, `.sp`.
+#[derive(Clone, Copy, Debug)]
+pub struct Opcode {
+    pub kind: u32,
+    pub ws: u32,
+    pub sp: u32,
+}
+
+pub fn instruction_decode(o: Opcode, word: u32) -> (u32, [u32; 13]) {
+    let mut fields = [UNTOUCHED; 13];
+    let reason = unsafe { c::staplehorn_instruction_decode(o.kind, o.ws, o.sp, word, &mut fields) };
+    (reason, fields)
+}
+
+pub fn instruction_encode(o: Opcode, fields: &[u32; 13]) -> (u32, u32) {
+    let mut word = UNTOUCHED;
+    let reason = unsafe { c::staplehorn_instruction_encode(o.kind, o.ws, o.sp, fields, &mut word) };
+    (reason, word)
+}
+
+pub fn instruction_judge(o: Opcode, word: u32) -> u32 {
+    unsafe { c::staplehorn_instruction_judge(o.kind, o.ws, o.sp, word) }
+}
+
+pub fn instruction_listed(o: Opcode, fields: &[u32; 13]) -> u32 {
+    unsafe { c::staplehorn_instruction_listed(o.kind, o.ws, o.sp, fields) }
+}
+
+pub fn instruction_k(kind: u32, sp: u32) -> (u32, u32) {
+    let mut k = UNTOUCHED;
+    let reason = unsafe { c::staplehorn_instruction_k(kind, sp, &mut k) };
+    (reason, k)
+}
+
+pub fn shared_decode(word: u64) -> (u32, [u64; 6]) {
+    let mut fields = [UNTOUCHED_64; 6];
+    let reason = unsafe { c::staplehorn_shared_decode(word, &mut fields) };
+    (reason, fields)
+}
+
+pub fn shared_encode(fields: &[u64; 6]) -> (u32, u64) {
+    let mut word = UNTOUCHED_64;
+    let reason = unsafe { c::staplehorn_shared_encode(fields, &mut word) };
+    (reason, word)
+}
+
+pub fn request(columns: u32) -> u32 {
+    unsafe { c::staplehorn_request(columns) }
+}
