@@ -1,6 +1,8 @@
 /* describe OPCODE WORD: what a descriptor word says.
    OPCODE is f16, tf32, f8f6f4 or i8, with .ws and .sp behind it where they stand, or `shared`. WORD is hex or decimal.
    Exit status: 0 the word is good, 1 refused, 2 a wrong command line. */
+#include <ctype.h>
+#include <errno.h>
 #include <inttypes.h>
 #include <stdio.h>
 #include <stdlib.h>
@@ -52,8 +54,11 @@ int main(int argc, char **argv) {
     char *end = NULL;
     int status = 2;
     if (argc == 3) {
-        uint64_t word = strtoull(argv[2], &end, 0);
-        if (end != argv[2] && *end == '\0') status = strcmp(argv[1], "shared") == 0 ? shared(word) : instruction(argv[1], word);
+        int base = strncmp(argv[2], "0x", 2) == 0 ? 16 : 10;
+        errno = 0;
+        uint64_t word = strtoull(argv[2], &end, base);
+        if (isdigit((unsigned char)argv[2][0]) && *end == '\0' && errno == 0) status =
+            strcmp(argv[1], "shared") == 0 ? shared(word) : instruction(argv[1], word);
     }
     if (status == 2) fprintf(stderr, "usage: describe f16|tf32|f8f6f4|i8[.ws][.sp]|shared WORD\n");
     return status;

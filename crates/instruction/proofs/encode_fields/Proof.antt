@@ -1,4 +1,4 @@
--- `instruction::encode_fields` meets its contract. Assumes nothing.
+-- `instruction::encode_fields` meets its contract: the numbers are out of range, name none, or name the descriptor that is encoded. Assumes nothing.
 use mathlib.Core.Path.{_≡_, sym, _∙_, ap}
 use borrow.Author.Tests.{not-true, not-false}
 use Rattle.instruction.specs.Instruction.{namedSeen, encodedNumbers, wordOfNamed}

@@ -1,4 +1,4 @@
--- `instruction::fields_of` meets its contract. Assumes nothing.
+-- `instruction::fields_of` meets its contract: each number is the code of a field. Assumes nothing.
 use borrow.Author.Needs.{needs}
 use Rattle.instruction.proofs.fields_of.Statement.{statement}
 use Rattle.instruction.proofs.fields_of.Tie as tie

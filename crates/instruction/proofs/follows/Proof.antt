@@ -1,4 +1,4 @@
--- `instruction::follows` meets its contract. Assumes nothing.
+-- `instruction::follows` meets its contract: the code makes the tests of the rules, with its own answers for kind and types. Assumes nothing.
 use borrow.Author.Needs.{needs}
 use Rattle.instruction.proofs.follows.Statement.{statement}
 use Rattle.instruction.proofs.follows.Tie as tie

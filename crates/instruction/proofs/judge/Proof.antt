@@ -1,4 +1,4 @@
--- `instruction::judge` meets its contract. Assumes nothing.
+-- `instruction::judge` meets its contract: the reading decides, and then the listing. Assumes nothing.
 use mathlib.Core.Path.{_≡_, sym, _∙_, ap}
 use borrow.Author.Tests.{eq-eqb, ne-eqb}
 use borrow.Author.Needs.{needs}

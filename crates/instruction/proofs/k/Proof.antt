@@ -1,4 +1,4 @@
--- `instruction::k` meets its contract. Assumes nothing.
+-- `instruction::k` meets its contract: one table for each side of the test. Assumes nothing.
 use borrow.Author.Needs.{needs}
 use Rattle.instruction.proofs.k.Statement.{statement}
 use Rattle.instruction.proofs.k.Tie as tie

@@ -1,4 +1,4 @@
--- `instruction::listed` meets its contract. Assumes nothing.
+-- `instruction::listed` meets its contract: the first rule that is broken decides. Assumes nothing.
 use mathlib.Core.Path.{sym, _∙_}
 use borrow.Author.Tests.{not-true, not-false}
 use borrow.Author.Needs.{needs}

@@ -1,4 +1,4 @@
--- `instruction::m_listed` meets its contract. Assumes nothing.
+-- `instruction::m_listed` meets its contract: one list for each side of the test. Assumes nothing.
 use Rattle.instruction.proofs.m_listed.Statement.{statement}
 use Rattle.instruction.proofs.m_listed.Tie as tie
 

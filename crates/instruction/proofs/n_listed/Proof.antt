@@ -1,4 +1,4 @@
--- `instruction::n_listed` meets its contract. Assumes nothing.
+-- `instruction::n_listed` meets its contract: one list for each way through the tests. Assumes nothing.
 use borrow.Author.Tests.{eq-eqb, ne-eqb}
 use borrow.Author.Needs.{needs}
 use Rattle.instruction.proofs.n_listed.Statement.{statement}

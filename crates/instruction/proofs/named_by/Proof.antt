@@ -1,4 +1,4 @@
--- `instruction::named_by` meets its contract. Assumes nothing.
+-- `instruction::named_by` meets its contract: each code names a type or none, and the three answers decide. Assumes nothing.
 use mathlib.Core.Path.{_≡_, refl, sym, ap, _∙_}
 use mathlib.Core.Option.{none, some}
 use Rattle.instruction.specs.Instruction.{values, dtypeSeen, elementSeen}

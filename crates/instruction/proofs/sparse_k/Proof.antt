@@ -1,4 +1,4 @@
--- `instruction::sparse_k` meets its contract. Assumes nothing.
+-- `instruction::sparse_k` meets its contract: the doubled number of each kind, by computation. Assumes nothing.
 use borrow.Author.Needs.{needs}
 use Rattle.instruction.proofs.sparse_k.Statement.{statement}
 use Rattle.instruction.proofs.sparse_k.Tie as tie

@@ -1,4 +1,4 @@
--- `staplehorn::words::judge_word` meets its contract. Assumes nothing.
+-- `staplehorn::words::judge_word` meets its contract: the opcode or none decides. Assumes nothing.
 use mathlib.Core.Path.{_≡_, refl, sym, _∙_, ap}
 use mathlib.Core.Option.{Option}
 use Rattle.staplehorn.specs.declared.words.Opcode.{Opcode}

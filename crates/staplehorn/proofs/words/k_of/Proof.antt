@@ -1,4 +1,4 @@
--- `staplehorn::words::k_of` meets its contract. Assumes nothing.
+-- `staplehorn::words::k_of` meets its contract: the opcode or none decides. Assumes nothing.
 use Prim.Native.Nat.{ℕ}
 use mathlib.Core.Path.{_≡_, refl, sym, _∙_, ap}
 use mathlib.Core.Option.{Option}

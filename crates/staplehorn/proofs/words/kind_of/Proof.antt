@@ -1,4 +1,4 @@
--- `staplehorn::words::kind_of` meets its contract. Assumes nothing.
+-- `staplehorn::words::kind_of` meets its contract: each return follows from the tests before it. Assumes nothing.
 use borrow.Author.Tests.{eq-eqb, ne-eqb}
 use Rattle.staplehorn.proofs.words.kind_of.Statement.{statement}
 use Rattle.staplehorn.proofs.words.kind_of.Tie as tie

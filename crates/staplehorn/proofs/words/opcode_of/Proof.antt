@@ -1,4 +1,4 @@
--- `staplehorn::words::opcode_of` meets its contract. Assumes nothing.
+-- `staplehorn::words::opcode_of` meets its contract: a kind or none, and then the flags. Assumes nothing.
 use mathlib.Core.Path.{_≡_, refl, sym, _∙_, ap}
 use mathlib.Core.Bool.{Bool, cond}
 use mathlib.Core.Option.{Option, none, some}

@@ -1,4 +1,4 @@
--- `staplehorn::words::staplehorn_instruction_k` meets its contract. Assumes nothing.
+-- `staplehorn::words::staplehorn_instruction_k` meets its contract: the answer is taken apart. Assumes nothing.
 use mathlib.Core.Path.{_≡_, refl, sym, _∙_, ap}
 use Rattle.staplehorn.specs.declared.words.KRead.{KRead}
 use borrow.Author.Needs.{needs}

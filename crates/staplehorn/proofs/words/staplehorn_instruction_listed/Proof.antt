@@ -1,4 +1,4 @@
--- `staplehorn::words::staplehorn_instruction_listed` meets its contract. Assumes nothing.
+-- `staplehorn::words::staplehorn_instruction_listed` meets its contract: the fields' word is judged, if there is one. Assumes nothing.
 use mathlib.Core.Path.{_≡_, refl, sym, _∙_, ap}
 use borrow.Author.Tests.{eq-eqb, ne-eqb}
 use Rattle.instruction.specs.declared.InstructionWord.{InstructionWord}

@@ -1,4 +1,4 @@
--- `staplehorn::words::staplehorn_shared_decode` meets its contract. Assumes nothing.
+-- `staplehorn::words::staplehorn_shared_decode` meets its contract: the answer is taken apart. Assumes nothing.
 use mathlib.Core.Path.{_≡_, refl, sym, _∙_, ap}
 use Rattle.shared_memory.specs.Shared.{numbers}
 use Rattle.shared_memory.specs.declared.SharedRead.{SharedRead}

@@ -1,4 +1,4 @@
--- `staplehorn::words::staplehorn_shared_encode` meets its contract. Assumes nothing.
+-- `staplehorn::words::staplehorn_shared_encode` meets its contract: the answer is taken apart. Assumes nothing.
 use mathlib.Core.Path.{_≡_, refl, sym, _∙_, ap}
 use Rattle.shared_memory.specs.declared.SharedWord.{SharedWord}
 use borrow.Author.Needs.{needs}
