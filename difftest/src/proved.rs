@@ -1,6 +1,7 @@
 //! The functions of include/staplehorn.h. Every array has the size that the header gives, so each call is sound.
 
-mod c {
+/// The C declarations themselves.
+pub mod c {
     extern "C" {
         pub fn staplehorn_instruction_decode(kind: u32, ws: u32, sp: u32, word: u32, fields: *mut [u32; 13]) -> u32;
         pub fn staplehorn_instruction_encode(kind: u32, ws: u32, sp: u32, fields: *const [u32; 13], word: *mut u32) -> u32;

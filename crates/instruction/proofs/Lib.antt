@@ -1,2 +1,4 @@
 pub mod InstructionLaws
+pub mod NamingLaws
+pub mod NumberLaws
 pub mod Exact

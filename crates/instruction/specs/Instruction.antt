@@ -18,6 +18,7 @@ use Rattle.instruction.specs.declared.DtypeCoded.{DtypeCoded}
 use Rattle.instruction.specs.declared.ElementCoded.{ElementCoded}
 use Rattle.instruction.specs.declared.Named.{Named}
 use Rattle.instruction.specs.declared.InstructionRead.{InstructionRead}
+use Rattle.instruction.specs.declared.FieldsRead.{FieldsRead}
 use Rattle.instruction.specs.declared.InstructionWord.{InstructionWord}
 
 -- Bits 0-1 sparsity selector, 2 sparse, 3 saturate, 4-5 dtype, 7-9 atype, 10-12 btype, 13 and 14 negate A and B, 15 and 16 transpose A and B,
@@ -112,25 +113,25 @@ abbrev pub bit : Bool → ℕ
 bit true = 1
 bit false = 0
 
--- the numbers of a descriptor, in the order of the layout
-abbrev pub numbers : Instruction → List ℕ
-numbers d =
-    d .selector
-    ∷ bit (d .sparse)
-    ∷ bit (d .saturate)
-    ∷ dtypeCode (d .dtype)
-    ∷ code (d .atype)
-    ∷ code (d .btype)
-    ∷ bit (d .anegate)
-    ∷ bit (d .bnegate)
-    ∷ bit (d .atranspose)
-    ∷ bit (d .btranspose)
-    ∷ d .n
-    ∷ d .m
-    ∷ d .shift
-    ∷ []
+-- the fields of a descriptor as numbers
+abbrev pub fields : Instruction → Fields
+fields d = record {
+  selector = d .selector;
+  sparse = bit (d .sparse);
+  saturate = bit (d .saturate);
+  dtype = dtypeCode (d .dtype);
+  atype = code (d .atype);
+  btype = code (d .btype);
+  anegate = bit (d .anegate);
+  bnegate = bit (d .bnegate);
+  atranspose = bit (d .atranspose);
+  btranspose = bit (d .btranspose);
+  n = d .n;
+  m = d .m;
+  shift = d .shift;
+}
 
--- the same numbers, held as numbers
+-- in the order of the layout
 abbrev pub values : Fields → List ℕ
 values f =
     f .selector
@@ -147,6 +148,9 @@ values f =
     ∷ f .m
     ∷ f .shift
     ∷ []
+
+abbrev pub numbers : Instruction → List ℕ
+numbers d = values (fields d)
 
 -- the descriptor of a list of numbers, once its types are known
 abbrev pub filled : List ℕ → Dtype → Element → Element → Instruction
@@ -192,6 +196,11 @@ rules kind ws sp d =
     ∷ (eqb (d .shift) 0 || ws)
     ∷ []
 
+-- a descriptor is named and keeps the rules
+abbrev pub keeps : Kind → Bool → Bool → Option Instruction → Bool
+keeps kind ws sp none = false
+keeps kind ws sp (some d) = all (rules kind ws sp d)
+
 -- what the code's answers stand for
 abbrev pub dtypeSeen : DtypeCoded → Option Dtype
 dtypeSeen (DtypeCoded.Is d) = some d
@@ -218,6 +227,10 @@ zero = filled [] Dtype.F16 Element.F16 Element.F16
 
 abbrev pub noDescriptor : InstructionRead
 noDescriptor = record { reason = 12; descriptor = zero }
+
+-- an answer with its descriptor as numbers
+abbrev pub fieldsRead : InstructionRead → FieldsRead
+fieldsRead a = record { reason = a .reason; fields = fields (a .descriptor) }
 
 abbrev pub noWord : InstructionWord
 noWord = record { reason = 12; word = 0 }
@@ -250,17 +263,16 @@ mListed ws m = cond ws (among m (32 ∷ 64 ∷ 128 ∷ [])) (among m (64 ∷ 128
 abbrev pub nListed : Kind → Bool → ℕ → Bool
 nListed kind ws n = cond ws (among n (64 ∷ 128 ∷ 256 ∷ [])) (cond (isI8 kind) (steps 8 32 8 n || steps 48 256 16 n) (steps 8 256 8 n))
 
--- The dtypes of a kind: f16 has f32, and f16 with two f16; both its types agree. tf32 has f32; f8f6f4 f16 or f32; i8 s32.
-abbrev pub typesListed : Kind → Dtype → Element → Element → Bool
-typesListed Kind.F16 d a b = eqb (code a) (code b) && (eqb (dtypeCode d) 1 || (eqb (dtypeCode d) 0 && eqb (code a) 0))
-typesListed Kind.Tf32 d a b = eqb (dtypeCode d) 1
-typesListed Kind.F8f6f4 d a b = eqb (dtypeCode d) 0 || eqb (dtypeCode d) 1
-typesListed Kind.I8 d a b = eqb (dtypeCode d) 2
+-- By codes, the dtypes of a kind: f16 has f32, and f16 with two f16; both its types agree. tf32 has f32; f8f6f4 f16 or f32; i8 s32.
+abbrev pub typesListed : Kind → ℕ → ℕ → ℕ → Bool
+typesListed Kind.F16 dtype atype btype = eqb atype btype && (eqb dtype 1 || (eqb dtype 0 && eqb atype 0))
+typesListed Kind.Tf32 dtype atype btype = eqb dtype 1
+typesListed Kind.F8f6f4 dtype atype btype = eqb dtype 0 || eqb dtype 1
+typesListed Kind.I8 dtype atype btype = eqb dtype 2
 
--- the listing rules in their order, each with its reason
-abbrev pub listing : Kind → Bool → Instruction → List Rule
-listing kind ws d =
-    rule 13 (mListed ws (d .m)) ∷ rule 13 (nListed kind ws (d .n)) ∷ rule 13 (typesListed kind (d .dtype) (d .atype) (d .btype)) ∷ []
+-- the listing rules in their order, each with its reason: M, then N for that M, then the types
+abbrev pub listing : Kind → Bool → Fields → List Rule
+listing kind ws f = rule 13 (mListed ws (f .m)) ∷ rule 13 (nListed kind ws (f .n)) ∷ rule 13 (typesListed kind (f .dtype) (f .atype) (f .btype)) ∷ []
 
 -- K is 16, 8, 32, 32 in the order of the kinds, doubled when sparse.
 abbrev pub denseK : Kind → ℕ
@@ -274,7 +286,7 @@ kOf kind sp = cond sp (denseK kind * 2) (denseK kind)
 
 -- the reason of a word under an opcode: 12 if it has no reading, else the first listing rule that it breaks
 abbrev pub readReason : Kind → Bool → InstructionRead → ℕ
-readReason kind ws a = cond (eqb (a .reason) 0) (firstBroken (listing kind ws (a .descriptor))) (a .reason)
+readReason kind ws a = cond (eqb (a .reason) 0) (firstBroken (listing kind ws (fields (a .descriptor)))) (a .reason)
 
 abbrev pub wordReason : Kind → Bool → Bool → ℕ → ℕ
 wordReason kind ws sp word = readReason kind ws (decoded kind ws sp word)

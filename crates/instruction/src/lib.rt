@@ -2,11 +2,11 @@
 ghost use Prim.Native.Nat.{_*_};
 ghost use mathlib.Core.Path.{_≡_};
 ghost use mathlib.Core.List.{[], _∷_};
-ghost use Rattle.laws.specs.Tests.{all};
+ghost use Rattle.laws.specs.Tests.{all, isSome};
 ghost use Rattle.laws.specs.Layout.{pack, says, stands, ranges};
 ghost use Rattle.laws.specs.Rules.{firstBroken};
 ghost use Rattle.laws.proofs.LayoutLaws.{Inside};
-ghost use Rattle.instruction.specs.Instruction.{layout, dtypeCode, code, kindNumber, kindOf, ofKind, isI8, bit, dtypeOf, dtypeSeen, elementOf, elementSeen, values, numbers, named, namedSeen, encodedNumbers, rules, noDescriptor, decoded, encoded, mListed, nListed, typesListed, listing, denseK, kOf, wordReason};
+ghost use Rattle.instruction.specs.Instruction.{layout, dtypeCode, code, kindNumber, kindOf, ofKind, isI8, bit, dtypeOf, dtypeSeen, elementOf, elementSeen, fields, values, named, namedSeen, fieldsRead, encodedNumbers, rules, keeps, noDescriptor, decoded, encoded, mListed, nListed, typesListed, listing, denseK, kOf, wordReason};
 
 pub enum Kind {
     F16,
@@ -73,6 +73,12 @@ pub struct Fields {
 pub struct InstructionRead {
     pub reason: u32,
     pub descriptor: Instruction,
+}
+
+// The same with the fields as numbers.
+pub struct FieldsRead {
+    pub reason: u32,
+    pub fields: Fields,
 }
 
 // What encoding answers: 0 and the word, or 12 and 0.
@@ -258,6 +264,40 @@ fn follows(kind: Kind, ws: bool, sp: bool, d: Instruction) -> bool
         & ((d.shift == 0) | ws)
 }
 
+// A code is a dtype's.
+fn known_dtype(c: u32) -> bool
+    ensures { λ r. ⌜ r ≡ isSome (dtypeOf c) ⌝ }
+{
+    (c == 0) | (c == 1) | (c == 2)
+}
+
+// A code is that of a type of the kind.
+fn known_element(kind: Kind, c: u32) -> bool
+    ensures { λ r. ⌜ r ≡ isSome (elementOf kind c) ⌝ }
+{
+    match kind {
+        Kind::F16 => (c == 0) | (c == 1),
+        Kind::Tf32 => c == 2,
+        Kind::F8f6f4 => (c == 0) | (c == 1) | (c == 3) | (c == 4) | (c == 5),
+        Kind::I8 => (c == 0) | (c == 1),
+    }
+}
+
+// Some numbers name a descriptor that follows the rules: the tests of `named_by` and `follows` on the numbers themselves.
+fn admits(kind: Kind, ws: bool, sp: bool, f: Fields) -> bool
+    ensures { λ r. ⌜ r ≡ keeps kind ws sp (named kind (values f)) ⌝ }
+{
+    let number = kind_number(kind);
+    known_dtype(f.dtype)
+        & known_element(kind, f.atype)
+        & known_element(kind, f.btype)
+        & ((f.sparse == 1) == sp)
+        & ((f.sparse == 1) | (f.selector == 0))
+        & (!(f.saturate == 1) | (number == 3))
+        & (!((f.anegate == 1) | (f.bnegate == 1)) | !(number == 3))
+        & ((f.shift == 0) | ws)
+}
+
 // The fields of a word.
 fn split(word: u32) -> Fields
     ensures { λ r. ⌜ values r ≡ says layout word ⌝ }
@@ -343,7 +383,7 @@ fn join(
 
 // The numbers of a descriptor.
 pub fn fields_of(d: Instruction) -> Fields
-    ensures { λ r. ⌜ values r ≡ numbers d ⌝ }
+    ensures { λ r. ⌜ r ≡ fields d ⌝ }
 {
     let dtype = d.dtype;
     let atype = d.atype;
@@ -419,6 +459,30 @@ pub fn refused_read() -> InstructionRead
     }
 }
 
+// The same as numbers.
+pub fn refused_fields() -> FieldsRead
+    ensures { λ r. ⌜ r ≡ fieldsRead noDescriptor ⌝ }
+{
+    FieldsRead {
+        reason: 12,
+        fields: Fields {
+            selector: 0,
+            sparse: 0,
+            saturate: 0,
+            dtype: 0,
+            atype: 0,
+            btype: 0,
+            anegate: 0,
+            bnegate: 0,
+            atranspose: 0,
+            btranspose: 0,
+            n: 0,
+            m: 0,
+            shift: 0,
+        },
+    }
+}
+
 // What a word says under an opcode.
 pub fn decode(kind: Kind, ws: bool, sp: bool, word: u32) -> InstructionRead
     ensures { λ r. ⌜ r ≡ decoded kind ws sp word ⌝ }
@@ -468,6 +532,21 @@ pub fn encode(kind: Kind, ws: bool, sp: bool, d: Instruction) -> InstructionWord
     }
 }
 
+// What a word says under an opcode, as numbers: the answer of `decode` without naming the types.
+pub fn decode_fields(kind: Kind, ws: bool, sp: bool, word: u32) -> FieldsRead
+    ensures { λ r. ⌜ r ≡ fieldsRead (decoded kind ws sp word) ⌝ }
+{
+    let f = split(word);
+    if fixed_stand(word) & admits(kind, ws, sp, f) {
+        FieldsRead {
+            reason: 0,
+            fields: f,
+        }
+    } else {
+        refused_fields()
+    }
+}
+
 // The word of the descriptor that some numbers name under an opcode.
 pub fn encode_fields(kind: Kind, ws: bool, sp: bool, f: Fields) -> InstructionWord
     ensures { λ r. ⌜ r ≡ encodedNumbers kind ws sp (values f) ⌝ }
@@ -479,10 +558,27 @@ pub fn encode_fields(kind: Kind, ws: bool, sp: bool, f: Fields) -> InstructionWo
     if !in_range(f) {
         return refused;
     }
-    let Named::Is(d) = named_by(kind, f) else {
+    if !admits(kind, ws, sp, f) {
         return refused;
-    };
-    encode(kind, ws, sp, d)
+    }
+    InstructionWord {
+        reason: 0,
+        word: join(
+            f.selector,
+            f.sparse,
+            f.saturate,
+            f.dtype,
+            f.atype,
+            f.btype,
+            f.anegate,
+            f.bnegate,
+            f.atranspose,
+            f.btranspose,
+            f.n,
+            f.m,
+            f.shift,
+        ),
+    }
 }
 
 // M is listed.
@@ -510,13 +606,10 @@ fn n_listed(kind: Kind, ws: bool, n: u32) -> bool
     }
 }
 
-// The dtype is listed for the kind and the two types.
-fn types_listed(kind: Kind, d: Dtype, a: Element, b: Element) -> bool
-    ensures { λ r. ⌜ r ≡ typesListed kind d a b ⌝ }
+// The dtype is listed for the kind and the two types, by their codes.
+fn types_listed(kind: Kind, dtype: u32, atype: u32, btype: u32) -> bool
+    ensures { λ r. ⌜ r ≡ typesListed kind dtype atype btype ⌝ }
 {
-    let dtype = dtype_code(d);
-    let atype = element_code(a);
-    let btype = element_code(b);
     match kind {
         Kind::F16 => (atype == btype) & ((dtype == 1) | ((dtype == 0) & (atype == 0))),
         Kind::Tf32 => dtype == 1,
@@ -525,24 +618,28 @@ fn types_listed(kind: Kind, d: Dtype, a: Element, b: Element) -> bool
     }
 }
 
-// The reason of the first listing rule that a descriptor breaks, or 0.
-pub fn listed(kind: Kind, ws: bool, d: Instruction) -> u32
-    ensures { λ r. ⌜ r ≡ firstBroken (listing kind ws d) ⌝ }
+// The reason of the first listing rule that a shape and types break, or 0.
+pub fn listed_fields(kind: Kind, ws: bool, f: Fields) -> u32
+    ensures { λ r. ⌜ r ≡ firstBroken (listing kind ws f) ⌝ }
 {
-    if !m_listed(ws, d.m) {
+    if !m_listed(ws, f.m) {
         return 13;
     }
-    if !n_listed(kind, ws, d.n) {
+    if !n_listed(kind, ws, f.n) {
         return 13;
     }
-    let dtype = d.dtype;
-    let atype = d.atype;
-    let btype = d.btype;
-    if types_listed(kind, dtype, atype, btype) {
+    if types_listed(kind, f.dtype, f.atype, f.btype) {
         0
     } else {
         13
     }
+}
+
+// The same of a descriptor.
+pub fn listed(kind: Kind, ws: bool, d: Instruction) -> u32
+    ensures { λ r. ⌜ r ≡ firstBroken (listing kind ws (fields d)) ⌝ }
+{
+    listed_fields(kind, ws, fields_of(d))
 }
 
 // K of a dense opcode.
@@ -580,10 +677,10 @@ pub fn k(kind: Kind, sp: bool) -> u32
 pub fn judge(kind: Kind, ws: bool, sp: bool, word: u32) -> u32
     ensures { λ r. ⌜ r ≡ wordReason kind ws sp word ⌝ }
 {
-    let a = decode(kind, ws, sp, word);
-    let d = a.descriptor;
+    let a = decode_fields(kind, ws, sp, word);
+    let f = a.fields;
     if a.reason == 0 {
-        return listed(kind, ws, d);
+        return listed_fields(kind, ws, f);
     }
     a.reason
 }

@@ -1,10 +1,10 @@
 -- What a joined test says of its parts. Assumes nothing.
 use Prim.Native.Nat.{ℕ}
 use mathlib.Core.Path.{_≡_, refl, sym, subst}
-use mathlib.Core.Bool.{Bool, true, false, _&&_, cond, true≢false}
+use mathlib.Core.Bool.{Bool, true, false, _&&_, _||_, cond, true≢false}
 use mathlib.Core.List.{List, [], _∷_}
 use mathlib.Core.Option.{Option, none, some, Option·some-injective, Option·none-ne-some}
-use Rattle.laws.specs.Tests.{all, allFrom, find}
+use Rattle.laws.specs.Tests.{all, allFrom, find, isSome}
 
 pub never : {A : Type 0} → false ≡ true → A
 never e = absurd (true≢false (sym e))
@@ -63,3 +63,36 @@ first-passes test y x o false p k e = k e
 pub find-passes : {A : Type 0} (test : A → Bool) (xs : List A) (x : A) → find test xs ≡ some x → test x ≡ true
 find-passes test [] x e = absurd (Option·none-ne-some x e)
 find-passes test (y ∷ ys) x e = first-passes test y x (find test ys) (test y) refl (find-passes test ys x) e
+
+-- a failed test fails all
+pub never-all : (bs : List Bool) → allFrom false bs ≡ false
+never-all [] = refl
+never-all (b ∷ bs) = never-all bs
+
+-- some element passes a test, joined from the left
+abbrev pub anyFrom : {A : Type 0} → Bool → (A → Bool) → List A → Bool
+anyFrom t test [] = t
+anyFrom t test (x ∷ xs) = anyFrom (t || test x) test xs
+
+abbrev pub any : {A : Type 0} → (A → Bool) → List A → Bool
+any test [] = false
+any test (x ∷ xs) = anyFrom (test x) test xs
+
+any-true : {A : Type 0} (test : A → Bool) (xs : List A) → anyFrom true test xs ≡ true
+any-true test [] = refl
+any-true test (x ∷ xs) = any-true test xs
+
+-- a search finds something where some element passes
+first-some : {A : Type 0} (test : A → Bool) (xs : List A) (y : A) (b : Bool) → isSome (cond b (some y) (find test xs)) ≡ anyFrom b test xs
+first-some test [] y true = refl
+first-some test [] y false = refl
+first-some test (x ∷ xs) y true = sym (any-true test xs)
+first-some test (x ∷ xs) y false = first-some test xs x (test x)
+
+pub find-any : {A : Type 0} (test : A → Bool) (xs : List A) → isSome (find test xs) ≡ any test xs
+find-any test [] = refl
+find-any test (x ∷ xs) = first-some test xs x (test x)
+
+pub or-false : (b : Bool) → (b || false) ≡ b
+or-false true = refl
+or-false false = refl

@@ -27,3 +27,8 @@ among x (y ∷ ys) = amongFrom (eqb x y) x ys
 abbrev pub find : {A : Type 0} → (A → Bool) → List A → Option A
 find test [] = none
 find test (x ∷ xs) = cond (test x) (some x) (find test xs)
+
+-- something was found
+abbrev pub isSome : {A : Type 0} → Option A → Bool
+isSome none = false
+isSome (some x) = true

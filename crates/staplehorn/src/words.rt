@@ -1,6 +1,6 @@
 // The descriptor words and requests, on plain numbers.
 use instruction::Fields;
-use instruction::InstructionRead;
+use instruction::FieldsRead;
 use instruction::InstructionWord;
 use instruction::Kind;
 use shared_memory::Shared;
@@ -72,14 +72,14 @@ fn opcode_of(kind: u32, ws: u32, sp: u32) -> OpcodeRead
 }
 
 // What a word says: the descriptor's numbers with 0, or zeros with 12.
-fn decode_word(kind: u32, ws: u32, sp: u32, word: u32) -> InstructionRead
-    ensures { λ r. ⌜ r ≡ decodedFor (opcodeOf kind ws sp) word ⌝ }
+fn decode_word(kind: u32, ws: u32, sp: u32, word: u32) -> FieldsRead
+    ensures { λ r. ⌜ r ≡ I.fieldsRead (decodedFor (opcodeOf kind ws sp) word) ⌝ }
 {
     let OpcodeRead::Is(o) = opcode_of(kind, ws, sp) else {
-        return instruction::refused_read();
+        return instruction::refused_fields();
     };
     let k = o.kind;
-    instruction::decode(k, o.ws, o.sp, word)
+    instruction::decode_fields(k, o.ws, o.sp, word)
 }
 
 // The word of some numbers.
@@ -151,8 +151,8 @@ pub extern "C" fn staplehorn_instruction_decode(
     ensures fields { λ _. ⌜ now (fields .exit) ≡ I.numbers (decodedFor (opcodeOf kind ws sp) word .descriptor) ⌝ }
 {
     let r = decode_word(kind, ws, sp, word);
-    let d = r.descriptor;
-    *fields = array_of(instruction::fields_of(d));
+    let f = r.fields;
+    *fields = array_of(f);
     r.reason
 }
 

@@ -1,21 +1,17 @@
 //! One measured run: `bench FUNCTION SIDE`, the side `proved` or `reference`. Under callgrind only `measured` counts
-//! (bench/words). Prints how many calls it made and a sum over the answers, which must be the same for both sides.
+//! (bench/words). Both sides are called through the same C signatures. Prints how many calls it made and a sum over
+//! the answers, which must be the same for both sides.
 
-use staplehorn_difftest::proved::{self, Opcode};
+use staplehorn_difftest::proved::c;
 use staplehorn_difftest::random::Random;
 use staplehorn_reference::descriptor::{self as reference, Instruction, Kind, Shared};
-use std::hint::black_box;
 
 const CALLS: usize = 20_000;
 
 /// Half of the words read, as in the comparison; the others are random.
-fn words(kind: Kind) -> Vec<u32> {
+fn words() -> Vec<u32> {
     let mut r = Random::new(7);
-    let types: &[u32] = match kind {
-        Kind::F16 | Kind::I8 => &[0, 1],
-        Kind::Tf32 => &[2],
-        Kind::F8f6f4 => &[0, 1, 3, 4, 5],
-    };
+    let types = &[0, 1]; // of kind f16
     (0..CALLS)
         .map(|i| {
             let w = (r.below(3) as u32) << 4 | r.pick(types) << 7 | r.pick(types) << 10 | (r.below(64) as u32) << 17 | (r.below(32) as u32) << 24;
@@ -60,77 +56,126 @@ fn shared_fields() -> Vec<[u64; 6]> {
         .collect()
 }
 
+/// The reference behind the signatures of include/staplehorn.h.
+mod behind {
+    use super::*;
+
+    fn opcode(kind: u32, ws: u32, sp: u32) -> Option<(Kind, bool, bool)> {
+        (ws <= 1 && sp <= 1).then_some(())?;
+        Some((Kind::from_number(kind)?, ws == 1, sp == 1))
+    }
+
+    #[inline(never)]
+    pub unsafe extern "C" fn instruction_decode(kind: u32, ws: u32, sp: u32, word: u32, fields: *mut [u32; 13]) -> u32 {
+        let read = opcode(kind, ws, sp).map_or(Err(12), |(kind, ws, sp)| reference::decode_instruction(kind, ws, sp, word));
+        let (reason, d) = read.map_or_else(|reason| (reason, Instruction::default()), |d| (0, d));
+        *fields = d.to_array();
+        reason
+    }
+
+    #[inline(never)]
+    pub unsafe extern "C" fn instruction_encode(kind: u32, ws: u32, sp: u32, fields: *const [u32; 13], word: *mut u32) -> u32 {
+        let d = Instruction::from_array(*fields);
+        let coded = opcode(kind, ws, sp).map_or(Err(12), |(kind, ws, sp)| reference::encode_instruction(kind, ws, sp, &d));
+        let (reason, w) = coded.map_or_else(|reason| (reason, 0), |w| (0, w));
+        *word = w;
+        reason
+    }
+
+    #[inline(never)]
+    pub unsafe extern "C" fn instruction_judge(kind: u32, ws: u32, sp: u32, word: u32) -> u32 {
+        opcode(kind, ws, sp).map_or(12, |(kind, ws, sp)| reference::judge_word(kind, ws, sp, word))
+    }
+
+    #[inline(never)]
+    pub unsafe extern "C" fn shared_decode(word: u64, fields: *mut [u64; 6]) -> u32 {
+        let (reason, d) = reference::decode_shared(word).map_or_else(|reason| (reason, Shared::default()), |d| (0, d));
+        *fields = d.to_array();
+        reason
+    }
+
+    #[inline(never)]
+    pub unsafe extern "C" fn shared_encode(fields: *const [u64; 6], word: *mut u64) -> u32 {
+        let (reason, w) = reference::encode_shared(&Shared::from_array(*fields)).map_or_else(|reason| (reason, 0), |w| (0, w));
+        *word = w;
+        reason
+    }
+}
+
 #[no_mangle]
 #[inline(never)]
 fn measured(work: &mut dyn FnMut() -> u64) -> u64 {
     work()
 }
 
-fn mixed<const N: usize>(reason: u32, fields: [u32; N]) -> u64 {
-    fields.iter().fold(u64::from(reason), |s, &x| s.wrapping_mul(31).wrapping_add(u64::from(x)))
+/// A sum over a reason and the ends of what was written: enough to see a difference, and cheap.
+fn mixed(sum: u64, reason: u32, first: u64, last: u64) -> u64 {
+    sum.wrapping_mul(31) ^ u64::from(reason) ^ first << 8 ^ last
 }
 
 fn main() {
     let args: Vec<String> = std::env::args().collect();
     let (function, side) = (args.get(1).map_or("", String::as_str), args.get(2).map_or("", String::as_str));
-    let kind = Kind::F16;
-    let o = Opcode { kind: 0, ws: 0, sp: 0 };
-    let (words, shared, fields, six) = (words(kind), shared_words(), instruction_fields(), shared_fields());
-    let mut sum = 0u64;
-    let mut work: Box<dyn FnMut() -> u64> = match (function, side) {
-        ("instruction_decode", "proved") => Box::new(move || words.iter().fold(0, |s, &w| {
-            let (reason, f) = proved::instruction_decode(o, black_box(w));
-            s ^ mixed(reason, f)
-        })),
-        ("instruction_decode", "reference") => Box::new(move || words.iter().fold(0, |s, &w| {
-            let (reason, f) = match reference::decode_instruction(kind, black_box(false), false, black_box(w)) {
-                Ok(d) => (0, d.to_array()),
-                Err(reason) => (reason, [0; 13]),
-            };
-            s ^ mixed(reason, f)
-        })),
-        ("instruction_encode", "proved") => Box::new(move || fields.iter().fold(0, |s, f| {
-            let (reason, w) = proved::instruction_encode(o, black_box(f));
-            s ^ mixed(reason, [w])
-        })),
-        ("instruction_encode", "reference") => Box::new(move || fields.iter().fold(0, |s, f| {
-            let (reason, w) = match reference::encode_instruction(kind, black_box(false), false, &Instruction::from_array(*black_box(f))) {
-                Ok(w) => (0, w),
-                Err(reason) => (reason, 0),
-            };
-            s ^ mixed(reason, [w])
-        })),
-        ("instruction_judge", "proved") => Box::new(move || words.iter().fold(0, |s, &w| s.wrapping_mul(31) ^ u64::from(proved::instruction_judge(o, black_box(w))))),
-        ("instruction_judge", "reference") => {
-            Box::new(move || words.iter().fold(0, |s, &w| s.wrapping_mul(31) ^ u64::from(reference::judge_word(kind, black_box(false), false, black_box(w)))))
-        }
-        ("shared_decode", "proved") => Box::new(move || shared.iter().fold(0, |s, &w| {
-            let (reason, f) = proved::shared_decode(black_box(w));
-            s ^ mixed(reason, f.map(|x| x as u32))
-        })),
-        ("shared_decode", "reference") => Box::new(move || shared.iter().fold(0, |s, &w| {
-            let (reason, f) = match reference::decode_shared(black_box(w)) {
-                Ok(d) => (0, d.to_array()),
-                Err(reason) => (reason, [0; 6]),
-            };
-            s ^ mixed(reason, f.map(|x| x as u32))
-        })),
-        ("shared_encode", "proved") => Box::new(move || six.iter().fold(0, |s, f| {
-            let (reason, w) = proved::shared_encode(black_box(f));
-            s ^ mixed(reason, [w as u32, (w >> 32) as u32])
-        })),
-        ("shared_encode", "reference") => Box::new(move || six.iter().fold(0, |s, f| {
-            let (reason, w) = match reference::encode_shared(&Shared::from_array(*black_box(f))) {
-                Ok(w) => (0, w),
-                Err(reason) => (reason, 0),
-            };
-            s ^ mixed(reason, [w as u32, (w >> 32) as u32])
-        })),
-        _ => {
-            eprintln!("usage: bench instruction_decode|instruction_encode|instruction_judge|shared_decode|shared_encode proved|reference");
-            std::process::exit(2);
-        }
+    let proved = match side {
+        "proved" => true,
+        "reference" => false,
+        _ => usage(),
     };
-    sum ^= measured(&mut *work);
-    println!("{CALLS} {sum}");
+    let (words, shared, fields, six) = (words(), shared_words(), instruction_fields(), shared_fields());
+    let mut work: Box<dyn FnMut() -> u64> = match function {
+        "instruction_decode" => {
+            let f = if proved { c::staplehorn_instruction_decode } else { behind::instruction_decode };
+            Box::new(move || words.iter().fold(0, |s, &w| {
+                let mut out = [0; 13];
+                let reason = unsafe { f(0, 0, 0, w, &mut out) };
+                mixed(s, reason, out[10].into(), out[12].into())
+            }))
+        }
+        "instruction_encode" => {
+            let f = if proved { c::staplehorn_instruction_encode } else { behind::instruction_encode };
+            Box::new(move || fields.iter().fold(0, |s, x| {
+                let mut word = 0;
+                let reason = unsafe { f(0, 0, 0, x, &mut word) };
+                mixed(s, reason, word.into(), 0)
+            }))
+        }
+        "instruction_judge" => {
+            let f = if proved { c::staplehorn_instruction_judge } else { behind::instruction_judge };
+            Box::new(move || words.iter().fold(0, |s, &w| mixed(s, unsafe { f(0, 0, 0, w) }, 0, 0)))
+        }
+        "shared_decode" => {
+            let f = if proved { c::staplehorn_shared_decode } else { behind::shared_decode };
+            Box::new(move || shared.iter().fold(0, |s, &w| {
+                let mut out = [0; 6];
+                let reason = unsafe { f(w, &mut out) };
+                mixed(s, reason, out[0], out[5])
+            }))
+        }
+        "shared_encode" => {
+            let f = if proved { c::staplehorn_shared_encode } else { behind::shared_encode };
+            Box::new(move || six.iter().fold(0, |s, x| {
+                let mut word = 0;
+                let reason = unsafe { f(x, &mut word) };
+                mixed(s, reason, word, 0)
+            }))
+        }
+        _ => usage(),
+    };
+    let sum = measured(&mut *work);
+    // a third argument asks for the time of a call as well, the best of that many turns
+    let turns = args.get(3).map_or(0, |n| n.parse().unwrap_or(0));
+    let best = (0..turns).map(|_| time(&mut *work)).fold(f64::INFINITY, f64::min);
+    println!("{CALLS} {sum} {best:.1}");
+}
+
+/// Nanoseconds for each call.
+fn time(work: &mut dyn FnMut() -> u64) -> f64 {
+    let began = std::time::Instant::now();
+    std::hint::black_box(work());
+    began.elapsed().as_nanos() as f64 / CALLS as f64
+}
+
+fn usage() -> ! {
+    eprintln!("usage: bench instruction_decode|instruction_encode|instruction_judge|shared_decode|shared_encode proved|reference");
+    std::process::exit(2);
 }

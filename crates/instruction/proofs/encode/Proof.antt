@@ -25,7 +25,7 @@ writing : (c : tie.After-follows) → let s : tie.Start = c .before .before .bef
     encoded (s .args .kind) (s .args .ws) (s .args .sp) (s .args .d)
     ≡ cond (c .before .in-range .result && c .follows .result) (made (pack layout (values (c .before .before .fields-of .result)))) noWord
 writing c =
-    encoded-both _ _ _ (values (c .before .before .fields-of .result)) _ (c .before .before .fields-of .ensures)
+    encoded-both _ _ _ (values (c .before .before .fields-of .result)) _ (ap values (c .before .before .fields-of .ensures))
     ∙ ap (λ (b : Bool). cond b (made (pack layout (values (c .before .before .fields-of .result)))) noWord)
     (ap₂ _&&_ (sym (c .before .in-range .ensures)) (sym (c .follows .ensures)))
 

@@ -1,21 +1,23 @@
--- `instruction::judge` meets its contract: the reading decides, and then the listing. Assumes nothing.
-use mathlib.Core.Path.{_≡_, sym, _∙_, ap}
+use mathlib.Core.Path.{_≡_, refl, sym, _∙_, ap, ap₂}
+use mathlib.Core.Bool.{cond}
+use lib.Dec.{eqb}
 use borrow.Author.Tests.{eq-eqb, ne-eqb}
+use Rattle.instruction.proofs.NumberLaws.{judged, judging}
 use borrow.Author.Needs.{needs}
 use Rattle.instruction.proofs.judge.Statement.{statement}
 use Rattle.instruction.proofs.judge.Tie as tie
 
-decode-requires : tie.Need-decode-requires
-decode-requires c κs = search needs
+decode-fields-requires : tie.Need-decode-fields-requires
+decode-fields-requires c κs = search needs
 
-listed-requires : tie.Need-listed-requires
-listed-requires c κs = search needs
+listed-fields-requires : tie.Need-listed-fields-requires
+listed-fields-requires c κs = search needs
 
 returns : tie.Need-returns
-returns c = rw (← c .before .before .before .before .decode .ensures, eq-eqb _ _ (c .before .if1 .taken)) (c .listed .ensures)
+returns c = c .listed-fields .ensures ∙ judging _ _ _ _ _ (c .before .before .before .before .decode-fields .ensures) (eq-eqb _ _ (c .before .if1 .taken))
 
 returns-2 : tie.Need-returns-2
-returns-2 c = rw (← c .before .before .before .decode .ensures, ne-eqb _ _ (c .if1 .left))
+returns-2 c = judged _ _ _ _ _ (c .before .before .before .decode-fields .ensures) (ne-eqb _ _ (c .if1 .left))
 
 pub judge-spec : {M : Type 1} → statement M
-judge-spec = tie.close (tie.spec decode-requires listed-requires returns returns-2)
+judge-spec = tie.close (tie.spec decode-fields-requires listed-fields-requires returns returns-2)

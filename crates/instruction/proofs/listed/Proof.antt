@@ -1,39 +1,19 @@
--- `instruction::listed` meets its contract: the first rule that is broken decides. Assumes nothing.
-use mathlib.Core.Path.{sym, _∙_}
-use borrow.Author.Tests.{not-true, not-false}
+use mathlib.Core.Path.{_≡_, refl, sym, _∙_, ap, ap₂}
+use Rattle.laws.specs.Rules.{firstBroken}
+use Rattle.instruction.specs.Instruction.{listing}
+use Rattle.instruction.specs.declared.Fields.{Fields}
 use borrow.Author.Needs.{needs}
 use Rattle.instruction.proofs.listed.Statement.{statement}
 use Rattle.instruction.proofs.listed.Tie as tie
 
-m-listed-requires : tie.Need-m-listed-requires
-m-listed-requires c κs = search needs
+fields-of-requires : tie.Need-fields-of-requires
+fields-of-requires c κs = search needs
+
+listed-fields-requires : tie.Need-listed-fields-requires
+listed-fields-requires c κs = search needs
 
 returns : tie.Need-returns
-returns c = rw (sym (c .before .m-listed .ensures) ∙ not-true _ (c .if1 .taken))
-
-n-listed-requires : tie.Need-n-listed-requires
-n-listed-requires c κs = search needs
-
-returns-2 : tie.Need-returns-2
-returns-2 c = rw (sym (c .before .before .before .m-listed .ensures) ∙ not-false _ (c .before .before .if1 .left), sym (c .before .n-listed .ensures) ∙ not-true _ (c .if2 .taken))
-
-types-listed-requires : tie.Need-types-listed-requires
-types-listed-requires c κs = search needs
-
-returns-3 : tie.Need-returns-3
-returns-3 c = rw (sym (c .before .before .before .before .before .m-listed .ensures) ∙ not-false _ (c .before .before .before .before .if1 .left), sym (c .before .before .before .n-listed .ensures) ∙ not-false _ (c .before .before .if2 .left), sym (c .before .types-listed .ensures) ∙ c .if3 .taken)
-
-returns-4 : tie.Need-returns-4
-returns-4 c = rw (sym (c .before .before .before .before .before .m-listed .ensures) ∙ not-false _ (c .before .before .before .before .if1 .left), sym (c .before .before .before .n-listed .ensures) ∙ not-false _ (c .before .before .if2 .left), sym (c .before .types-listed .ensures) ∙ c .if3 .left)
+returns c = c .listed-fields .ensures ∙ ap (λ (f : Fields). firstBroken (listing (c .before .before .args .kind) (c .before .before .args .ws) f)) (c .before .fields-of .ensures)
 
 pub listed-spec : {M : Type 1} → statement M
-listed-spec =
-    tie.close
-    (tie.spec
-    m-listed-requires
-    returns
-    n-listed-requires
-    returns-2
-    types-listed-requires
-    returns-3
-    returns-4)
+listed-spec = tie.close (tie.spec fields-of-requires listed-fields-requires returns)

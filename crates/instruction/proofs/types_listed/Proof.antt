@@ -1,16 +1,6 @@
--- `instruction::types_listed` meets its contract: the code makes the kind's own test. Assumes nothing.
 use borrow.Author.Needs.{needs}
 use Rattle.instruction.proofs.types_listed.Statement.{statement}
 use Rattle.instruction.proofs.types_listed.Tie as tie
-
-dtype-code-requires : tie.Need-dtype-code-requires
-dtype-code-requires c κs = search needs
-
-element-code-requires : tie.Need-element-code-requires
-element-code-requires c κs = search needs
-
-element-code-requires-2 : tie.Need-element-code-requires-2
-element-code-requires-2 c κs = search needs
 
 enum-told : tie.Need-enum-told
 enum-told c = search needs
@@ -25,29 +15,18 @@ enum-told-4 : tie.Need-enum-told-4
 enum-told-4 c = search needs
 
 returns : tie.Need-returns
-returns c = rw (c .enum-told .given .1, c .before .before .element-code2 .ensures, c .before .before .before .element-code .ensures, c .before .before .before .before .dtype-code .ensures)
+returns c = rw (c .enum-told .given .1)
 
 returns-2 : tie.Need-returns-2
-returns-2 c = rw (c .enum-told2 .given .1, c .before .before .before .before .dtype-code .ensures)
+returns-2 c = rw (c .enum-told2 .given .1)
 
 returns-3 : tie.Need-returns-3
-returns-3 c = rw (c .enum-told3 .given .1, c .before .before .before .before .dtype-code .ensures)
+returns-3 c = rw (c .enum-told3 .given .1)
 
 returns-4 : tie.Need-returns-4
-returns-4 c = rw (c .enum-told4 .given .1, c .before .before .before .before .dtype-code .ensures)
+returns-4 c = rw (c .enum-told4 .given .1)
 
 pub types-listed-spec : {M : Type 1} → statement M
 types-listed-spec =
     tie.close
-    (tie.spec
-    dtype-code-requires
-    element-code-requires
-    element-code-requires-2
-    enum-told
-    enum-told-2
-    enum-told-3
-    enum-told-4
-    returns
-    returns-2
-    returns-3
-    returns-4)
+    (tie.spec enum-told enum-told-2 enum-told-3 enum-told-4 returns returns-2 returns-3 returns-4)

@@ -2,6 +2,7 @@
 use mathlib.Core.Path.{_≡_, refl, sym, _∙_, ap}
 use mathlib.Core.Option.{Option}
 use Rattle.staplehorn.specs.declared.words.Opcode.{Opcode}
+use Rattle.instruction.specs.Instruction.{fieldsRead}
 use Rattle.staplehorn.specs.Words.{decodedFor, opcodeSeen}
 use borrow.Author.Needs.{needs}
 use Rattle.staplehorn.proofs.words.decode_word.Statement.{statement}
@@ -16,17 +17,17 @@ enum-known-o c = search needs
 enum-told : tie.Need-enum-told
 enum-told c = search needs
 
-refused-read-requires : tie.Need-refused-read-requires
-refused-read-requires c κs = search needs
+refused-fields-requires : tie.Need-refused-fields-requires
+refused-fields-requires c κs = search needs
 
 returns : tie.Need-returns
-returns c = c .refused-read .ensures ∙ sym (ap (λ (o : Option Opcode). decodedFor o (c .before .before .before .before .args .word)) (sym (c .before .before .before .opcode-of .ensures) ∙ ap opcodeSeen (c .before .enum-told .given .1)))
+returns c = c .refused-fields .ensures ∙ sym (ap (λ (o : Option Opcode). fieldsRead (decodedFor o (c .before .before .before .before .args .word))) (sym (c .before .before .before .opcode-of .ensures) ∙ ap opcodeSeen (c .before .enum-told .given .1)))
 
-decode-requires : tie.Need-decode-requires
-decode-requires c κs = search needs
+decode-fields-requires : tie.Need-decode-fields-requires
+decode-fields-requires c κs = search needs
 
 returns-2 : tie.Need-returns-2
-returns-2 c = c .decode .ensures ∙ sym (ap (λ (o : Option Opcode). decodedFor o (c .before .before .before .before .before .args .word)) (sym (c .before .before .before .before .opcode-of .ensures) ∙ ap opcodeSeen (c .before .before .o .given .1)))
+returns-2 c = c .decode-fields .ensures ∙ sym (ap (λ (o : Option Opcode). fieldsRead (decodedFor o (c .before .before .before .before .before .args .word))) (sym (c .before .before .before .before .opcode-of .ensures) ∙ ap opcodeSeen (c .before .before .o .given .1)))
 
 pub decode-word-spec : {M : Type 1} → statement M
 decode-word-spec =
@@ -35,7 +36,7 @@ decode-word-spec =
     opcode-of-requires
     enum-known-o
     enum-told
-    refused-read-requires
+    refused-fields-requires
     returns
-    decode-requires
+    decode-fields-requires
     returns-2)

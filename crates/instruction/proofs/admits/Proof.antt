@@ -1,0 +1,30 @@
+use Rattle.instruction.specs.Instruction.{values}
+use Rattle.instruction.proofs.NumberLaws.{admitted}
+use borrow.Author.Needs.{needs}
+use Rattle.instruction.proofs.admits.Statement.{statement}
+use Rattle.instruction.proofs.admits.Tie as tie
+
+kind-number-requires : tie.Need-kind-number-requires
+kind-number-requires c κs = search needs
+
+known-dtype-requires : tie.Need-known-dtype-requires
+known-dtype-requires c κs = search needs
+
+known-element-requires : tie.Need-known-element-requires
+known-element-requires c κs = search needs
+
+known-element-requires-2 : tie.Need-known-element-requires-2
+known-element-requires-2 c κs = search needs
+
+returns : tie.Need-returns
+returns c = rw (c .before .before .before .before .before .before .before .before .before .known-dtype .ensures, c .before .before .before .before .before .before .before .before .known-element .ensures, c .before .before .before .before .before .before .before .known-element2 .ensures, c .before .before .before .before .before .before .before .before .before .before .kind-number .ensures) (admitted (c .before .before .before .before .before .before .before .before .before .before .before .args .kind) (c .before .before .before .before .before .before .before .before .before .before .before .args .ws) (c .before .before .before .before .before .before .before .before .before .before .before .args .sp) (values (c .before .before .before .before .before .before .before .before .before .before .before .args .f)))
+
+pub admits-spec : {M : Type 1} → statement M
+admits-spec =
+    tie.close
+    (tie.spec
+    kind-number-requires
+    known-dtype-requires
+    known-element-requires
+    known-element-requires-2
+    returns)
