@@ -33,6 +33,11 @@ impl Counts {
         }
     }
 
+    /// Counts an outcome that is no comparison by itself.
+    pub fn seen(&mut self, function: &'static str, outcome: u32) {
+        *self.outcomes.entry((function, outcome)).or_insert(0) += 1;
+    }
+
     /// Prints the table and says whether all agreed and each wanted outcome was seen often enough.
     pub fn finish(&self, title: &str, wanted: &[(&'static str, u32, u64)]) -> bool {
         for ((function, outcome), n) in &self.outcomes {

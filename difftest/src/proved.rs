@@ -11,6 +11,14 @@ pub mod c {
         pub fn staplehorn_shared_decode(word: u64, fields: *mut [u64; 6]) -> u32;
         pub fn staplehorn_shared_encode(fields: *const [u64; 6], word: *mut u64) -> u32;
         pub fn staplehorn_request(columns: u32) -> u32;
+        pub fn staplehorn_statement_reason(text: *const u8, text_length: usize) -> u32;
+        pub fn staplehorn_statement_canonical(
+            text: *const u8,
+            text_length: usize,
+            room: *mut u8,
+            room_length: usize,
+            length: *mut usize,
+        ) -> u32;
     }
 }
 
@@ -66,4 +74,15 @@ pub fn shared_encode(fields: &[u64; 6]) -> (u32, u64) {
 
 pub fn request(columns: u32) -> u32 {
     unsafe { c::staplehorn_request(columns) }
+}
+
+pub fn statement_reason(text: &[u8]) -> u32 {
+    unsafe { c::staplehorn_statement_reason(text.as_ptr(), text.len()) }
+}
+
+/// The reason, and the length of the canonical text in the room.
+pub fn statement_canonical(text: &[u8], room: &mut [u8]) -> (u32, usize) {
+    let mut length = usize::MAX;
+    let reason = unsafe { c::staplehorn_statement_canonical(text.as_ptr(), text.len(), room.as_mut_ptr(), room.len(), &mut length) };
+    (reason, length)
 }

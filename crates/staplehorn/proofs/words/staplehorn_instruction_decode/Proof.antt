@@ -5,14 +5,11 @@ use borrow.Author.Needs.{needs}
 use Rattle.staplehorn.proofs.words.staplehorn_instruction_decode.Statement.{statement}
 use Rattle.staplehorn.proofs.words.staplehorn_instruction_decode.Tie as tie
 
-
 decode-word-requires : tie.Need-decode-word-requires
 decode-word-requires c κs = search needs
 
-
 array-of-requires : tie.Need-array-of-requires
 array-of-requires c κs = search needs
-
 
 returns : tie.Need-returns
 returns c = (ap (λ (a : FieldsRead). a .reason) (c .before .before .decode-word .ensures), c .array-of .ensures ∙ ap (λ (a : FieldsRead). values (a .fields)) (c .before .before .decode-word .ensures))

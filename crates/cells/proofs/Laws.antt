@@ -1,0 +1,36 @@
+-- What the table holds is small, so that its products fit a word. Assumes nothing.
+use Prim.Native.Nat.{ℕ, _*_, _≤_, _<_, _^_}
+use native.Mathlib.Nat.{mul-le-mul}
+use native.Mathlib.Omega.{arith}
+use mathlib.Core.Path.{_≡_}
+use Rattle.statement.specs.declared.Shape.{Shape}
+use Rattle.statement.specs.declared.Shape.the-variants.{S32x32, S16x64, S16x128, S16x256}
+use Rattle.statement.specs.declared.Num.{Num}
+use Rattle.statement.specs.declared.Num.the-variants.{X1, X2, X4, X8, X16, X32, X64, X128}
+use Rattle.statement.specs.Cells.{times, cells}
+
+times-le : (num : Num) → times num ≤ 128
+times-le X1 = omega arith
+times-le X2 = omega arith
+times-le X4 = omega arith
+times-le X8 = omega arith
+times-le X16 = omega arith
+times-le X32 = omega arith
+times-le X64 = omega arith
+times-le X128 = omega arith
+
+pub registers-le : (shape : Shape) → cells shape .registers ≤ 8
+registers-le S32x32 = omega arith
+registers-le S16x64 = omega arith
+registers-le S16x128 = omega arith
+registers-le S16x256 = omega arith
+
+pub columns-le : (shape : Shape) → cells shape .columns ≤ 8
+columns-le S32x32 = omega arith
+columns-le S16x64 = omega arith
+columns-le S16x128 = omega arith
+columns-le S16x256 = omega arith
+
+-- up to eight for each N
+pub product : (x a n : ℕ) (num : Num) → x ≤ 8 → a ≡ x → n ≡ times num → a * n < 2 ^ 64
+product x a n num h p q = rw (p, q) (omega (arith, mul-le-mul h (times-le num)))

@@ -1,0 +1,385 @@
+-- Marks, names and numbers are read exactly where a text spells them: past the spaces there is one token, and its bytes say what it is. Assumes nothing.
+use Prim.Native.Nat.{ℕ, zero, suc, _-_, _<_, _≤_}
+use native.Mathlib.Omega.{arith}
+use mathlib.Core.Path.{_≡_, refl, sym, ap, _∙_}
+use mathlib.Core.List.{List, [], _∷_, _++_}
+use mathlib.Core.Bool.{Bool, true, false, _&&_, _||_, not, true≢false, or-true}
+use lib.ListN.{length, take, drop, take-append-drop}
+use lib.Seq.{take-append-seam, drop-append-seam}
+use lib.Dec.{eqb, leb, ltb}
+use borrow.Author.Tests.{eq-eqb, le-leb, eqb-true, eqb-false, leb-true, ltb-true}
+use Rattle.tokens.specs.declared.Name.{Name}
+use Rattle.tokens.specs.Bytes.{pick, between, letter, wordByte, blank, runLen, all, afterBlanks, tokenLen, tokenOf, afterToken}
+use Rattle.tokens.specs.Names.{sigil, isName, packed, noName}
+use Rattle.tokens.specs.Numbers.{digitOf, isDigit, hexMark, someDigits, zeroLed, isNumber, valueOf}
+use Rattle.tokens.specs.Cursors.{Rest, on, off, large, Took, markHere, markC, endC, nameHere, nameC, numberIs, numberHere, numberC}
+use Rattle.statement.specs.Spells.{spaces, Mark, Word, NameText, NumberText}
+
+-- ---- tests
+pub both : (a b : Bool) → (a && b) ≡ true → (a ≡ true) × (b ≡ true)
+both true b h = (refl, h)
+both false b h = absurd (true≢false (sym h))
+
+pub never : {A : Type 0} → false ≡ true → A
+never h = absurd (true≢false (sym h))
+
+-- ---- spaces
+pub blanks-parts : (l : List ℕ) → l ≡ spaces (runLen blank l) ++ afterBlanks l
+unfolding afterBlanks blank
+blanks-parts [] = refl
+blanks-parts (x ∷ l) = go (eqb x 32) refl (blanks-parts l)
+  where
+    go : (b : Bool) → eqb x 32 ≡ b → l ≡ spaces (runLen blank l) ++ drop (runLen blank l) l
+        → x ∷ l ≡ spaces (pick b (suc (runLen blank l)) 0) ++ drop (pick b (suc (runLen blank l)) 0) (x ∷ l)
+    go true e i = rw (eqb-true x 32 e) (ap (λ (w : List ℕ). 32 ∷ w) i)
+    go false e i = refl
+
+pub blanks-skip : (n x : ℕ) (r : List ℕ) → blank x ≡ false → afterBlanks (spaces n ++ (x ∷ r)) ≡ x ∷ r
+unfolding afterBlanks blank
+blanks-skip zero x r h = rw h
+blanks-skip (suc n) x r h = blanks-skip n x r h
+
+-- ---- marks
+mark-here : (m : ℕ) (r : Rest) (l : List ℕ) → markHere m r l .ok ≡ true → l ≡ m ∷ markHere m r l .rest
+mark-here m r [] h = never h
+mark-here m r (x ∷ l) h = go (eqb x m) refl h
+  where
+    go : (b : Bool) → eqb x m ≡ b → pick b (on r l) (off r (x ∷ l)) .ok ≡ true → x ∷ l ≡ m ∷ pick b (on r l) (off r (x ∷ l)) .rest
+    go true e k = rw (eqb-true x m e)
+    go false e k = never k
+
+pub mark-sound : (m : ℕ) (r : Rest) → markC m r .ok ≡ true → (r .ok ≡ true) × Mark m (r .rest) (markC m r .rest)
+unfolding markC
+mark-sound m r h = go (r .ok) refl h
+  where
+    go : (b : Bool) → r .ok ≡ b → pick b (markHere m r (afterBlanks (r .rest))) r .ok ≡ true → (b ≡ true) × Mark m (r .rest) (pick b (markHere m r (afterBlanks (r .rest))) r .rest)
+    go true e k = (
+      refl,
+      record {
+        blanks = runLen blank (r .rest);
+        parts = blanks-parts (r .rest) ∙ ap (λ (w : List ℕ). spaces (runLen blank (r .rest)) ++ w) (mark-here m r (afterBlanks (r .rest)) k);
+      },
+    )
+    go false e k = never (sym e ∙ k)
+
+-- reading goes on at l, with what was too large before
+abbrev pub at : List ℕ → Bool → List ℕ → Rest
+at l o f = record { rest = l; ok = true; over = o; far = f }
+
+pub mark-at : (m : ℕ) {l r : List ℕ} → blank m ≡ false → Mark m l r → afterBlanks l ≡ m ∷ r
+mark-at m {l} {r} d k = ap (λ (w : List ℕ). afterBlanks w) (k .parts) ∙ blanks-skip (k .blanks) m r d
+
+pub mark-complete : (m : ℕ) (l r : List ℕ) (o : Bool) (f : List ℕ) → blank m ≡ false → Mark m l r → markC m (at l o f) ≡ at r o f
+unfolding markC
+mark-complete m l r o f d k = rw (mark-at m d k, eq-eqb m m refl)
+
+-- where a byte x comes first, no other mark is read
+pub mark-none : (m x : ℕ) (l r : List ℕ) (o : Bool) (f : List ℕ) → afterBlanks l ≡ x ∷ r → eqb x m ≡ false → markC m (at l o f) .ok ≡ false
+unfolding markC
+mark-none m x l r o f p e = rw (p, e)
+
+-- ---- the end
+end-by : (a : Bool) (l : List ℕ) → (a && eqb (length l) 0) ≡ true → (a ≡ true) × (l ≡ [])
+end-by true [] h = (refl, refl)
+end-by true (x ∷ l) h = absurd (let z : suc (length l) ≡ 0 = eqb-true (suc (length l)) 0 h in omega arith)
+end-by false l h = never h
+
+pub end-sound : (r : Rest) → endC r .ok ≡ true → (r .ok ≡ true) × Mark 59 (r .rest) []
+unfolding endC
+end-sound r h =
+    let e = end-by (markC 59 r .ok) (markC 59 r .rest) h in
+    let m = mark-sound 59 r (e .0) in
+    (m .0, rw (e .1) at (m .1))
+
+pub end-complete : (l : List ℕ) (o : Bool) (f : List ℕ) → Mark 59 l [] → endC (at l o f) ≡ at [] o f
+unfolding endC blank
+end-complete l o f k = rw (mark-complete 59 l [] o f refl k)
+
+-- ---- tokens
+-- a byte that a token of more than one byte may start with
+abbrev pub starts : ℕ → Bool
+starts x = wordByte x || eqb x 37
+
+-- a byte that starts one, then word bytes
+unfoldable pub whole : List ℕ → Bool
+whole [] = false
+whole (x ∷ l) = starts x && all wordByte l
+
+pub run-all : (f : ℕ → Bool) (u r : List ℕ) → all f u ≡ true → runLen f r ≡ 0 → runLen f (u ++ r) ≡ length u
+run-all f [] r h e = e
+run-all f (x ∷ u) r h e = let p = both (f x) (all f u) h in rw (p .0, run-all f u r (p .1) e)
+
+pub run-ends : (f : ℕ → Bool) (l : List ℕ) → runLen f (drop (runLen f l) l) ≡ 0
+run-ends f [] = refl
+run-ends f (x ∷ l) = go (f x) refl (run-ends f l)
+  where
+    go : (b : Bool) → f x ≡ b → runLen f (drop (runLen f l) l) ≡ 0 → runLen f (drop (pick b (suc (runLen f l)) 0) (x ∷ l)) ≡ 0
+    go true e i = i
+    go false e i = rw e
+
+module _ (w r : List ℕ) (good : whole w ≡ true) (ends : runLen wordByte r ≡ 0) where
+  token-len : tokenLen (w ++ r) ≡ length w
+  unfolding whole tokenLen
+  token-len = go w good
+    where
+      go : (v : List ℕ) → whole v ≡ true → tokenLen (v ++ r) ≡ length v
+      go [] h = never h
+      go (x ∷ u) h = let p = both (starts x) (all wordByte u) h in rw (p .0, run-all wordByte u r (p .1) ends)
+
+  pub token-is : tokenOf (w ++ r) ≡ w
+  unfolding tokenOf
+  token-is = rw token-len (take-append-seam w r)
+
+  pub token-after : afterToken (w ++ r) ≡ r
+  unfolding afterToken
+  token-after = rw token-len (drop-append-seam w r)
+
+-- no token of word bytes starts with a byte that is neither a word byte nor %
+pub whole-head : (w : List ℕ) → whole w ≡ true → (x : ℕ) × (u : List ℕ) × (w ≡ x ∷ u) × (starts x ≡ true)
+unfolding whole
+whole-head [] h = never h
+whole-head (x ∷ u) h = (x, u, refl, both (starts x) (all wordByte u) h .0)
+
+pub other : (x y : ℕ) → starts x ≡ true → starts y ≡ false → eqb x y ≡ false
+other x y h k = go (eqb x y) refl
+  where
+    go : (b : Bool) → eqb x y ≡ b → b ≡ false
+    go true e = never (sym k ∙ (ap starts (sym (eqb-true x y e)) ∙ h))
+    go false e = refl
+
+-- past the spaces
+pub word-at : (w l r : List ℕ) → whole w ≡ true → Word w l r → afterBlanks l ≡ w ++ r
+unfolding blank wordByte letter whole
+word-at [] l r g k = never g
+word-at (x ∷ u) l r g k =
+    let d : blank x ≡ false = other x 32 (both (starts x) (all wordByte u) g .0) refl in
+    ap (λ (v : List ℕ). afterBlanks v) (k .parts) ∙ blanks-skip (k .blanks) x (u ++ r) d
+
+-- a token that is whole is a word of the text
+head-starts : (l : List ℕ) → whole (tokenOf l) ≡ true → runLen wordByte (afterToken l) ≡ 0
+unfolding whole tokenOf afterToken tokenLen
+head-starts [] h = refl
+head-starts (x ∷ l) h = let p = both (starts x) (all wordByte (take (pick (starts x) (runLen wordByte l) 0) l)) h in rw (p .0) (run-ends wordByte l)
+
+pub token-parts : (l : List ℕ) → l ≡ tokenOf l ++ afterToken l
+unfolding tokenOf afterToken
+token-parts l = sym (take-append-drop (tokenLen l) l)
+
+pub word-sound : (l : List ℕ) → whole (tokenOf (afterBlanks l)) ≡ true → Word (tokenOf (afterBlanks l)) l (afterToken (afterBlanks l))
+word-sound l h =
+    record {
+      blanks = runLen blank l;
+      parts = blanks-parts l ∙ ap (λ (w : List ℕ). spaces (runLen blank l) ++ w) (token-parts (afterBlanks l));
+      ends = head-starts (afterBlanks l) h;
+    }
+
+-- ---- a name's bytes, and a number's, are a whole token
+sigil-starts : (x : ℕ) → sigil x ≡ true → starts x ≡ true
+unfolding sigil wordByte
+sigil-starts x h = go (letter x || between 48 57 x) (eqb x 95) (eqb x 36) (eqb x 37) h
+  where
+    go : (a b c d : Bool) → (b || c || d) ≡ true → (a || b || c || d) ≡ true
+    go true b c d k = refl
+    go false b c d k = k
+
+letter-starts : (x : ℕ) → letter x ≡ true → starts x ≡ true
+unfolding wordByte
+letter-starts x h = rw h
+
+name-starts : (x : ℕ) (b : Bool) → (letter x || sigil x && b) ≡ true → starts x ≡ true
+name-starts x b h = go (letter x) (sigil x) refl refl h
+  where
+    go : (c d : Bool) → letter x ≡ c → sigil x ≡ d → (c || d && b) ≡ true → starts x ≡ true
+    go true d p q k = letter-starts x p
+    go false true p q k = sigil-starts x q
+    go false false p q k = never k
+
+pub name-whole : (w : List ℕ) → isName w ≡ true → whole w ≡ true
+unfolding isName whole
+name-whole [] h = h
+name-whole (x ∷ u) h =
+    let p = both (letter x || sigil x && ltb 0 (length u)) (leb (length u) 15 && all wordByte u) h in
+    let q = both (leb (length u) 15) (all wordByte u) (p .1) in
+    rw (name-starts x (ltb 0 (length u)) (p .0), q .1)
+
+among : (a e x : ℕ) → between a e x ≡ true → (a ≤ x) × (x ≤ e)
+among a e x h = let p = both (leb a x) (leb x e) h in (leb-true a x (p .0), leb-true x e (p .1))
+
+upper-word : (x : ℕ) → 65 ≤ x → x ≤ 90 → wordByte x ≡ true
+unfolding wordByte letter
+upper-word x h k = rw (le-leb 65 x h, le-leb x 90 k)
+
+lower-word : (x : ℕ) → 97 ≤ x → x ≤ 122 → wordByte x ≡ true
+unfolding wordByte letter
+lower-word x h k = rw (le-leb 97 x h, le-leb x 122 k, or-true (between 65 90 x))
+
+figure-word : (x : ℕ) → between 48 57 x ≡ true → wordByte x ≡ true
+unfolding wordByte
+figure-word x h = rw (h, or-true (letter x))
+
+pub digit-word : (base x : ℕ) → base ≤ 16 → isDigit base x ≡ true → wordByte x ≡ true
+unfolding isDigit digitOf
+digit-word base x b h = go (between 48 57 x) (between 65 70 x) (between 97 102 x) refl refl refl h
+  where
+    go : (c d e : Bool) → between 48 57 x ≡ c → between 65 70 x ≡ d → between 97 102 x ≡ e → ltb (pick c (x - 48) (pick d (x - 55) (pick e (x - 87) 16))) base ≡ true → wordByte x ≡ true
+    go true d e p q r k = figure-word x p
+    go false true e p q r k = let t = among 65 70 x q in upper-word x (t .0) (omega arith)
+    go false false true p q r k = let t = among 97 102 x r in lower-word x (t .0) (omega arith)
+    go false false false p q r k = absurd (let t : 16 < base = ltb-true 16 base k in omega arith)
+
+digits-word : (base : ℕ) (l : List ℕ) → base ≤ 16 → all (isDigit base) l ≡ true → all wordByte l ≡ true
+digits-word base [] b h = refl
+digits-word base (x ∷ l) b h = let p = both (isDigit base x) (all (isDigit base) l) h in rw (digit-word base x b (p .0)) (digits-word base l b (p .1))
+
+words-whole : (l : List ℕ) → ltb 0 (length l) ≡ true → all wordByte l ≡ true → whole l ≡ true
+unfolding whole
+words-whole [] h k = h
+words-whole (x ∷ l) h k = let p = both (wordByte x) (all wordByte l) k in rw (p .0, p .1)
+
+mark-x : (y : ℕ) → (eqb y 120 || eqb y 88) ≡ true → wordByte y ≡ true
+mark-x y h = go (eqb y 120) refl h
+  where
+    go : (b : Bool) → eqb y 120 ≡ b → (b || eqb y 88) ≡ true → wordByte y ≡ true
+    go true e k = let t : y ≡ 120 = eqb-true y 120 e in lower-word y (omega arith) (omega arith)
+    go false e k = let t : y ≡ 88 = eqb-true y 88 k in upper-word y (omega arith) (omega arith)
+
+hex-whole : (w : List ℕ) → hexMark w ≡ true → someDigits 16 (drop 2 w) ≡ true → whole w ≡ true
+unfolding hexMark someDigits whole
+hex-whole [] h k = never k
+hex-whole (x ∷ []) h k = never k
+hex-whole (x ∷ (y ∷ u)) h k =
+    let p = both (eqb x 48) (eqb y 120 || eqb y 88) h in
+    let q = both (ltb 0 (length u)) (all (isDigit 16) u) k in
+    let z : wordByte x ≡ true = rw (eqb-true x 48 (p .0)) (figure-word 48 refl) in
+    rw (z, mark-x y (p .1), digits-word 16 u (omega arith) (q .1))
+
+pub number-whole : (w : List ℕ) → isNumber w ≡ true → whole w ≡ true
+unfolding isNumber someDigits
+number-whole w h = go (hexMark w) refl h
+  where
+    go : (b : Bool) → hexMark w ≡ b → pick b (someDigits 16 (drop 2 w)) (not (zeroLed w) && someDigits 10 w) ≡ true → whole w ≡ true
+    go true e k = hex-whole w e k
+    go false e k =
+        let p = both (not (zeroLed w)) (someDigits 10 w) k in
+        let q = both (ltb 0 (length w)) (all (isDigit 10) w) (p .1) in
+        words-whole w (q .0) (digits-word 10 w (omega arith) (q .1))
+
+-- ---- names
+name-here : (r : Rest) (l : List ℕ) → nameHere r (afterBlanks l) .next .ok ≡ true → NameText (nameHere r (afterBlanks l) .value) l (nameHere r (afterBlanks l) .next .rest)
+name-here r l h = go (isName (tokenOf (afterBlanks l))) refl h
+  where
+    took : Bool → Took Name
+    took b = pick b (record { value = packed (tokenOf (afterBlanks l)); next = on r (afterToken (afterBlanks l)) }) (record { value = noName; next = off r (afterBlanks l) })
+
+    go : (b : Bool) → isName (tokenOf (afterBlanks l)) ≡ b → took b .next .ok ≡ true → NameText (took b .value) l (took b .next .rest)
+    go true e k = record { bytes = tokenOf (afterBlanks l); spelled = word-sound l (name-whole (tokenOf (afterBlanks l)) e); good = e; value = refl }
+    go false e k = never k
+
+pub name-sound : (r : Rest) → nameC r .next .ok ≡ true → (r .ok ≡ true) × NameText (nameC r .value) (r .rest) (nameC r .next .rest)
+unfolding nameC
+name-sound r h = go (r .ok) refl h
+  where
+    took : Bool → Took Name
+    took b = pick b (nameHere r (afterBlanks (r .rest))) (record { value = noName; next = r })
+
+    go : (b : Bool) → r .ok ≡ b → took b .next .ok ≡ true → (b ≡ true) × NameText (took b .value) (r .rest) (took b .next .rest)
+    go true e k = (refl, name-here r (r .rest) k)
+    go false e k = never (sym e ∙ k)
+
+pub name-complete : (n : Name) (l r : List ℕ) (o : Bool) (f : List ℕ) → NameText n l r → nameC (at l o f) ≡ record { value = n; next = at r o f }
+unfolding nameC
+name-complete n l r o f k =
+    let g = name-whole (k .bytes) (k .good) in
+    rw (word-at (k .bytes) l r g (k .spelled), token-is (k .bytes) r g (k .spelled .ends), token-after (k .bytes) r g (k .spelled .ends), k .good, k .value)
+
+-- ---- numbers
+number-is : (limit : ℕ) (r : Rest) (l : List ℕ) (v : ℕ) → numberIs limit r l v .next .rest ≡ afterToken l
+number-is limit r l v = go (leb v limit)
+  where
+    go : (b : Bool) → pick {A = Took ℕ} b (record { value = v; next = on r (afterToken l) }) (record { value = 0; next = large r l }) .next .rest ≡ afterToken l
+    go true = refl
+    go false = refl
+
+number-here : (limit : ℕ) (r : Rest) (l : List ℕ) → numberHere limit r (afterBlanks l) .next .ok ≡ true → (v : ℕ) × NumberText v l (numberHere limit r (afterBlanks l) .next .rest)
+number-here limit r l h = go (isNumber (tokenOf (afterBlanks l))) refl h
+  where
+    took : Bool → Took ℕ
+    took b = pick b (numberIs limit r (afterBlanks l) (valueOf (tokenOf (afterBlanks l)))) (record { value = 0; next = off r (afterBlanks l) })
+
+    go : (b : Bool) → isNumber (tokenOf (afterBlanks l)) ≡ b → took b .next .ok ≡ true → (v : ℕ) × NumberText v l (took b .next .rest)
+    go true e k = (
+      valueOf (tokenOf (afterBlanks l)),
+      rw (number-is limit r (afterBlanks l) (valueOf (tokenOf (afterBlanks l))))
+          (record { bytes = tokenOf (afterBlanks l); spelled = word-sound l (number-whole (tokenOf (afterBlanks l)) e); good = e; value = refl }),
+    )
+    go false e k = never k
+
+pub number-sound : (limit : ℕ) (r : Rest) → numberC limit r .next .ok ≡ true → (r .ok ≡ true) × (v : ℕ) × NumberText v (r .rest) (numberC limit r .next .rest)
+unfolding numberC
+number-sound limit r h = go (r .ok) refl h
+  where
+    took : Bool → Took ℕ
+    took b = pick b (numberHere limit r (afterBlanks (r .rest))) (record { value = 0; next = r })
+
+    go : (b : Bool) → r .ok ≡ b → took b .next .ok ≡ true → (b ≡ true) × (v : ℕ) × NumberText v (r .rest) (took b .next .rest)
+    go true e k = let p = number-here limit r (r .rest) k in (refl, p .0, p .1)
+    go false e k = never (sym e ∙ k)
+
+-- what is read: a value and where reading goes on, whether a number so far was too large, and, somewhere, the first such
+pub record Reads {A : Type 0} (t : Took A) (v : A) (l : List ℕ) (o : Bool) : Type 0 where
+  pub far : List ℕ
+  pub is : t ≡ record { value = v; next = at l o far }
+
+-- the number as it is read, 0 for one over the limit
+abbrev pub cut : ℕ → ℕ → ℕ
+cut limit v = pick (leb v limit) v 0
+
+-- whether a number so far was too large
+abbrev pub overBy : Bool → Bool → Bool
+overBy fits o = pick fits o true
+
+number-cut : (limit v : ℕ) (r : List ℕ) (o : Bool) (f b : List ℕ) → afterToken b ≡ r → Reads (numberIs limit (at [] o f) b v) (cut limit v) r (overBy (leb v limit) o)
+number-cut limit v r o f b p = go (leb v limit)
+  where
+    go : (c : Bool) → Reads (pick c (record { value = v; next = on (at [] o f) (afterToken b) }) (record { value = 0; next = large (at [] o f) b })) (pick c v 0) r (overBy c o)
+    go true = record { far = f; is = rw p }
+    go false = record { far = pick o f b; is = rw p }
+
+pub number-complete : (limit v : ℕ) (l r : List ℕ) (o : Bool) (f : List ℕ) → NumberText v l r → Reads (numberC limit (at l o f)) (cut limit v) r (overBy (leb v limit) o)
+unfolding numberC
+number-complete limit v l r o f k =
+    let g = number-whole (k .bytes) (k .good) in
+    rw (word-at (k .bytes) l r g (k .spelled), token-is (k .bytes) r g (k .spelled .ends), k .good, k .value)
+    (number-cut limit v r o f (k .bytes ++ r) (token-after (k .bytes) r g (k .spelled .ends)))
+
+-- ---- one reading
+-- what a mark is, and what follows it
+pub mark-one : (m : ℕ) (l r s : List ℕ) → blank m ≡ false → Mark m l r → Mark m l s → r ≡ s
+mark-one m l r s d a b = let p = sym (mark-at m d a) ∙ mark-at m d b in cc
+
+pub mark-two : (m x : ℕ) (l r s : List ℕ) → blank m ≡ false → blank x ≡ false → eqb m x ≡ false → Mark m l r → Mark x l s → ⊥
+mark-two m x l r s d e h a b = let p = sym (mark-at m d a) ∙ mark-at x e b in let q : m ≡ x = cc in eqb-false m x h q
+
+module _ (w v l r s : List ℕ) (g : whole w ≡ true) (h : whole v ≡ true) (a : Word w l r) (b : Word v l s) where
+  word-parts : w ++ r ≡ v ++ s
+  word-parts = sym (word-at w l r g a) ∙ word-at v l s h b
+
+  pub word-one : w ≡ v
+  word-one = sym (token-is w r g (a .ends)) ∙ (ap (λ (u : List ℕ). tokenOf u) word-parts ∙ token-is v s h (b .ends))
+
+  pub word-rest : r ≡ s
+  word-rest = sym (token-after w r g (a .ends)) ∙ (ap (λ (u : List ℕ). afterToken u) word-parts ∙ token-after v s h (b .ends))
+
+pub name-one : (n m : Name) (l r s : List ℕ) → NameText n l r → NameText m l s → (n ≡ m) × (r ≡ s)
+name-one n m l r s a b =
+    let g = name-whole (a .bytes) (a .good) in
+    let h = name-whole (b .bytes) (b .good) in
+    let p = word-one (a .bytes) (b .bytes) l r s g h (a .spelled) (b .spelled) in
+    (sym (a .value) ∙ (ap packed p ∙ b .value), word-rest (a .bytes) (b .bytes) l r s g h (a .spelled) (b .spelled))
+
+pub number-one : (n m : ℕ) (l r s : List ℕ) → NumberText n l r → NumberText m l s → (n ≡ m) × (r ≡ s)
+number-one n m l r s a b =
+    let g = number-whole (a .bytes) (a .good) in
+    let h = number-whole (b .bytes) (b .good) in
+    let p = word-one (a .bytes) (b .bytes) l r s g h (a .spelled) (b .spelled) in
+    (sym (a .value) ∙ (ap valueOf p ∙ b .value), word-rest (a .bytes) (b .bytes) l r s g h (a .spelled) (b .spelled))

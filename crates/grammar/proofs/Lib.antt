@@ -1,0 +1,11 @@
+pub mod Opcodes
+pub mod Lexing
+pub mod Slots
+pub mod Rows
+pub mod Exact
+pub mod Back
+pub mod Short
+pub mod Trip
+pub mod Stops
+pub mod Places
+pub mod Examples

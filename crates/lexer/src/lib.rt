@@ -1,0 +1,4 @@
+pub mod bytes;
+pub mod cursor;
+pub mod name;
+pub mod number;

@@ -1,0 +1,186 @@
+-- Laws of numbers, lists of names and answers, in the words of the code. Assumes nothing.
+use Prim.Native.Nat.{ℕ, zero, suc, _+_, _-_, _<_, _≤_}
+use native.Mathlib.Numerals.{add-one}
+use native.Mathlib.Nat.{sub-self}
+use native.Mathlib.Omega.{arith}
+use mathlib.Core.Path.{_≡_, refl, sym, ap, _∙_}
+use mathlib.Core.List.{List, [], _∷_}
+use mathlib.Core.Bool.{Bool, true, false, _&&_}
+use lib.ListN.{length, set, take, drop}
+use lib.Seq.{sets, length-take-le}
+use lib.Dec.{leb}
+use borrow.Author.Tests.{leb-true, le-leb, lt-leb}
+use Rattle.tokens.specs.declared.Name.{Name}
+use Rattle.tokens.specs.declared.Cursor.{Cursor}
+use Rattle.tokens.specs.declared.NameRead.{NameRead}
+use Rattle.tokens.specs.Bytes.{pick, opcodeByte, runLen, afterBlanks, tokenOf}
+use Rattle.tokens.specs.Numbers.{isNumber, valueOf}
+use Rattle.tokens.specs.Cursors.{Rest, seen, off, Took, markC, nameC, nameSeen, numberC}
+use Rattle.instruction.specs.declared.Kind.{Kind}
+use Rattle.statement.specs.declared.Statement.{Statement}
+use Rattle.statement.specs.declared.Statement.the-variants.{Exit}
+use Rattle.statement.specs.declared.Opcode.{Opcode}
+use Rattle.statement.specs.declared.Opcode.the-variants.{Multiply}
+use Rattle.statement.specs.declared.Found.{Found}
+use Rattle.statement.specs.declared.Found.the-variants.{Is, Nothing}
+use Rattle.statement.specs.declared.Reading.{Reading}
+use Rattle.statement.specs.declared.Reading.the-variants.{Got, Refused}
+use Rattle.statement.specs.Forms.{Whole, plain}
+use Rattle.statement.specs.Opcodes.{recognise}
+use Rattle.statement.specs.Reading.{moreC, counted, his, los, answerOf, operandsC, start, opcodeLen, wholeC, readOf, fine, registersOf, told}
+use Rattle.reader.specs.Lists.{listC}
+
+-- ---- numbers
+under-pick : (limit : ℕ) (b : Bool) (x y : Took ℕ) → (b ≡ true → x .value ≤ limit) → y .value ≤ limit → (pick b x y) .value ≤ limit
+under-pick limit true x y f h = f refl
+under-pick limit false x y f h = h
+
+-- a number that was read is in range
+pub number-under : (limit : ℕ) (r : Rest) → numberC limit r .value ≤ limit
+unfolding numberC
+number-under limit r =
+    let l = afterBlanks (r .rest) in
+    let v = valueOf (tokenOf l) in
+    under-pick limit (r .ok) _ _ (λ _. under-pick limit (isNumber (tokenOf l)) _ _ (λ _. under-pick limit (leb v limit) _ _ (λ e. leb-true v limit e) (omega arith)) (omega arith))
+    (omega arith)
+
+-- ---- lists of names
+-- no comma: no name is left
+pub more-done : (s : List ℕ) (at d : Cursor) (k : ℕ) → seen s d ≡ markC 44 (seen s at) → d .ok ≡ false
+    → moreC k (seen s at) ≡ record { value = []; next = markC 125 (seen s at) }
+unfolding moreC
+more-done s at d zero h e = refl
+more-done s at d (suc k) h e = rw (← h, e)
+
+-- a comma: one name, and what is left after it
+pub more-took : (s : List ℕ) (at d : Cursor) (m : NameRead) (count : ℕ) → count < 128 → seen s d ≡ markC 44 (seen s at) → nameSeen s m ≡ nameC (seen s d) → d .ok ≡ true
+    → moreC (128 - count) (seen s at) ≡ record { value = m .value ∷ moreC (128 - (count + 1)) (seen s (m .next)) .value; next = moreC (128 - (count + 1)) (seen s (m .next)) .next }
+unfolding moreC
+more-took s at d m count b h n e =
+    let q : 128 - count ≡ suc (128 - (count + 1)) = omega arith in
+    rw (q, ← h, ← n, e)
+
+-- 128 names: no more are read
+pub more-full : (r : Rest) (count : ℕ) → 128 ≤ count → moreC (128 - count) r ≡ record { value = []; next = markC 125 r }
+unfolding moreC
+more-full r count h =
+    let q : 128 - count ≡ 0 = omega arith in
+    rw q
+
+-- count names, and those that are left
+abbrev pub after : ℕ → Took (List Name) → Took ℕ
+after count m = record { value = count + length (m .value); next = m .next }
+
+pub after-more : (count : ℕ) (v : Name) (m : Took (List Name)) → after (count + 1) m ≡ after count (record { value = v ∷ m .value; next = m .next })
+after-more count v m =
+    let q : count + 1 + length (m .value) ≡ count + suc (length (m .value)) = omega arith in
+    rw q
+
+-- the list ends: what is counted is all of it
+pub names-end : (count : ℕ) (x : Rest) (m : Took (List Name)) (v : Name) → after count (record { value = []; next = x }) ≡ after 1 m
+    → _≡_ {A = Took ℕ} (record { value = count; next = x }) (counted (record { value = v ∷ m .value; next = m .next }))
+names-end count x m v h =
+    let p : count + 0 ≡ 1 + length (m .value) = ap (λ t. t .value) h in
+    let q : count ≡ suc (length (m .value)) = omega arith in
+    let n : x ≡ m .next = ap (λ t. t .next) h in
+    rw (q, n)
+
+-- how many names, and the two lists that they are stored in
+pub record Stores : Type 0 where
+  pub count : ℕ
+  pub hi : List ℕ
+  pub lo : List ℕ
+
+-- after count names, those that are left
+abbrev pub stored : List ℕ → List ℕ → ℕ → List Name → Stores
+stored hi lo count ns = record { count = count + length ns; hi = sets hi count (his ns); lo = sets lo count (los ns) }
+
+pub stored-more : (hi lo : List ℕ) (count : ℕ) (v : Name) (ns : List Name) → stored (set hi count (v .hi)) (set lo count (v .lo)) (count + 1) ns ≡ stored hi lo count (v ∷ ns)
+stored-more hi lo count v ns =
+    let q : count + 1 + length ns ≡ count + suc (length ns) = omega arith in
+    rw (q, add-one)
+
+-- the list ends: what is stored is all of it
+pub stored-end : (hi lo hi₀ lo₀ : List ℕ) (count : ℕ) (v : Name) (ns : List Name) → stored hi lo count [] ≡ stored (set hi₀ 0 (v .hi)) (set lo₀ 0 (v .lo)) 1 ns
+    → (count ≡ length (v ∷ ns)) × ((hi ≡ sets hi₀ 0 (his (v ∷ ns))) × (lo ≡ sets lo₀ 0 (los (v ∷ ns))))
+stored-end hi lo hi₀ lo₀ count v ns h =
+    let p : count + 0 ≡ 1 + length ns = ap (λ t. t .count) h in
+    (omega arith, (ap (λ t. t .hi) h, ap (λ t. t .lo) h))
+
+-- no name: nothing is stored
+pub none-stored : (hi lo : List ℕ) (ns : List Name) → ns ≡ [] → (0 ≡ length ns) × ((hi ≡ sets hi 0 (his ns)) × (lo ≡ sets lo 0 (los ns)))
+none-stored hi lo ns h = rw h (refl, (refl, refl))
+
+-- ---- a statement, in the words of the code: e is where the opcode ends
+run-le : (f : ℕ → Bool) (l : List ℕ) → runLen f l ≤ length l
+run-le f [] = omega arith
+run-le f (x ∷ l) = by (f x) (run-le f l)
+  where
+    by : (b : Bool) → runLen f l ≤ length l → pick b (suc (runLen f l)) 0 ≤ suc (length l)
+    by true h = omega arith
+    by false h = omega arith
+
+module _ (s : List ℕ) (e : ℕ) (ends : e ≡ 0 + runLen opcodeByte (drop 0 s)) where
+  opcode-len : opcodeLen s ≡ e
+  opcode-len = omega arith
+
+  pub opcode-taken : e ≡ length (take e s)
+  opcode-taken = sym (length-take-le e s (omega (arith, run-le opcodeByte s)))
+
+  pub whole-is : (o : Opcode) (f : Found) → f ≡ recognise (take e s) → f ≡ Is o → wholeC s ≡ operandsC o (start (drop e s))
+  unfolding wholeC
+  whole-is o f r i = rw (opcode-len, ← r, i)
+
+  pub whole-none : (f : Found) → f ≡ recognise (take e s) → f ≡ Nothing → wholeC s ≡ record { value = plain Exit; next = off (start s) s }
+  unfolding wholeC
+  whole-none f r i = rw (opcode-len, ← r, i)
+
+-- ---- the answer
+pub read-long : (s : List ℕ) → 4096 < length s → Refused 3 4096 ≡ readOf s
+unfolding readOf
+read-long s h = rw (lt-leb (length s) 4096 h)
+
+pub read-none : (s : List ℕ) → length s ≤ 4096 → wholeC s ≡ record { value = plain Exit; next = off (start s) s } → Refused 3 0 ≡ readOf s
+unfolding readOf answerOf
+read-none s h w = rw (le-leb (length s) 4096 h, w, sub-self (length s))
+
+pub read-told : (s : List ℕ) (t : Took Whole) → length s ≤ 4096 → wholeC s ≡ t → told s t ≡ readOf s
+unfolding readOf
+read-told s t h w = rw (le-leb (length s) 4096 h, w)
+
+fine-by : (text : List ℕ) (r : Rest) (t u : Statement) (ok over : Bool) → r .ok ≡ ok → r .over ≡ over → answerOf text r t ≡ Got u → fine r ≡ true
+unfolding answerOf
+fine-by text r t u true false p q h = rw (p, q)
+fine-by text r t u true true p q h = absurd (let g = rw (p, q) at h in let z : _≡_ {A = ℕ} 0 1 = cc in omega arith)
+fine-by text r t u false over p q h = absurd (let g = rw p at h in let z : _≡_ {A = ℕ} 0 1 = cc in omega arith)
+
+not-fine-by : (text : List ℕ) (r : Rest) (t : Statement) (n at : ℕ) (ok over : Bool) → r .ok ≡ ok → r .over ≡ over → answerOf text r t ≡ Refused n at → fine r ≡ false
+unfolding answerOf
+not-fine-by text r t n at true false p q h = absurd (let g = rw (p, q) at h in let z : _≡_ {A = ℕ} 0 1 = cc in omega arith)
+not-fine-by text r t n at true true p q h = rw (p, q)
+not-fine-by text r t n at false over p q h = rw p
+
+-- ---- the registers
+pub registers-long : (s : List ℕ) → 4096 < length s → registersOf s ≡ []
+unfolding registersOf
+registers-long s h = rw (lt-leb (length s) 4096 h)
+
+pub registers-none : (s : List ℕ) → length s ≤ 4096 → wholeC s ≡ record { value = plain Exit; next = off (start s) s } → registersOf s ≡ []
+unfolding registersOf
+registers-none s h w = rw (le-leb (length s) 4096 h, w)
+
+module _ (s : List ℕ) (t : Took Whole) (answer : Reading) (short : length s ≤ 4096) (whole : wholeC s ≡ t) (told-is : answer ≡ told s t) where
+  pub registers-got : (u : Statement) → answer ≡ Got u → registersOf s ≡ t .value .registers
+  unfolding registersOf
+  registers-got u g =
+      rw (le-leb (length s) 4096 short, whole, fine-by s (t .next) (t .value .statement) u (t .next .ok) (t .next .over) refl refl (sym told-is ∙ g))
+
+  pub registers-refused : (n at : ℕ) → answer ≡ Refused n at → registersOf s ≡ []
+  unfolding registersOf
+  registers-refused n at g =
+      rw (le-leb (length s) 4096 short, whole, not-fine-by s (t .next) (t .value .statement) n at (t .next .ok) (t .next .over) refl refl (sym told-is ∙ g))
+
+pub list-multiply : (ws sp : Bool) (kind : Kind) (r : Rest) → listC (Multiply ws sp kind) r ≡ []
+unfolding listC operandsC
+list-multiply ws true kind r = refl
+list-multiply ws false kind r = refl

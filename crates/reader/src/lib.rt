@@ -1,0 +1,126 @@
+// Statements, read.
+pub mod form;
+pub mod operand;
+
+use statement::Found;
+use statement::Opcode;
+use statement::Reading;
+use statement::Statement;
+use tokens::Cursor;
+ghost use mathlib.Core.Path.{_≡_};
+ghost use lib.ListN.{length, drop, take};
+ghost use lib.Seq.{sets};
+ghost use Rattle.tokens.specs.Cursors.{seen};
+ghost use Rattle.statement.specs.Reading.{readOf, reasonOf, registersOf, his, los, operandsC, told};
+ghost use Rattle.reader.specs.Lists.{listC};
+
+// The operands of an opcode, read from a position on, and the answer.
+pub fn operands(s: &[u8], k: Cursor, o: Opcode) -> Reading
+    ensures { λ r. ⌜ r ≡ told (now (s .entry)) (operandsC o (seen (now (s .entry)) k)) ⌝ }
+{
+    match o {
+        Opcode::Mov32 => form::mov32(s, k),
+        Opcode::Mov64 => form::mov64(s, k),
+        Opcode::Alloc { shared: _ } => form::alloc(s, k),
+        Opcode::Dealloc => form::dealloc(s, k),
+        Opcode::Relinquish => form::bare(s, k, Statement::Relinquish),
+        Opcode::Load { shape, num } => form::load(s, k, shape, num),
+        Opcode::Store { shape, num } => form::store(s, k, shape, num),
+        Opcode::WaitLoad => form::bare(s, k, Statement::WaitLoad),
+        Opcode::WaitStore => form::bare(s, k, Statement::WaitStore),
+        Opcode::FenceBefore => form::bare(s, k, Statement::FenceBefore),
+        Opcode::FenceAfter => form::bare(s, k, Statement::FenceAfter),
+        Opcode::Multiply { ws, sp, kind } => form::multiply(s, k, ws, sp, kind),
+        Opcode::Exit => form::bare(s, k, Statement::Exit),
+    }
+}
+
+// A statement, or 3 or 4 with the position of the token that it is for.
+pub fn read(s: &[u8]) -> Reading
+    ensures { λ r. ⌜ r ≡ readOf (now (s .entry)) ⌝ }
+{
+    if 4096 < s.len() {
+        return Reading::Refused(3, 4096);
+    }
+    let e = lexer::bytes::opcode_end(s, 0);
+    let f = opcode::recognise_word(&s[..e]);
+    let Found::Is(o) = f else {
+        return Reading::Refused(3, 0);
+    };
+    operands(
+        s,
+        Cursor {
+            at: e,
+            ok: true,
+            over: false,
+            far: e,
+        },
+        o,
+    )
+}
+
+// How many registers the operands of an opcode name; their names go to the first places of hi and lo.
+pub fn list_of(s: &[u8], k: Cursor, o: Opcode, hi: &mut [u64; 128], lo: &mut [u64; 128]) -> usize
+    ensures count { λ r. ⌜ r ≡ length (listC o (seen (now (s .entry)) k)) ⌝ }
+    ensures first { λ r. ⌜ now (hi .exit) ≡ sets (now (hi .entry)) 0 (his (listC o (seen (now (s .entry)) k))) ⌝ }
+    ensures second { λ r. ⌜ now (lo .exit) ≡ sets (now (lo .entry)) 0 (los (listC o (seen (now (s .entry)) k))) ⌝ }
+{
+    match o {
+        Opcode::Load { shape: _, num: _ } => operand::fill(s, k, hi, lo),
+        Opcode::Store { shape: _, num: _ } => operand::fill_after(s, k, hi, lo),
+        Opcode::Mov32 => 0,
+        Opcode::Mov64 => 0,
+        Opcode::Alloc { shared: _ } => 0,
+        Opcode::Dealloc => 0,
+        Opcode::Relinquish => 0,
+        Opcode::WaitLoad => 0,
+        Opcode::WaitStore => 0,
+        Opcode::FenceBefore => 0,
+        Opcode::FenceAfter => 0,
+        Opcode::Multiply {
+            ws: _,
+            sp: _,
+            kind: _,
+        } => 0,
+        Opcode::Exit => 0,
+    }
+}
+
+// How many registers a statement that reads names; their names go to the first places of hi and lo. 0, and no place is
+// changed, for a text that does not read.
+pub fn registers(s: &[u8], hi: &mut [u64; 128], lo: &mut [u64; 128]) -> usize
+    ensures count { λ r. ⌜ r ≡ length (registersOf (now (s .entry))) ⌝ }
+    ensures first { λ r. ⌜ now (hi .exit) ≡ sets (now (hi .entry)) 0 (his (registersOf (now (s .entry)))) ⌝ }
+    ensures second { λ r. ⌜ now (lo .exit) ≡ sets (now (lo .entry)) 0 (los (registersOf (now (s .entry)))) ⌝ }
+{
+    if 4096 < s.len() {
+        return 0;
+    }
+    let e = lexer::bytes::opcode_end(s, 0);
+    let f = opcode::recognise_word(&s[..e]);
+    let Found::Is(o) = f else {
+        return 0;
+    };
+    let k = Cursor {
+        at: e,
+        ok: true,
+        over: false,
+        far: e,
+    };
+    let t = operands(s, k, o);
+    let Reading::Got(_) = t else {
+        return 0;
+    };
+    list_of(s, k, o, hi, lo)
+}
+
+// The paper's number of the answer: 0 for a statement, 3 or 4.
+pub fn reason(s: &[u8]) -> u8
+    ensures { λ r. ⌜ r ≡ reasonOf (readOf (now (s .entry))) ⌝ }
+{
+    let t = read(s);
+    match t {
+        Reading::Got(_) => 0,
+        Reading::Refused(n, _) => n,
+    }
+}

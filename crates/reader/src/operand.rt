@@ -1,0 +1,165 @@
+// Operands by a cursor: each gives a failed cursor back unchanged.
+use statement::Address;
+use statement::AddressRead;
+use statement::CountRead;
+use statement::OffsetRead;
+use statement::Operand;
+use statement::OperandRead;
+use tokens::Cursor;
+use tokens::NameRead;
+ghost use mathlib.Core.Path.{_≡_};
+ghost use lib.ListN.{length};
+ghost use lib.Seq.{sets};
+ghost use Rattle.tokens.specs.Cursors.{seen, nameSeen, markC, numberC};
+ghost use Rattle.statement.specs.Forms.{max32};
+ghost use Rattle.statement.specs.Reading.{inBracketsC, offsetC, insideC, addressC, operandC, namesC, offsetSeen, addressSeen, operandSeen, countSeen, counted, his, los};
+
+// A number of 32 bits.
+pub fn number32(s: &[u8], k: Cursor) -> OffsetRead
+    ensures { λ r. ⌜ offsetSeen (now (s .entry)) r ≡ numberC max32 (seen (now (s .entry)) k) ⌝ }
+{
+    let n = lexer::cursor::number(s, k, 0xffff_ffff);
+    let v = n.value;
+    let next = n.next;
+    OffsetRead {
+        value: v as u32,
+        next,
+    }
+}
+
+// [ name ]
+pub fn in_brackets(s: &[u8], k: Cursor) -> NameRead
+    ensures { λ r. ⌜ nameSeen (now (s .entry)) r ≡ inBracketsC (seen (now (s .entry)) k) ⌝ }
+{
+    let a = lexer::cursor::mark(s, k, 91);
+    let n = lexer::cursor::name(s, a);
+    let b = n.next;
+    let value = n.value;
+    let next = lexer::cursor::mark(s, b, 93);
+    NameRead { value, next }
+}
+
+// + number, or nothing, which is 0.
+pub fn offset(s: &[u8], k: Cursor) -> OffsetRead
+    ensures { λ r. ⌜ offsetSeen (now (s .entry)) r ≡ offsetC (seen (now (s .entry)) k) ⌝ }
+{
+    let d = lexer::cursor::mark(s, k, 43);
+    if d.ok {
+        return number32(s, d);
+    }
+    OffsetRead { value: 0, next: k }
+}
+
+// name ] or name + number ]
+pub fn inside(s: &[u8], k: Cursor) -> AddressRead
+    ensures { λ r. ⌜ addressSeen (now (s .entry)) r ≡ insideC (seen (now (s .entry)) k) ⌝ }
+{
+    let n = lexer::cursor::name(s, k);
+    let a = n.next;
+    let v = offset(s, a);
+    let b = v.next;
+    let next = lexer::cursor::mark(s, b, 93);
+    let base = n.value;
+    AddressRead {
+        value: Address {
+            base,
+            offset: v.value,
+        },
+        next,
+    }
+}
+
+pub fn address(s: &[u8], k: Cursor) -> AddressRead
+    ensures { λ r. ⌜ addressSeen (now (s .entry)) r ≡ addressC (seen (now (s .entry)) k) ⌝ }
+{
+    inside(s, lexer::cursor::mark(s, k, 91))
+}
+
+// An address where a bracket opens, else a descriptor's name.
+pub fn operand(s: &[u8], k: Cursor) -> OperandRead
+    ensures { λ r. ⌜ operandSeen (now (s .entry)) r ≡ operandC (seen (now (s .entry)) k) ⌝ }
+{
+    let d = lexer::cursor::mark(s, k, 91);
+    if d.ok {
+        let a = inside(s, d);
+        let value = a.value;
+        let next = a.next;
+        return OperandRead {
+            value: Operand::Address(value),
+            next,
+        };
+    }
+    let n = lexer::cursor::name(s, k);
+    let value = n.value;
+    let next = n.next;
+    OperandRead {
+        value: Operand::Descriptor(value),
+        next,
+    }
+}
+
+// { 1 to 128 names }: how many.
+pub fn names(s: &[u8], k: Cursor) -> CountRead
+    ensures { λ r. ⌜ countSeen (now (s .entry)) r ≡ counted (namesC (seen (now (s .entry)) k)) ⌝ }
+{
+    let a = lexer::cursor::mark(s, k, 123);
+    let n = lexer::cursor::name(s, a);
+    let mut at = n.next;
+    let mut count: usize = 1;
+    while count < 128 {
+        let d = lexer::cursor::mark(s, at, 44);
+        if !d.ok {
+            return CountRead {
+                value: count,
+                next: lexer::cursor::mark(s, at, 125),
+            };
+        }
+        let m = lexer::cursor::name(s, d);
+        at = m.next;
+        count += 1;
+    }
+    CountRead {
+        value: count,
+        next: lexer::cursor::mark(s, at, 125),
+    }
+}
+
+// { 1 to 128 names }: how many; the names go to the first places of hi and lo.
+pub fn fill(s: &[u8], k: Cursor, hi: &mut [u64; 128], lo: &mut [u64; 128]) -> usize
+    ensures count { λ r. ⌜ r ≡ length (namesC (seen (now (s .entry)) k) .value) ⌝ }
+    ensures first { λ r. ⌜ now (hi .exit) ≡ sets (now (hi .entry)) 0 (his (namesC (seen (now (s .entry)) k) .value)) ⌝ }
+    ensures second { λ r. ⌜ now (lo .exit) ≡ sets (now (lo .entry)) 0 (los (namesC (seen (now (s .entry)) k) .value)) ⌝ }
+{
+    let a = lexer::cursor::mark(s, k, 123);
+    let n = lexer::cursor::name(s, a);
+    let v = n.value;
+    let mut at = n.next;
+    hi[0] = v.hi;
+    lo[0] = v.lo;
+    let mut count: usize = 1;
+    while count < 128 {
+        let d = lexer::cursor::mark(s, at, 44);
+        if !d.ok {
+            return count;
+        }
+        let m = lexer::cursor::name(s, d);
+        let w = m.value;
+        hi[count] = w.hi;
+        lo[count] = w.lo;
+        at = m.next;
+        count += 1;
+    }
+    count
+}
+
+// An address and a comma, then { 1 to 128 names }, as fill.
+pub fn fill_after(s: &[u8], k: Cursor, hi: &mut [u64; 128], lo: &mut [u64; 128]) -> usize
+    ensures count { λ r. ⌜ r ≡ length (namesC (markC 44 (addressC (seen (now (s .entry)) k) .next)) .value) ⌝ }
+    ensures first { λ r. ⌜ now (hi .exit) ≡ sets (now (hi .entry)) 0 (his (namesC (markC 44 (addressC (seen (now (s .entry)) k) .next)) .value)) ⌝ }
+    ensures second { λ r. ⌜ now (lo .exit) ≡ sets (now (lo .entry)) 0 (los (namesC (markC 44 (addressC (seen (now (s .entry)) k) .next)) .value)) ⌝ }
+{
+    let a = address(s, k);
+    let k1 = a.next;
+    let k2 = lexer::cursor::mark(s, k1, 44);
+    fill(s, k2, hi, lo)
+}

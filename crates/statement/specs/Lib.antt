@@ -1,0 +1,7 @@
+pub mod Text
+pub mod Forms
+pub mod Cells
+pub mod Opcodes
+pub mod Reading
+pub mod Spells
+pub mod Canonical

@@ -1,0 +1,169 @@
+-- How a statement is read: the opcode, its row of operands, the answer. Assumes nothing.
+use Prim.Native.Nat.{ℕ, zero, suc, _-_}
+use mathlib.Core.List.{List, [], _∷_}
+use mathlib.Core.Bool.{Bool, true, false, _&&_}
+use lib.ListN.{length, take, drop}
+use lib.Dec.{leb, eqb}
+use Rattle.tokens.specs.declared.Name.{Name}
+use Rattle.tokens.specs.Bytes.{pick, opcodeByte, runLen}
+use Rattle.tokens.specs.Cursors.{Rest, seen, on, off, Took, markC, endC, nameC, numberC}
+use Rattle.statement.specs.declared.Address.{Address}
+use Rattle.statement.specs.declared.Operand.{Operand}
+use Rattle.statement.specs.declared.Operand.the-variants as operand
+use Rattle.statement.specs.declared.Statement.{Statement}
+use Rattle.statement.specs.declared.Statement.the-variants as s
+use Rattle.statement.specs.declared.Opcode.{Opcode}
+use Rattle.statement.specs.declared.Found.{Found}
+use Rattle.statement.specs.declared.Found.the-variants.{Is, Nothing}
+use Rattle.statement.specs.declared.Reading.{Reading}
+use Rattle.statement.specs.declared.Reading.the-variants.{Got, Refused}
+use Rattle.statement.specs.declared.OffsetRead.{OffsetRead}
+use Rattle.statement.specs.declared.AddressRead.{AddressRead}
+use Rattle.statement.specs.declared.OperandRead.{OperandRead}
+use Rattle.statement.specs.declared.CountRead.{CountRead}
+use Rattle.statement.specs.Forms.{Slot, name, number, inBrackets, address, operand, names, Value, Values, max32, row, Whole, plain, make}
+use Rattle.statement.specs.Opcodes.{recognise}
+
+-- ---- operands
+-- [ name ]
+unfoldable pub inBracketsC : Rest → Took Name
+inBracketsC r = let n = nameC (markC 91 r) in record { value = n .value; next = markC 93 (n .next) }
+
+-- + number, or nothing, which is 0
+unfoldable pub offsetC : Rest → Took ℕ
+offsetC r = let d = markC 43 r in pick (d .ok) (numberC max32 d) (record { value = 0; next = r })
+
+-- name ] or name + number ]
+unfoldable pub insideC : Rest → Took Address
+insideC r =
+    let n = nameC r in
+    let v = offsetC (n .next) in
+    record { value = record { base = n .value; offset = v .value }; next = markC 93 (v .next) }
+
+unfoldable pub addressC : Rest → Took Address
+addressC r = insideC (markC 91 r)
+
+-- an address where a bracket opens, else a descriptor's name
+unfoldable pub operandC : Rest → Took Operand
+operandC r =
+    let d = markC 91 r in
+    let a = insideC d in
+    let n = nameC r in
+    pick (d .ok) (record { value = operand.Address (a .value); next = a .next }) (record { value = operand.Descriptor (n .value); next = n .next })
+
+-- after a name: a comma and a name, up to k times, and the brace
+unfoldable pub moreC : ℕ → Rest → Took (List Name)
+moreC zero r = record { value = []; next = markC 125 r }
+moreC (suc k) r =
+    let d = markC 44 r in
+    let n = nameC d in
+    let m = moreC k (n .next) in
+    pick (d .ok) (record { value = n .value ∷ m .value; next = m .next }) (record { value = []; next = markC 125 r })
+
+-- { 1 to 128 names }
+unfoldable pub namesC : Rest → Took (List Name)
+namesC r =
+    let n = nameC (markC 123 r) in
+    let m = moreC 127 (n .next) in
+    record { value = n .value ∷ m .value; next = m .next }
+
+abbrev pub slotC : (k : Slot) → Rest → Took (Value k)
+slotC name r = nameC r
+slotC (number limit) r = numberC limit r
+slotC inBrackets r = inBracketsC r
+slotC address r = addressC r
+slotC operand r = operandC r
+slotC names r = namesC r
+
+-- a comma and an operand for each slot, and the end
+unfoldable pub moreRowC : (ks : List Slot) → Rest → Took (Values ks)
+moreRowC [] r = record { value = tt; next = endC r }
+moreRowC (k ∷ ks) r =
+    let v = slotC k (markC 44 r) in
+    let m = moreRowC ks (v .next) in
+    record { value = (v .value, m .value); next = m .next }
+
+-- an operand for each slot, which commas part, and the end
+unfoldable pub rowC : (ks : List Slot) → Rest → Took (Values ks)
+rowC [] r = record { value = tt; next = endC r }
+rowC (k ∷ ks) r =
+    let v = slotC k r in
+    let m = moreRowC ks (v .next) in
+    record { value = (v .value, m .value); next = m .next }
+
+-- ---- the answer
+-- 3 before 4, each with its position in text
+unfoldable pub answerOf : List ℕ → Rest → Statement → Reading
+answerOf text r t =
+    pick (r .ok) (pick (r .over) (Refused 4 (length text - length (r .far))) (Got t)) (Refused 3 (length text - length (r .rest)))
+
+-- the operands of an opcode, read from r on
+unfoldable pub operandsC : Opcode → Rest → Took Whole
+operandsC o r = let t = rowC (row o) r in record { value = make o (t .value); next = t .next }
+
+abbrev pub start : List ℕ → Rest
+start l = record { rest = l; ok = true; over = false; far = l }
+
+abbrev pub wholeBy : List ℕ → List ℕ → Found → Took Whole
+wholeBy text rest (Is o) = operandsC o (start rest)
+wholeBy text rest Nothing = record { value = plain s.Exit; next = off (start text) text }
+
+abbrev pub opcodeLen : List ℕ → ℕ
+opcodeLen text = runLen opcodeByte text
+
+-- the statement that a text is, and where its reading ended
+unfoldable pub wholeC : List ℕ → Took Whole
+wholeC text = wholeBy text (drop (opcodeLen text) text) (recognise (take (opcodeLen text) text))
+
+-- what a text reads as: over 4,096 bytes nothing
+unfoldable pub readOf : List ℕ → Reading
+readOf text = pick (leb (length text) 4096) (answerOf text (wholeC text .next) (wholeC text .value .statement)) (Refused 3 4096)
+
+-- the paper's number of an answer: 0, 3 or 4
+abbrev pub reasonOf : Reading → ℕ
+reasonOf (Got t) = 0
+reasonOf (Refused reason at) = reason
+
+-- reading ended well, with every number in range
+abbrev pub fine : Rest → Bool
+fine r = pick (r .ok) (pick (r .over) false true) false
+
+-- the names of the registers of a text that reads; none for another
+unfoldable pub registersOf : List ℕ → List Name
+registersOf text = pick (leb (length text) 4096 && fine (wholeC text .next)) (wholeC text .value .registers) []
+
+-- ---- views of what the functions return
+abbrev pub offsetSeen : List ℕ → OffsetRead → Took ℕ
+offsetSeen t r = record { value = r .value; next = seen t (r .next) }
+
+abbrev pub addressSeen : List ℕ → AddressRead → Took Address
+addressSeen t r = record { value = r .value; next = seen t (r .next) }
+
+abbrev pub operandSeen : List ℕ → OperandRead → Took Operand
+operandSeen t r = record { value = r .value; next = seen t (r .next) }
+
+abbrev pub countSeen : List ℕ → CountRead → Took ℕ
+countSeen t r = record { value = r .value; next = seen t (r .next) }
+
+-- how many there are
+abbrev pub counted : Took (List Name) → Took ℕ
+counted r = record { value = length (r .value); next = r .next }
+
+-- the answer for what was read of a text
+abbrev pub told : List ℕ → Took Whole → Reading
+told text t = answerOf text (t .next) (t .value .statement)
+
+-- ---- the registers' names in two lists of numbers
+abbrev pub his : List Name → List ℕ
+his [] = []
+his (n ∷ ns) = n .hi ∷ his ns
+
+abbrev pub los : List Name → List ℕ
+los [] = []
+los (n ∷ ns) = n .lo ∷ los ns
+
+-- the names that two lists hold
+abbrev pub paired : List ℕ → List ℕ → List Name
+paired [] b = []
+paired (x ∷ a) [] = []
+paired (x ∷ a) (y ∷ b) = record { hi = x; lo = y } ∷ paired a b

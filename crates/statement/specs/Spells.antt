@@ -1,0 +1,136 @@
+-- The grammar, declared: which texts spell a statement. `Xs v l r` says that l starts with a spelling of v, and that r is what follows it.
+-- Numbers have any size here; `sized` says which are in range. Assumes nothing.
+use Prim.Native.Nat.{ℕ, zero, suc, _≤_}
+use mathlib.Core.Path.{_≡_}
+use mathlib.Core.List.{List, [], _∷_, _++_}
+use mathlib.Core.Bool.{Bool, true, false, _&&_}
+use lib.ListN.{length}
+use lib.Dec.{leb}
+use Rattle.tokens.specs.declared.Name.{Name}
+use Rattle.tokens.specs.Bytes.{wordByte, opcodeByte, runLen}
+use Rattle.tokens.specs.Names.{isName, packed}
+use Rattle.tokens.specs.Numbers.{isNumber, valueOf}
+use Rattle.statement.specs.declared.Address.{Address}
+use Rattle.statement.specs.declared.Operand.{Operand}
+use Rattle.statement.specs.declared.Operand.the-variants as operand
+use Rattle.statement.specs.declared.Metadata.{Metadata}
+use Rattle.statement.specs.declared.Metadata.the-variants.{Dense, Sparse}
+use Rattle.statement.specs.declared.Statement.{Statement}
+use Rattle.statement.specs.declared.Statement.the-variants.{Mov32, Mov64, Alloc, Dealloc, Relinquish, Load, Store, WaitLoad, WaitStore, FenceBefore, FenceAfter, Multiply, Exit}
+use Rattle.statement.specs.declared.Opcode.{Opcode}
+use Rattle.statement.specs.Forms.{word, Slot, name, number, inBrackets, address, operand, names, Value, Values, max32, max64, row, Whole, make}
+
+abbrev pub spaces : ℕ → List ℕ
+spaces zero = []
+spaces (suc n) = 32 ∷ spaces n
+
+-- ---- tokens
+-- spaces, and the byte m
+pub record Mark (m : ℕ) (l r : List ℕ) : Type 0 where
+  pub blanks : ℕ
+  pub parts : l ≡ spaces blanks ++ (m ∷ r)
+
+-- spaces, and the bytes w, where a run of word bytes ends
+pub record Word (w l r : List ℕ) : Type 0 where
+  pub blanks : ℕ
+  pub parts : l ≡ spaces blanks ++ (w ++ r)
+  pub ends : runLen wordByte r ≡ 0
+
+pub record NameText (n : Name) (l r : List ℕ) : Type 0 where
+  pub bytes : List ℕ
+  pub spelled : Word bytes l r
+  pub good : isName bytes ≡ true
+  pub value : packed bytes ≡ n
+
+pub record NumberText (v : ℕ) (l r : List ℕ) : Type 0 where
+  pub bytes : List ℕ
+  pub spelled : Word bytes l r
+  pub good : isNumber bytes ≡ true
+  pub value : valueOf bytes ≡ v
+
+-- ---- operands
+pub record BracketText (n : Name) (l r : List ℕ) : Type 0 where
+  pub l₁ : List ℕ
+  pub l₂ : List ℕ
+  pub opens : Mark 91 l l₁
+  pub inner : NameText n l₁ l₂
+  pub closes : Mark 93 l₂ r
+
+-- nothing, for 0; or + number
+pub data OffsetText : ℕ → List ℕ → List ℕ → Type 0 where
+  bare : {l : List ℕ} → OffsetText 0 l l
+  plus : {v : ℕ} {l l₁ r : List ℕ} → Mark 43 l l₁ → NumberText v l₁ r → OffsetText v l r
+
+pub record AddressText (a : Address) (l r : List ℕ) : Type 0 where
+  pub l₁ : List ℕ
+  pub l₂ : List ℕ
+  pub l₃ : List ℕ
+  pub opens : Mark 91 l l₁
+  pub base : NameText (a .base) l₁ l₂
+  pub offset : OffsetText (a .offset) l₂ l₃
+  pub closes : Mark 93 l₃ r
+
+pub data OperandText : Operand → List ℕ → List ℕ → Type 0 where
+  byName : {n : Name} {l r : List ℕ} → NameText n l r → OperandText (operand.Descriptor n) l r
+  byAddress : {a : Address} {l r : List ℕ} → AddressText a l r → OperandText (operand.Address a) l r
+
+-- a comma before each name, and the brace
+pub data MoreNames : List Name → List ℕ → List ℕ → Type 0 where
+  closes : {l r : List ℕ} → Mark 125 l r → MoreNames [] l r
+  comma : {n : Name} {ns : List Name} {l l₁ l₂ r : List ℕ} → Mark 44 l l₁ → NameText n l₁ l₂ → MoreNames ns l₂ r → MoreNames (n ∷ ns) l r
+
+-- 1 to 128 names
+pub data NamesText : List Name → List ℕ → List ℕ → Type 0 where
+  opens : {n : Name} {ns : List Name} {l l₁ l₂ r : List ℕ} → length ns ≤ 127 → Mark 123 l l₁ → NameText n l₁ l₂ → MoreNames ns l₂ r → NamesText (n ∷ ns) l r
+
+abbrev pub SlotText : (k : Slot) → Value k → List ℕ → List ℕ → Type 0
+SlotText name v = NameText v
+SlotText (number limit) v = NumberText v
+SlotText inBrackets v = BracketText v
+SlotText address v = AddressText v
+SlotText operand v = OperandText v
+SlotText names v = NamesText v
+
+-- a comma before each operand, and the semicolon, with nothing after it
+abbrev pub MoreRow : (ks : List Slot) → Values ks → List ℕ → Type 0
+MoreRow [] v l = Mark 59 l []
+MoreRow (k ∷ ks) v l = (l₁ : List ℕ) × (l₂ : List ℕ) × Mark 44 l l₁ × SlotText k (v .0) l₁ l₂ × MoreRow ks (v .1) l₂
+
+abbrev pub RowText : (ks : List Slot) → Values ks → List ℕ → Type 0
+RowText [] v l = Mark 59 l []
+RowText (k ∷ ks) v l = (l₁ : List ℕ) × SlotText k (v .0) l l₁ × MoreRow ks (v .1) l₁
+
+-- ---- statements
+-- the text is one of the spellings of the statement: an opcode's word, where the run of opcode bytes ends, and its operands
+pub record Spells (whole : Whole) (text : List ℕ) : Type 0 where
+  pub opcode : Opcode
+  pub values : Values (row opcode)
+  pub rest : List ℕ
+  pub parts : text ≡ word opcode ++ rest
+  pub ends : runLen opcodeByte rest ≡ 0
+  pub operands : RowText (row opcode) values rest
+  pub made : make opcode values ≡ whole
+
+abbrev pub sizedOperand : Operand → Bool
+sizedOperand (operand.Descriptor n) = true
+sizedOperand (operand.Address a) = leb (a .offset) max32
+
+abbrev pub sizedMetadata : Metadata → Bool
+sizedMetadata Dense = true
+sizedMetadata (Sparse a) = leb (a .offset) max32
+
+-- each number is in range
+unfoldable pub sized : Statement → Bool
+sized (Mov32 n v) = leb v max32
+sized (Mov64 n v) = leb v max64
+sized (Alloc n v) = leb v max32
+sized (Dealloc n v) = leb v max32
+sized Relinquish = true
+sized (Load a) = leb (a .address .offset) max32
+sized (Store a) = leb (a .address .offset) max32
+sized WaitLoad = true
+sized WaitStore = true
+sized FenceBefore = true
+sized FenceAfter = true
+sized (Multiply m) = leb (m .d .offset) max32 && (sizedOperand (m .a) && sizedMetadata (m .metadata))
+sized Exit = true

@@ -1,0 +1,9 @@
+-- The bytes of a quoted text. Assumes nothing.
+use Prim.Native.Nat.{ℕ}
+use Prim.Native.Char.{code}
+use Prim.Native.String.{String, [] as []ᵗ, _∷_ as _∷ᵗ_}
+use mathlib.Core.List.{List, [], _∷_}
+
+abbrev pub bytes : String → List ℕ
+bytes []ᵗ = []
+bytes (c ∷ᵗ s) = code c ∷ bytes s

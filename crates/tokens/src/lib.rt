@@ -1,0 +1,33 @@
+// Tokens of a statement: names, numbers and the cursor that reads them. Types alone; what they mean stands in specs/.
+
+// A name, packed: its first eight bytes, and the rest, each as the digits of a number at base 256.
+pub struct Name {
+    pub hi: u64,
+    pub lo: u64,
+}
+
+// Where reading goes on; or, not ok, the first token at which no form can go on. `over`: a number was too large, the
+// first such at `far`.
+pub struct Cursor {
+    pub at: usize,
+    pub ok: bool,
+    pub over: bool,
+    pub far: usize,
+}
+
+// What a token is as a number: none (not ok), one over 2^64-1, or a value.
+pub struct Numeral {
+    pub ok: bool,
+    pub over: bool,
+    pub value: u64,
+}
+
+pub struct NameRead {
+    pub value: Name,
+    pub next: Cursor,
+}
+
+pub struct NumberRead {
+    pub value: u64,
+    pub next: Cursor,
+}

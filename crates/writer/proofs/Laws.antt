@@ -1,0 +1,171 @@
+-- Laws of bytes put one after another. Assumes nothing.
+use Prim.Native.Nat.{ℕ, zero, suc, _+_, _-_, _<_, _≤_}
+use native.Mathlib.Omega.{arith}
+use native.Mathlib.Numerals.{add-one}
+use native.Mathlib.Nat.{add-suc, add-assoc}
+use mathlib.Core.Path.{_≡_, refl, sym, ap, _∙_}
+use mathlib.Core.List.{List, [], _∷_, _++_, append-assoc, append-nil}
+use mathlib.Core.Bool.{Bool, true, false, _&&_}
+use mathlib.Core.Logic.{_⊎_, inl, inr, ⊎-elim}
+use lib.ListN.{length, getD, take, drop, set, length-append, drop-of-length-le}
+use lib.Seq.{sets, sets-eq, length-sets, take-at, drop-cons, length-take-le}
+use lib.Dec.{leb, eqb}
+use borrow.Author.Tests.{le-leb, lt-leb, leb-true, leb-false, eq-eqb, ne-eqb, eqb-true, eqb-false}
+use Rattle.tokens.specs.Bytes.{pick, all}
+use Rattle.writer.specs.Outputs.{Out, wrote, failed, outSeen, addC}
+
+pub and-true : (b : Bool) → (b && true) ≡ b
+and-true true = refl
+and-true false = refl
+
+pub and-false : (b : Bool) → (b && false) ≡ false
+and-false true = refl
+and-false false = refl
+
+pub and-assoc : (a b c : Bool) → ((a && b) && c) ≡ (a && (b && c))
+and-assoc true b c = refl
+and-assoc false b c = refl
+
+-- the first of three goes second
+pub and-swap : (a b c : Bool) → (a && ((b && c) && true)) ≡ (b && (a && (c && true)))
+and-swap true true c = refl
+and-swap true false c = refl
+and-swap false true c = refl
+and-swap false false c = refl
+
+-- ---- what is added
+pub add-failed : (w : List ℕ) (b : Bool) (n : ℕ) → addC w b (failed n) ≡ failed n
+unfolding addC
+add-failed w b n = refl
+
+pub add-refused : (w l : List ℕ) → addC w false (wrote l) ≡ failed 2560
+unfolding addC
+add-refused w l = refl
+
+pub add-full : (w l : List ℕ) (b : Bool) → 2560 < length l + length w → addC w b (wrote l) ≡ failed 2560
+unfolding addC
+add-full w l b h = rw (lt-leb (length l + length w) 2560 h, and-false b)
+
+pub add-fits : (w l : List ℕ) → length l + length w ≤ 2560 → addC w true (wrote l) ≡ wrote (l ++ w)
+unfolding addC
+add-fits w l h = rw (le-leb (length l + length w) 2560 h)
+
+join-by : (u w l : List ℕ) (c : Bool) (t : Bool) → leb (length l + length u) 2560 ≡ t → addC w c (addC u true (wrote l)) ≡ addC (u ++ w) c (wrote l)
+unfolding addC
+join-by u w l c true e =
+    let p : length (l ++ u) + length w ≡ length l + length (u ++ w) = omega (arith, length-append l u, length-append u w) in
+    rw (e, p, append-assoc l u w)
+join-by u w l c false e =
+    let h : 2560 < length l + length u = leb-false (length l + length u) 2560 e in
+    let p : 2560 < length l + length (u ++ w) = omega (arith, length-append u w) in
+    rw (e, lt-leb (length l + length (u ++ w)) 2560 p, and-false c)
+
+-- one addition after another is one addition
+pub join : (u w : List ℕ) (b c : Bool) (o : Out) → addC w c (addC u b o) ≡ addC (u ++ w) (b && c) o
+join u w b c (failed n) = rw (add-failed u b n, add-failed w c n, add-failed (u ++ w) (b && c) n)
+join u w true c (wrote l) = join-by u w l c (leb (length l + length u) 2560) refl
+join u w false c (wrote l) = rw (add-refused u l, add-failed w c 2560, add-refused (u ++ w) l)
+
+-- ---- what a buffer shows
+pub seen-over : (t : List ℕ) (at : ℕ) → 2560 < at → outSeen t at ≡ failed (length t)
+unfolding outSeen
+seen-over t at h = rw (lt-leb at 2560 h, and-false (eqb (length t) 2560))
+
+pub seen-failed : (t : List ℕ) → outSeen t 2561 ≡ failed (length t)
+seen-failed t = seen-over t 2561 (omega arith)
+
+pub seen-wrote : (t : List ℕ) (at : ℕ) → length t ≡ 2560 → at ≤ 2560 → outSeen t at ≡ wrote (take at t)
+unfolding outSeen
+seen-wrote t at e h = rw (eq-eqb (length t) 2560 e, le-leb at 2560 h)
+
+pub seen-other : (t : List ℕ) (at : ℕ) → (length t ≡ 2560 → ⊥) → outSeen t at ≡ failed (length t)
+unfolding outSeen
+seen-other t at e = rw (ne-eqb (length t) 2560 e)
+
+-- what a buffer shows is what was written, or that writing failed
+shows : (t : List ℕ) (at : ℕ) → ((length t ≡ 2560) × (at ≤ 2560)) ⊎ (outSeen t at ≡ failed (length t))
+shows t at = by (eqb (length t) 2560) (leb at 2560) refl refl
+  where
+    by : (a b : Bool) → eqb (length t) 2560 ≡ a → leb at 2560 ≡ b → ((length t ≡ 2560) × (at ≤ 2560)) ⊎ (outSeen t at ≡ failed (length t))
+    by true true p q = inl (eqb-true (length t) 2560 p, leb-true at 2560 q)
+    by true false p q = inr (seen-over t at (leb-false at 2560 q))
+    by false b p q = inr (seen-other t at (eqb-false (length t) 2560 p))
+
+-- nothing is added by no bytes
+pub add-nothing : (t : List ℕ) (at : ℕ) → outSeen t at ≡ addC [] true (outSeen t at)
+add-nothing t at = ⊎-elim in-room other (shows t at)
+  where
+    other : outSeen t at ≡ failed (length t) → outSeen t at ≡ addC [] true (outSeen t at)
+    other e = rw (e, add-failed [] true (length t))
+
+    in-room : (length t ≡ 2560) × (at ≤ 2560) → outSeen t at ≡ addC [] true (outSeen t at)
+    in-room h =
+        let k : length (take at t) + 0 ≤ 2560 = omega (arith, length-take-le at t (omega arith)) in
+        rw (seen-wrote t at (h .0) (h .1), add-fits [] (take at t) k, append-nil)
+
+-- what is not given is refused
+pub refused : (t w : List ℕ) (at : ℕ) → outSeen t 2561 ≡ addC w false (outSeen t at)
+refused t w at = ⊎-elim in-room other (shows t at)
+  where
+    in-room : (length t ≡ 2560) × (at ≤ 2560) → outSeen t 2561 ≡ addC w false (outSeen t at)
+    in-room h = rw (seen-failed t, seen-wrote t at (h .0) (h .1), add-refused w (take at t), h .0)
+
+    other : outSeen t at ≡ failed (length t) → outSeen t 2561 ≡ addC w false (outSeen t at)
+    other e = rw (e, seen-failed t, add-failed w false (length t))
+
+-- ---- `put`
+pub put-step : (b : List ℕ) (at : ℕ) (w : List ℕ) (i : ℕ) → i < length w → sets b (at + i) (drop i w) ≡ sets (set b (at + i) (getD w i 0)) (at + (i + 1)) (drop (i + 1) w)
+put-step b at w i h = rw (add-one i, add-suc at i, drop-cons w i 0 h)
+
+-- no room
+pub put-none : (t w : List ℕ) (at : ℕ) → 2560 < at + length w → outSeen t 2561 ≡ addC w true (outSeen t at)
+put-none t w at h = ⊎-elim in-room other (shows t at)
+  where
+    other : outSeen t at ≡ failed (length t) → outSeen t 2561 ≡ addC w true (outSeen t at)
+    other e = rw (e, seen-failed t, add-failed w true (length t))
+
+    in-room : (length t ≡ 2560) × (at ≤ 2560) → outSeen t 2561 ≡ addC w true (outSeen t at)
+    in-room g =
+        let k : 2560 < length (take at t) + length w = omega (arith, length-take-le at t (omega arith)) in
+        rw (seen-failed t, seen-wrote t at (g .0) (g .1), add-full w (take at t) true k, g .0)
+
+-- the bytes w stand from `at` on
+pub put-all : (t w : List ℕ) (at : ℕ) → at + length w ≤ 2560 → outSeen (sets t at w) (at + length w) ≡ addC w true (outSeen t at)
+put-all t w at h = by (eqb (length t) 2560) refl
+  where
+    by : (b : Bool) → eqb (length t) 2560 ≡ b → outSeen (sets t at w) (at + length w) ≡ addC w true (outSeen t at)
+    by true p =
+        let g : length t ≡ 2560 = eqb-true (length t) 2560 p in
+        let a : at ≤ 2560 = omega arith in
+        let n : length (take at t) ≡ at = length-take-le at t (omega arith) in
+        let k : length (take at t) + length w ≤ 2560 = omega arith in
+        let f : at + length w ≤ length t = omega arith in
+        let e : length (take at t ++ w) ≡ at + length w = omega (arith, length-append (take at t) w) in
+        let s : length (sets t at w) ≡ 2560 = length-sets t at w ∙ g in
+        rw (seen-wrote (sets t at w) (at + length w) s h, seen-wrote t at g a, add-fits w (take at t) k, sets-eq w t at f, take-at (take at t ++ w) (drop (at + length w) t) (at + length w) e)
+    by false p =
+        let e : length t ≡ 2560 → ⊥ = eqb-false (length t) 2560 p in
+        let f : length (sets t at w) ≡ 2560 → ⊥ = λ q. e (sym (length-sets t at w) ∙ q) in
+        rw (seen-other (sets t at w) (at + length w) f, seen-other t at e, add-failed w true (length t), length-sets t at w)
+
+-- ---- `copy`
+-- one byte more
+pub copy-step : (r t : List ℕ) (n i : ℕ) → i < n → n ≤ length t → sets r i (take (n - i) (drop i t)) ≡ sets (set r i (getD t i 0)) (i + 1) (take (n - (i + 1)) (drop (i + 1) t))
+copy-step r t n i h g =
+    let e : n - i ≡ suc (n - (i + 1)) = omega arith in
+    rw (e, drop-cons t i 0 (omega arith), add-one i)
+
+-- no byte left
+pub copy-end : (r t : List ℕ) (n i : ℕ) → n ≤ i → sets r i (take (n - i) (drop i t)) ≡ r
+copy-end r t n i h = let e : n - i ≡ 0 = omega arith in rw e
+
+-- ---- `all_words`
+module _ (f : ℕ → Bool) (d : List ℕ) (i : ℕ) where
+  pub all-step : i < length d → f (getD d i 0) ≡ true → all f (drop (i + 1) d) ≡ all f (drop i d)
+  all-step h e = rw (add-one i, drop-cons d i 0 h, e)
+
+  pub all-stop : i < length d → f (getD d i 0) ≡ false → false ≡ all f (drop i d)
+  all-stop h e = rw (drop-cons d i 0 h, e)
+
+  pub all-end : length d ≤ i → true ≡ all f (drop i d)
+  all-end h = rw (drop-of-length-le d h)

@@ -1,0 +1,45 @@
+-- Writing, step by step, into a buffer of 2,560 bytes: more than any statement has. Assumes nothing.
+use Prim.Native.Nat.{ℕ, _+_}
+use mathlib.Core.List.{List, [], _∷_, _++_}
+use mathlib.Core.Bool.{Bool, true, false, _&&_, _||_}
+use lib.ListN.{length, take}
+use lib.Seq.{sets}
+use lib.Dec.{leb, eqb}
+use Rattle.tokens.specs.declared.Name.{Name}
+use Rattle.tokens.specs.Bytes.{pick}
+use Rattle.tokens.specs.Names.{isName}
+use Rattle.statement.specs.declared.Statement.{Statement}
+use Rattle.statement.specs.declared.Opcode.{Opcode}
+use Rattle.statement.specs.declared.Written.{Written}
+use Rattle.statement.specs.declared.Written.the-variants.{Length, Refused}
+use Rattle.statement.specs.Forms.{word, Values, row}
+use Rattle.statement.specs.Canonical.{rowText, rowGiven, textOf, given}
+
+-- what is written so far; or that a value was not such as reading gives, or that there was no room, in a buffer of that length
+pub data Out : Type 0 where
+  wrote : List ℕ → Out
+  failed : ℕ → Out
+
+-- what the first bytes of a buffer are; a position over 2,560 says that writing failed
+unfoldable pub outSeen : List ℕ → ℕ → Out
+outSeen t at = pick (eqb (length t) 2560 && leb at 2560) (wrote (take at t)) (failed (length t))
+
+-- the bytes w, if they are given and there is room; what failed stays so
+unfoldable pub addC : List ℕ → Bool → Out → Out
+addC w b (wrote l) = pick (b && leb (length l + length w) 2560) (wrote (l ++ w)) (failed 2560)
+addC w b (failed n) = failed n
+
+-- an opcode's word and its operands; `b`: what more has to hold
+abbrev pub formC : (o : Opcode) → Values (row o) → Bool → Out → Out
+formC o v b s = addC (word o ++ rowText (row o) v) (b && rowGiven (row o) v) s
+
+-- the two halves of a packed name, without the zeros that lead: a full first one or no second one, and a name's bytes
+unfoldable pub halvesGiven : List ℕ → List ℕ → Bool
+halvesGiven x y = (eqb (length x) 8 || eqb (length y) 0) && isName (x ++ y)
+
+-- ---- what the writer answers, and what the room holds then
+unfoldable pub writtenOf : ℕ → Statement → List Name → Written
+writtenOf n t regs = pick (given t regs && leb (length (textOf t regs)) n) (Length (length (textOf t regs))) (Refused 19)
+
+unfoldable pub leftBy : List ℕ → Statement → List Name → List ℕ
+leftBy old t regs = pick (given t regs && leb (length (textOf t regs)) (length old)) (sets old 0 (textOf t regs)) old

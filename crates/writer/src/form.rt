@@ -1,0 +1,212 @@
+// Forms, put into a buffer: the opcode's word, the operands, and the semicolon.
+use instruction::Kind;
+use statement::Access;
+use statement::Address;
+use statement::Metadata;
+use statement::Mma;
+use statement::Num;
+use statement::Shape;
+use tokens::Name;
+ghost use mathlib.Core.Path.{_≡_};
+ghost use mathlib.Core.Bool.{true, false};
+ghost use mathlib.Core.List.{_++_};
+ghost use lib.ListN.{length, take};
+ghost use lib.Dec.{eqb};
+ghost use Rattle.statement.specs.declared.Opcode.the-variants as opcode;
+ghost use Rattle.statement.specs.declared.Statement.the-variants as statement;
+ghost use Rattle.statement.specs.Text.{bytes};
+ghost use Rattle.statement.specs.Forms.{word, shapeText, numText, kindText, option};
+ghost use Rattle.statement.specs.Canonical.{opcodeOf, mmaValues};
+ghost use Rattle.statement.specs.Reading.{paired};
+ghost use Rattle.writer.specs.Outputs.{outSeen, addC, formC};
+
+pub fn mov32(t: &mut [u8; 2560], at: usize, n: Name, v: u32) -> usize
+    ensures { λ r. ⌜ outSeen (now (t .exit)) r ≡ formC (opcode.Mov32) (n, (v, tt)) true (outSeen (now (t .entry)) at) ⌝ }
+{
+    let a = crate::output::put(t, at, b"mov.b32 ");
+    let b = crate::output::name(t, a, n);
+    let c = crate::output::put(t, b, b", ");
+    let d = crate::output::number(t, c, v as u64, 0xffff_ffff);
+    crate::output::put(t, d, b";")
+}
+
+pub fn mov64(t: &mut [u8; 2560], at: usize, n: Name, v: u64) -> usize
+    ensures { λ r. ⌜ outSeen (now (t .exit)) r ≡ formC (opcode.Mov64) (n, (v, tt)) true (outSeen (now (t .entry)) at) ⌝ }
+{
+    let a = crate::output::put(t, at, b"mov.b64 ");
+    let b = crate::output::name(t, a, n);
+    let c = crate::output::put(t, b, b", ");
+    let d = crate::output::number(t, c, v, 0xffff_ffff_ffff_ffff);
+    crate::output::put(t, d, b";")
+}
+
+pub fn dealloc(t: &mut [u8; 2560], at: usize, n: Name, v: u32) -> usize
+    ensures { λ r. ⌜ outSeen (now (t .exit)) r ≡ formC (opcode.Dealloc) (n, (v, tt)) true (outSeen (now (t .entry)) at) ⌝ }
+{
+    let a = crate::output::put(t, at, b"tcgen05.dealloc.cta_group::1.sync.aligned.b32 ");
+    let b = crate::output::name(t, a, n);
+    let c = crate::output::put(t, b, b", ");
+    let d = crate::output::number(t, c, v as u64, 0xffff_ffff);
+    crate::output::put(t, d, b";")
+}
+
+pub fn alloc(t: &mut [u8; 2560], at: usize, n: Name, v: u32) -> usize
+    ensures { λ r. ⌜ outSeen (now (t .exit)) r ≡ formC (opcode.Alloc false) (n, (v, tt)) true (outSeen (now (t .entry)) at) ⌝ }
+{
+    let a = crate::output::put(t, at, b"tcgen05.alloc.cta_group::1.sync.aligned.b32 ");
+    let b = crate::operand::brackets(t, a, n);
+    let c = crate::output::put(t, b, b", ");
+    let d = crate::output::number(t, c, v as u64, 0xffff_ffff);
+    crate::output::put(t, d, b";")
+}
+
+pub fn shape_text(t: &mut [u8; 2560], at: usize, shape: Shape) -> usize
+    ensures { λ r. ⌜ outSeen (now (t .exit)) r ≡ addC (shapeText shape) true (outSeen (now (t .entry)) at) ⌝ }
+{
+    match shape {
+        Shape::S32x32 => crate::output::put(t, at, b".32x32b"),
+        Shape::S16x64 => crate::output::put(t, at, b".16x64b"),
+        Shape::S16x128 => crate::output::put(t, at, b".16x128b"),
+        Shape::S16x256 => crate::output::put(t, at, b".16x256b"),
+    }
+}
+
+pub fn num_text(t: &mut [u8; 2560], at: usize, num: Num) -> usize
+    ensures { λ r. ⌜ outSeen (now (t .exit)) r ≡ addC (numText num) true (outSeen (now (t .entry)) at) ⌝ }
+{
+    match num {
+        Num::X1 => crate::output::put(t, at, b".x1"),
+        Num::X2 => crate::output::put(t, at, b".x2"),
+        Num::X4 => crate::output::put(t, at, b".x4"),
+        Num::X8 => crate::output::put(t, at, b".x8"),
+        Num::X16 => crate::output::put(t, at, b".x16"),
+        Num::X32 => crate::output::put(t, at, b".x32"),
+        Num::X64 => crate::output::put(t, at, b".x64"),
+        Num::X128 => crate::output::put(t, at, b".x128"),
+    }
+}
+
+pub fn kind_text(t: &mut [u8; 2560], at: usize, kind: Kind) -> usize
+    ensures { λ r. ⌜ outSeen (now (t .exit)) r ≡ addC (kindText kind) true (outSeen (now (t .entry)) at) ⌝ }
+{
+    match kind {
+        Kind::F16 => crate::output::put(t, at, b"f16"),
+        Kind::Tf32 => crate::output::put(t, at, b"tf32"),
+        Kind::F8f6f4 => crate::output::put(t, at, b"f8f6f4"),
+        Kind::I8 => crate::output::put(t, at, b"i8"),
+    }
+}
+
+// A part that may be left out.
+pub fn option_text(t: &mut [u8; 2560], at: usize, b: bool, w: &[u8]) -> usize
+    ensures { λ r. ⌜ outSeen (now (t .exit)) r ≡ addC (option b (now (w .entry))) true (outSeen (now (t .entry)) at) ⌝ }
+{
+    if b {
+        return crate::output::put(t, at, w);
+    }
+    crate::output::put(t, at, b"")
+}
+
+// The word of a ld or st, which starts with w, and a space.
+pub fn access_word(t: &mut [u8; 2560], at: usize, w: &[u8], shape: Shape, num: Num) -> usize
+    ensures { λ r. ⌜ outSeen (now (t .exit)) r ≡ addC ((now (w .entry) ++ (shapeText shape ++ (numText num ++ bytes ".b32"))) ++ bytes " ") true (outSeen (now (t .entry)) at) ⌝ }
+{
+    let a = crate::output::put(t, at, w);
+    let b = shape_text(t, a, shape);
+    let c = num_text(t, b, num);
+    crate::output::put(t, c, b".b32 ")
+}
+
+pub fn load(t: &mut [u8; 2560], at: usize, a: Access, hi: &[u64], lo: &[u64]) -> usize
+    ensures { λ r. ⌜ outSeen (now (t .exit)) r ≡ formC (opcode.Load (a .shape) (a .num)) (paired (take (a .registers) (now (hi .entry))) (take (a .registers) (now (lo .entry))), (a .address, tt)) (eqb (a .registers) (length (paired (take (a .registers) (now (hi .entry))) (take (a .registers) (now (lo .entry)))))) (outSeen (now (t .entry)) at) ⌝ }
+{
+    let shape = a.shape;
+    let num = a.num;
+    let x = a.address;
+    let b = access_word(t, at, b"tcgen05.ld.sync.aligned", shape, num);
+    let c = crate::operand::names(t, b, hi, lo, a.registers);
+    let d = crate::output::put(t, c, b", ");
+    let e = crate::operand::address(t, d, x);
+    crate::output::put(t, e, b";")
+}
+
+pub fn store(t: &mut [u8; 2560], at: usize, a: Access, hi: &[u64], lo: &[u64]) -> usize
+    ensures { λ r. ⌜ outSeen (now (t .exit)) r ≡ formC (opcode.Store (a .shape) (a .num)) (a .address, (paired (take (a .registers) (now (hi .entry))) (take (a .registers) (now (lo .entry))), tt)) (eqb (a .registers) (length (paired (take (a .registers) (now (hi .entry))) (take (a .registers) (now (lo .entry)))))) (outSeen (now (t .entry)) at) ⌝ }
+{
+    let shape = a.shape;
+    let num = a.num;
+    let x = a.address;
+    let b = access_word(t, at, b"tcgen05.st.sync.aligned", shape, num);
+    let c = crate::operand::address(t, b, x);
+    let d = crate::output::put(t, c, b", ");
+    let e = crate::operand::names(t, d, hi, lo, a.registers);
+    crate::output::put(t, e, b";")
+}
+
+// The word of an mma, and a space.
+pub fn mma_word(t: &mut [u8; 2560], at: usize, ws: bool, sp: bool, kind: Kind) -> usize
+    ensures { λ r. ⌜ outSeen (now (t .exit)) r ≡ addC (word (opcode.Multiply ws sp kind) ++ bytes " ") true (outSeen (now (t .entry)) at) ⌝ }
+{
+    let a = crate::output::put(t, at, b"tcgen05.mma");
+    let b = option_text(t, a, ws, b".ws");
+    let c = option_text(t, b, sp, b".sp");
+    let d = crate::output::put(t, c, b".cta_group::1.kind::");
+    let e = kind_text(t, d, kind);
+    crate::output::put(t, e, b" ")
+}
+
+pub fn dense(t: &mut [u8; 2560], at: usize, m: Mma) -> usize
+    ensures { λ r. ⌜ outSeen (now (t .exit)) r ≡ formC (opcode.Multiply (m .ws) false (m .kind)) (m .d, (m .a, (m .b, (m .idesc, (m .predicate, tt))))) true (outSeen (now (t .entry)) at) ⌝ }
+{
+    let kind = m.kind;
+    let d = m.d;
+    let a = m.a;
+    let b = m.b;
+    let i = m.idesc;
+    let p = m.predicate;
+    let k1 = mma_word(t, at, m.ws, false, kind);
+    let k2 = crate::operand::address(t, k1, d);
+    let k3 = crate::output::put(t, k2, b", ");
+    let k4 = crate::operand::operand(t, k3, a);
+    let k5 = crate::output::put(t, k4, b", ");
+    let k6 = crate::output::name(t, k5, b);
+    let k7 = crate::output::put(t, k6, b", ");
+    let k8 = crate::output::name(t, k7, i);
+    let k9 = crate::output::put(t, k8, b", ");
+    let k10 = crate::output::name(t, k9, p);
+    crate::output::put(t, k10, b";")
+}
+
+pub fn sparse(t: &mut [u8; 2560], at: usize, m: Mma, e: Address) -> usize
+    ensures { λ r. ⌜ outSeen (now (t .exit)) r ≡ formC (opcode.Multiply (m .ws) true (m .kind)) (m .d, (m .a, (m .b, (e, (m .idesc, (m .predicate, tt)))))) true (outSeen (now (t .entry)) at) ⌝ }
+{
+    let kind = m.kind;
+    let d = m.d;
+    let a = m.a;
+    let b = m.b;
+    let i = m.idesc;
+    let p = m.predicate;
+    let k1 = mma_word(t, at, m.ws, true, kind);
+    let k2 = crate::operand::address(t, k1, d);
+    let k3 = crate::output::put(t, k2, b", ");
+    let k4 = crate::operand::operand(t, k3, a);
+    let k5 = crate::output::put(t, k4, b", ");
+    let k6 = crate::output::name(t, k5, b);
+    let k7 = crate::output::put(t, k6, b", ");
+    let x1 = crate::operand::address(t, k7, e);
+    let x2 = crate::output::put(t, x1, b", ");
+    let k8 = crate::output::name(t, x2, i);
+    let k9 = crate::output::put(t, k8, b", ");
+    let k10 = crate::output::name(t, k9, p);
+    crate::output::put(t, k10, b";")
+}
+
+pub fn multiply(t: &mut [u8; 2560], at: usize, m: Mma) -> usize
+    ensures { λ r. ⌜ outSeen (now (t .exit)) r ≡ formC (opcodeOf (statement.Multiply m)) (mmaValues m (m .metadata)) true (outSeen (now (t .entry)) at) ⌝ }
+{
+    let x = m.metadata;
+    match x {
+        Metadata::Dense => dense(t, at, m),
+        Metadata::Sparse(e) => sparse(t, at, m, e),
+    }
+}

@@ -1,0 +1,93 @@
+// Operands, put into a buffer.
+use statement::Address;
+use statement::Operand;
+use tokens::Name;
+ghost use mathlib.Core.Path.{_≡_};
+ghost use mathlib.Core.Bool.{_&&_};
+ghost use lib.ListN.{length, take};
+ghost use lib.Dec.{leb, eqb};
+ghost use Rattle.tokens.specs.Names.{nameBytes, nameGiven};
+ghost use Rattle.statement.specs.Forms.{max32, inBrackets, names};
+ghost use Rattle.statement.specs.Canonical.{slotText, slotGiven, offsetText, addressText, addressGiven, operandText, operandGiven, namesText};
+ghost use Rattle.statement.specs.Reading.{paired};
+ghost use Rattle.writer.specs.Outputs.{outSeen, addC};
+
+// [name]
+pub fn brackets(t: &mut [u8; 2560], at: usize, n: Name) -> usize
+    ensures { λ r. ⌜ outSeen (now (t .exit)) r ≡ addC (slotText inBrackets n) (nameGiven n) (outSeen (now (t .entry)) at) ⌝ }
+{
+    let a = crate::output::put(t, at, b"[");
+    let b = crate::output::name(t, a, n);
+    crate::output::put(t, b, b"]")
+}
+
+// +number, or nothing for 0.
+pub fn offset(t: &mut [u8; 2560], at: usize, v: u32) -> usize
+    ensures { λ r. ⌜ outSeen (now (t .exit)) r ≡ addC (offsetText v) (leb v max32) (outSeen (now (t .entry)) at) ⌝ }
+{
+    if v == 0 {
+        return at;
+    }
+    let a = crate::output::put(t, at, b"+");
+    crate::output::number(t, a, v as u64, 0xffff_ffff)
+}
+
+pub fn address(t: &mut [u8; 2560], at: usize, x: Address) -> usize
+    ensures { λ r. ⌜ outSeen (now (t .exit)) r ≡ addC (addressText x) (addressGiven x) (outSeen (now (t .entry)) at) ⌝ }
+{
+    let base = x.base;
+    let a = crate::output::put(t, at, b"[");
+    let b = crate::output::name(t, a, base);
+    let c = offset(t, b, x.offset);
+    crate::output::put(t, c, b"]")
+}
+
+pub fn operand(t: &mut [u8; 2560], at: usize, x: Operand) -> usize
+    ensures { λ r. ⌜ outSeen (now (t .exit)) r ≡ addC (operandText x) (operandGiven x) (outSeen (now (t .entry)) at) ⌝ }
+{
+    match x {
+        Operand::Descriptor(n) => crate::output::name(t, at, n),
+        Operand::Address(a) => address(t, at, a),
+    }
+}
+
+// {names}: count of them, which both lists have.
+pub fn names(t: &mut [u8; 2560], at: usize, hi: &[u64], lo: &[u64], count: usize) -> usize
+    ensures { λ r. ⌜ outSeen (now (t .exit)) r ≡ addC (namesText (paired (take count (now (hi .entry))) (take count (now (lo .entry))))) (eqb count (length (paired (take count (now (hi .entry))) (take count (now (lo .entry))))) && slotGiven names (paired (take count (now (hi .entry))) (take count (now (lo .entry))))) (outSeen (now (t .entry)) at) ⌝ }
+{
+    if count == 0 {
+        return crate::output::FAILED;
+    }
+    if 128 < count {
+        return crate::output::FAILED;
+    }
+    if hi.len() < count {
+        return crate::output::FAILED;
+    }
+    if lo.len() < count {
+        return crate::output::FAILED;
+    }
+    let o = crate::output::put(t, at, b"{");
+    let mut k = crate::output::name(
+        t,
+        o,
+        Name {
+            hi: hi[0],
+            lo: lo[0],
+        },
+    );
+    let mut i = 1;
+    while i < count {
+        let c = crate::output::put(t, k, b", ");
+        k = crate::output::name(
+            t,
+            c,
+            Name {
+                hi: hi[i],
+                lo: lo[i],
+            },
+        );
+        i += 1;
+    }
+    crate::output::put(t, k, b"}")
+}

@@ -1,0 +1,123 @@
+// Bytes, numbers and names, put into a buffer. A position over 2,560 says that writing failed.
+use tokens::Name;
+ghost use mathlib.Core.Path.{_≡_};
+ghost use mathlib.Core.Bool.{true};
+ghost use Prim.Native.Nat.{_≤_};
+ghost use lib.ListN.{length, take, drop};
+ghost use lib.Seq.{sets};
+ghost use lib.Dec.{leb};
+ghost use Rattle.tokens.specs.Names.{nameGiven, nameBytes, lowBytes, strip};
+ghost use Rattle.tokens.specs.Bytes.{wordByte, all};
+ghost use Rattle.tokens.specs.Numbers.{decimal};
+ghost use Rattle.writer.specs.Outputs.{outSeen, addC, halvesGiven};
+
+// Where writing failed.
+pub const FAILED: usize = 2561;
+
+// The first n bytes of t, to the first places of room.
+pub fn copy(room: &mut [u8], t: &[u8; 2560], n: usize)
+    requires { ⌜ (n ≤ length (now room)) × (length (now t) ≡ 2560) × (n ≤ 2560) ⌝ }
+    ensures { λ r. ⌜ now (room .exit) ≡ sets (now (room .entry)) 0 (take n (now (t .entry))) ⌝ }
+{
+    let mut i = 0;
+    while i < n {
+        room[i] = t[i];
+        i += 1;
+    }
+}
+
+// The bytes w, if there is room.
+pub fn put(t: &mut [u8; 2560], at: usize, w: &[u8]) -> usize
+    ensures { λ r. ⌜ outSeen (now (t .exit)) r ≡ addC (now (w .entry)) true (outSeen (now (t .entry)) at) ⌝ }
+{
+    let n = w.len();
+    if 2560 < n {
+        return FAILED;
+    }
+    if 2560 - n < at {
+        return FAILED;
+    }
+    let mut i = 0;
+    while i < n {
+        t[at + i] = w[i];
+        i += 1;
+    }
+    at + n
+}
+
+// A number up to a limit, in decimal.
+pub fn number(t: &mut [u8; 2560], at: usize, v: u64, limit: u64) -> usize
+    ensures { λ r. ⌜ outSeen (now (t .exit)) r ≡ addC (decimal v) (leb v limit) (outSeen (now (t .entry)) at) ⌝ }
+{
+    if limit < v {
+        return FAILED;
+    }
+    let mut out = [48u8; 20];
+    out[19] = 48 + (v % 10) as u8;
+    let mut i = 19;
+    let mut w = v / 10;
+    while w != 0 {
+        i -= 1;
+        out[i] = 48 + (w % 10) as u8;
+        w = w / 10;
+    }
+    put(t, at, &out[i..])
+}
+
+// The bytes of v at the end of out, the highest first and no zero before it; answers where they begin.
+pub fn spread(out: &mut [u8; 8], v: u64) -> usize
+    requires { ⌜ length (now out) ≡ 8 ⌝ }
+    ensures { λ r. ⌜ (r ≤ 8) × (length (now (out .exit)) ≡ 8) × (drop r (now (out .exit)) ≡ strip (lowBytes 8 v)) ⌝ }
+{
+    let mut i = 8;
+    let mut w = v;
+    while w != 0 {
+        i -= 1;
+        out[i] = (w % 256) as u8;
+        w = w / 256;
+    }
+    i
+}
+
+// Whether each byte from a position on is a word byte.
+pub fn all_words(d: &[u8; 8], from: usize) -> bool
+    requires { ⌜ length (now d) ≡ 8 ⌝ }
+    ensures { λ r. ⌜ r ≡ all wordByte (drop from (now (d .entry))) ⌝ }
+{
+    let mut i = from;
+    while i < 8 {
+        if !lexer::bytes::is_word(d[i]) {
+            return false;
+        }
+        i += 1;
+    }
+    true
+}
+
+// Whether the bytes of h from a on, and those of l from b on, are the halves of a packed name.
+pub fn halves(h: &[u8; 8], a: usize, l: &[u8; 8], b: usize) -> bool
+    requires { ⌜ (length (now h) ≡ 8) × (length (now l) ≡ 8) × (b ≤ 8) ⌝ }
+    ensures { λ r. ⌜ r ≡ halvesGiven (drop a (now (h .entry))) (drop b (now (l .entry))) ⌝ }
+{
+    if 8 <= a {
+        return false;
+    }
+    let full = (a == 0) | (b == 8);
+    let n = 7 - a + (8 - b);
+    full & (lexer::name::shaped(h[a], n) & (all_words(h, a + 1) & all_words(l, b)))
+}
+
+// A name, if it is such as reading gives.
+pub fn name(t: &mut [u8; 2560], at: usize, n: Name) -> usize
+    ensures { λ r. ⌜ outSeen (now (t .exit)) r ≡ addC (nameBytes n) (nameGiven n) (outSeen (now (t .entry)) at) ⌝ }
+{
+    let mut h = [0u8; 8];
+    let mut l = [0u8; 8];
+    let a = spread(&mut h, n.hi);
+    let b = spread(&mut l, n.lo);
+    if !halves(&h, a, &l, b) {
+        return FAILED;
+    }
+    let m = put(t, at, &h[a..]);
+    put(t, m, &l[b..])
+}

@@ -1,0 +1,315 @@
+//! Statements: each text is read and written in its canonical form by both sides, in rooms of several lengths.
+
+use staplehorn_difftest::counts::Counts;
+use staplehorn_difftest::proved;
+use staplehorn_difftest::random::Random;
+use staplehorn_reference::statement as reference;
+
+/// What stands in the room before a call, to see what was touched.
+const BEFORE: u8 = 0xA5;
+const ROOM: usize = 4096;
+
+/// Compares both sides on one text.
+struct Comparison {
+    counts: Counts,
+    ours: Vec<u8>,
+    theirs: Vec<u8>,
+}
+
+impl Comparison {
+    fn new() -> Self {
+        Comparison { counts: Counts::new(), ours: vec![BEFORE; ROOM], theirs: vec![BEFORE; ROOM] }
+    }
+
+    /// The canonical text in a room of `room` bytes: answer, length, and every byte of the room and past it.
+    fn canonical(&mut self, text: &[u8], room: usize) -> usize {
+        let (reason, length) = proved::statement_canonical(text, &mut self.ours[..room]);
+        let theirs = match reference::canonical(text, &mut self.theirs[..room]) {
+            Ok(n) => (0, n),
+            Err(reason) => (reason, 0),
+        };
+        let same = self.ours[..room] == self.theirs[..room];
+        self.counts.compare("canonical", theirs.0, (reason, length, same), (theirs.0, theirs.1, true), || shown(text));
+        let used = length.max(theirs.1).min(room);
+        self.ours[..used].fill(BEFORE);
+        self.theirs[..used].fill(BEFORE);
+        if self.ours[..room.min(64)].iter().any(|&b| b != BEFORE) {
+            self.ours[..room].fill(BEFORE);
+        }
+        theirs.1
+    }
+
+    fn text(&mut self, text: &[u8]) {
+        let read = reference::read(text);
+        let reason = match &read {
+            Ok(s) => reference::registers_reason(s),
+            Err(reason) => *reason,
+        };
+        self.counts.compare("reason", reason, proved::statement_reason(text), reason, || shown(text));
+        if let Ok(s) = &read {
+            self.counts.seen("form", reference::form(s));
+        }
+        let length = self.canonical(text, ROOM);
+        if length > 0 {
+            self.canonical(text, length);
+            self.canonical(text, length - 1);
+        }
+    }
+}
+
+fn shown(text: &[u8]) -> String {
+    format!("{:?} ({} bytes)", String::from_utf8_lossy(&text[..text.len().min(300)]), text.len())
+}
+
+const SHAPES: [&str; 4] = ["32x32b", "16x64b", "16x128b", "16x256b"];
+const KINDS: [&str; 4] = ["f16", "tf32", "f8f6f4", "i8"];
+const HEADS: &[u8] = b"abcdefghijklmnopqrstuvwxyzABCDEFGHIJKLMNOPQRSTUVWXYZ";
+const INNER: &[u8] = b"abcdefghijklmnopqrstuvwxyzABCDEFGHIJKLMNOPQRSTUVWXYZ0123456789_$";
+
+fn name(r: &mut Random) -> String {
+    let sigil = r.below(4) == 0;
+    let first = if sigil { r.pick(b"_$%") } else { r.pick(HEADS) };
+    let longest = if r.below(8) == 0 { 16 } else { 5 };
+    let more = if sigil { 1 + r.below(longest - 1) } else { r.below(longest) };
+    std::iter::once(first).chain((0..more).map(|_| r.pick(INNER))).map(char::from).collect()
+}
+
+/// A number in one of its spellings; `over` asks for one past the limit's end.
+fn number(r: &mut Random, wide: bool, over: bool) -> String {
+    let limit = if wide { u64::MAX } else { u64::from(u32::MAX) };
+    let value: u128 = if over {
+        u128::from(limit) + 1 + u128::from(r.below(1000))
+    } else {
+        match r.below(6) {
+            0 => 0,
+            1 => u128::from(limit),
+            2 => u128::from(r.below(1 << 20)),
+            3 => 1 << r.below(32),
+            _ => u128::from(r.next() & limit),
+        }
+    };
+    match r.below(5) {
+        0 => format!("0x{value:x}"),
+        1 => format!("0X{value:X}"),
+        2 => format!("0x{}{value:x}", "0".repeat(r.below(30) as usize)),
+        _ => format!("{value}"),
+    }
+}
+
+fn list(r: &mut Random, tokens: &mut Vec<String>, count: u64) {
+    tokens.push("{".into());
+    for i in 0..count {
+        if i > 0 {
+            tokens.push(",".into());
+        }
+        tokens.push(name(r));
+    }
+    tokens.push("}".into());
+}
+
+fn address(r: &mut Random, tokens: &mut Vec<String>, over: bool) {
+    tokens.extend(["[".into(), name(r)]);
+    if over || r.below(3) > 0 {
+        tokens.extend(["+".into(), number(r, false, over)]);
+    }
+    tokens.push("]".into());
+}
+
+/// The tokens of a statement of a form, the opcode first. `over` puts one number out of range where the form has one.
+fn statement(r: &mut Random, form: u64, over: bool) -> Vec<String> {
+    let mut t: Vec<String> = Vec::new();
+    let comma = || String::from(",");
+    match form {
+        0 | 1 => {
+            t.extend([if form == 0 { "mov.b32" } else { "mov.b64" }.into(), name(r), comma(), number(r, form == 1, over)]);
+        }
+        2 => {
+            let shared = r.pick(&["", ".shared::cta"]);
+            t.extend([format!("tcgen05.alloc.cta_group::1.sync.aligned{shared}.b32"), "[".into(), name(r), "]".into(), comma(), number(r, false, over)]);
+        }
+        3 => t.extend(["tcgen05.dealloc.cta_group::1.sync.aligned.b32".into(), name(r), comma(), number(r, false, over)]),
+        4 => t.push("tcgen05.relinquish_alloc_permit.cta_group::1.sync.aligned".into()),
+        5 | 6 => {
+            let shape = r.below(4) as usize;
+            let power = r.below(8);
+            let wanted = (1u64 << power) * [1, 1, 2, 4][shape];
+            let count = match r.below(8) {
+                0 => 1 + r.below(128),
+                1 => r.pick(&[1, 127, 128, 129]),
+                _ => wanted.min(130),
+            };
+            let op = if form == 5 { "ld" } else { "st" };
+            t.push(format!("tcgen05.{op}.sync.aligned.{}.x{}.b32", SHAPES[shape], 1 << power));
+            if form == 5 {
+                list(r, &mut t, count);
+                t.push(comma());
+                address(r, &mut t, over);
+            } else {
+                address(r, &mut t, over);
+                t.push(comma());
+                list(r, &mut t, count);
+            }
+        }
+        7 => t.push("tcgen05.wait::ld.sync.aligned".into()),
+        8 => t.push("tcgen05.wait::st.sync.aligned".into()),
+        9 => t.push("tcgen05.fence::before_thread_sync".into()),
+        10 => t.push("tcgen05.fence::after_thread_sync".into()),
+        11 => {
+            let (ws, sp) = (r.pick(&["", ".ws"]), r.pick(&["", ".sp"]));
+            t.push(format!("tcgen05.mma{ws}{sp}.cta_group::1.kind::{}", r.pick(&KINDS)));
+            let far = if over { r.below(3) } else { 9 };
+            address(r, &mut t, far == 0);
+            t.push(comma());
+            if far == 1 || r.below(2) == 0 {
+                address(r, &mut t, far == 1);
+            } else {
+                t.push(name(r));
+            }
+            t.extend([comma(), name(r)]);
+            if !sp.is_empty() {
+                t.push(comma());
+                address(r, &mut t, far == 2);
+            }
+            t.extend([comma(), name(r), comma(), name(r)]);
+        }
+        _ => t.push("exit".into()),
+    }
+    t.push(";".into());
+    t
+}
+
+/// Two tokens side by side that would run into one another need a space.
+fn glued(a: &str, b: &str) -> bool {
+    let inner = |c: char| c.is_ascii_alphanumeric() || c == '_' || c == '$';
+    let opcode = |c: char| c.is_ascii_alphanumeric() || matches!(c, '_' | '.' | ':');
+    a.contains("tcgen05") && b.starts_with(opcode) || a.ends_with(inner) && b.starts_with(inner)
+}
+
+/// The text of tokens with some number of spaces before each but the first.
+fn spaced(tokens: &[String], mut spaces: impl FnMut(usize) -> usize) -> Vec<u8> {
+    let mut text = String::new();
+    for (i, token) in tokens.iter().enumerate() {
+        if i > 0 {
+            let n = spaces(i).max(usize::from(glued(&tokens[i - 1], token) || tokens[i - 1].starts_with("mov.") || tokens[i - 1] == "exit" && token != ";"));
+            text.extend(std::iter::repeat_n(' ', n));
+        }
+        text.push_str(token);
+    }
+    text.into_bytes()
+}
+
+/// Each way to leave a token out, double one, or exchange two neighbours, and a space in each place.
+fn changes(c: &mut Comparison, tokens: &[String]) {
+    for i in 0..tokens.len() {
+        let mut less = tokens.to_vec();
+        less.remove(i);
+        c.text(&spaced(&less, |_| 1));
+        let mut more = tokens.to_vec();
+        more.insert(i, tokens[i].clone());
+        c.text(&spaced(&more, |_| 1));
+        if i + 1 < tokens.len() {
+            let mut other = tokens.to_vec();
+            other.swap(i, i + 1);
+            c.text(&spaced(&other, |_| 1));
+        }
+        c.text(&spaced(tokens, |j| 3 * usize::from(i == j)));
+    }
+}
+
+/// One byte exchanged, left out or put in, anywhere.
+fn damage(c: &mut Comparison, r: &mut Random, text: &[u8]) {
+    if text.is_empty() {
+        return;
+    }
+    let mut t = text.to_vec();
+    let at = r.below(t.len() as u64) as usize;
+    let byte = if r.below(3) == 0 { r.next() as u8 } else { r.pick(b" ;,[]{}+0x19aZ_$%.:\t\n~") };
+    match r.below(3) {
+        0 => t[at] = byte,
+        1 => {
+            t.remove(at);
+        }
+        _ => t.insert(at, byte),
+    }
+    c.text(&t);
+}
+
+/// Lengths at their limits.
+fn limits(c: &mut Comparison) {
+    for n in 14..20 {
+        for head in ["r", "_", "%", "$"] {
+            c.text(format!("mov.b32 {head}{}, 1;", "a".repeat(n - 1)).as_bytes());
+        }
+    }
+    for n in [1, 2, 126, 127, 128, 129, 130, 400] {
+        let names = vec!["r"; n].join(", ");
+        c.text(format!("tcgen05.ld.sync.aligned.32x32b.x128.b32 {{{names}}}, [t];").as_bytes());
+        c.text(format!("tcgen05.st.sync.aligned.16x64b.x1.b32 [t+1], {{{names}}};").as_bytes());
+    }
+    for n in 4080..4110 {
+        let blanks = " ".repeat(n - "exit;".len());
+        c.text(format!("exit{blanks};").as_bytes());
+        c.text(format!("mov.b64 x, {};", "9".repeat(n - "mov.b64 x, ;".len())).as_bytes());
+        c.text(format!("mov.b64 x, 0x{}1;", "0".repeat(n - "mov.b64 x, 0x1;".len())).as_bytes());
+    }
+    for edge in ["4294967295", "4294967296", "18446744073709551615", "18446744073709551616", "0xffffffff", "0x100000000", "0xFFFFFFFFFFFFFFFF", "0x10000000000000000", "00", "064", "0x", "0X", "0b1", "64U", "-1", "+1", "0"] {
+        c.text(format!("mov.b32 x, {edge};").as_bytes());
+        c.text(format!("mov.b64 x, {edge};").as_bytes());
+        c.text(format!("tcgen05.alloc.cta_group::1.sync.aligned.b32 [t], {edge};").as_bytes());
+        c.text(format!("tcgen05.ld.sync.aligned.32x32b.x1.b32 {{r}}, [t+{edge}];").as_bytes());
+        c.text(format!("mov.b32 x, {edge}").as_bytes());
+        c.text(format!("mov.b32 x, {edge};;").as_bytes());
+    }
+    for n in 0..=300 {
+        c.text(format!("tcgen05.ld.sync.aligned.32x32b.x{n}.b32 {{r}}, [t];").as_bytes());
+        c.text(format!("tcgen05.ld.sync.aligned.16x{n}b.x1.b32 {{r}}, [t];").as_bytes());
+        c.text(format!("tcgen05.mma.cta_group::{n}.kind::f16 [d], a, b, i, p;").as_bytes());
+    }
+    for byte in 0..=255u8 {
+        for text in [&b"exit"[..], b"exit;", b"mov.b32 x,1;"] {
+            for at in 0..=text.len() {
+                let mut t = text.to_vec();
+                t.insert(at, byte);
+                c.text(&t);
+            }
+        }
+    }
+}
+
+pub fn run() -> bool {
+    let mut c = Comparison::new();
+    let mut r = Random::new(2);
+    limits(&mut c);
+    for turn in 0..16_000u64 {
+        for form in 0..13 {
+            let over = r.below(6) == 0;
+            let tokens = statement(&mut r, form, over);
+            let text = spaced(&tokens, |_| 1);
+            c.text(&text);
+            let mut blanks = Random::new(turn * 13 + form);
+            c.text(&spaced(&tokens, |_| blanks.below(4) as usize));
+            for _ in 0..2 {
+                damage(&mut c, &mut r, &text);
+            }
+            if turn % 40 == 0 && tokens.len() < 60 || turn % 2000 == 0 {
+                changes(&mut c, &tokens);
+            }
+        }
+        // bytes that are no statement
+        let n = r.below(40) as usize;
+        let noise: Vec<u8> = (0..n).map(|_| if turn % 2 == 0 { r.next() as u8 } else { r.pick(b"exit mov.b32 tcgen05;,[]{}+0x1") }).collect();
+        c.text(&noise);
+    }
+    let mut wanted = vec![
+        ("reason", 0, 200_000),
+        ("reason", 3, 200_000),
+        ("reason", 4, 20_000),
+        ("reason", 5, 5_000),
+        ("canonical", 0, 400_000),
+        ("canonical", 3, 200_000),
+        ("canonical", 4, 20_000),
+        ("canonical", 19, 200_000),
+    ];
+    wanted.extend((0..13).map(|form| ("form", form, 10_000)));
+    c.counts.finish("statements", &wanted)
+}
