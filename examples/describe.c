@@ -22,8 +22,8 @@ static void opcode(const char *text, uint32_t *kind, uint32_t *ws, uint32_t *sp)
     *ws = *sp = 0;
     for (*kind = 0; *kind < 4; ++*kind) {
         size_t n = strlen(KINDS[*kind]);
-        const char *rest = text + n;
         if (strncmp(text, KINDS[*kind], n) != 0) continue;
+        const char *rest = text + n;
         if (strncmp(rest, ".ws", 3) == 0) *ws = 1, rest += 3;
         if (strncmp(rest, ".sp", 3) == 0) *sp = 1, rest += 3;
         if (*rest == '\0') return;

@@ -1,8 +1,9 @@
 /*
- * Staplehorn: tcgen05 descriptor words, read and written by proved functions.
+ * Staplehorn: tcgen05 descriptor words and statements, read and written by proved functions.
  *
- * Every function returns a reason: 0 for good, else the number given beside it. On a refusal each out-parameter holds
- * zeros. Arrays have the sizes written here; no function keeps a pointer. Any numbers may be passed.
+ * Every function returns a reason: 0 for good, else the number given beside it. Arrays have the sizes written here. A
+ * pointer is aligned and not null, and what one call writes overlaps nothing else that it is lent; no function keeps a
+ * pointer. Any numbers and any bytes may be passed.
  *
  * An opcode is three numbers: kind 0 f16, 1 tf32, 2 f8f6f4, 3 i8; ws and sp, 0 or 1, say whether `.ws` and `.sp`
  * stand. Any other number is refused with 12.
@@ -10,11 +11,14 @@
 #ifndef STAPLEHORN_H
 #define STAPLEHORN_H
 
+#include <stddef.h>
 #include <stdint.h>
 
 #ifdef __cplusplus
 extern "C" {
 #endif
+
+/* Words. On a refusal each out-parameter holds zeros. */
 
 /* The fields of an instruction descriptor, in the order of its bits. Types are codes, flags 0 or 1, n and m the real N
    and M. */
@@ -74,6 +78,19 @@ uint32_t staplehorn_shared_encode(const uint64_t fields[STAPLEHORN_SHARED_FIELDS
 
 /* 0 if a request for that many columns is legal, else 9. */
 uint32_t staplehorn_request(uint32_t columns);
+
+/* Statements. */
+
+/* The reason of a statement's text by itself: 3 no form matches, 4 a number is too large, 5 N is over the shape's largest
+   or the count of registers differs; else 0. At most 4,096 bytes; a longer text is 3. */
+uint32_t staplehorn_statement_reason(const uint8_t *text, size_t text_length);
+
+/* The canonical text of a statement: one space after the opcode and after each comma, decimals, no `+0` and no
+   `.shared::cta`. Its length goes to *length and its bytes to the first places of room; the places past it are left as
+   they are. 3 or 4 if the text does not read, 19 if the room is too short: then *length is 0 and room is left as it is.
+   2,560 bytes are room for any statement. */
+uint32_t staplehorn_statement_canonical(const uint8_t *text, size_t text_length, uint8_t *room, size_t room_length,
+                                        size_t *length);
 
 #ifdef __cplusplus
 }

@@ -34,6 +34,13 @@ pub struct Opcode {
     pub sp: u32,
 }
 
+impl Opcode {
+    /// One number for each of the sixteen opcodes.
+    pub fn number(self) -> u32 {
+        self.kind * 4 + self.sp * 2 + self.ws
+    }
+}
+
 pub fn instruction_decode(o: Opcode, word: u32) -> (u32, [u32; 13]) {
     let mut fields = [UNTOUCHED; 13];
     let reason = unsafe { c::staplehorn_instruction_decode(o.kind, o.ws, o.sp, word, &mut fields) };

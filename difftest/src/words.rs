@@ -24,6 +24,9 @@ fn word(counts: &mut Counts, (o, kind, ws, sp): (Opcode, Kind, bool, bool), w: u
     counts.compare("instruction decode", theirs.0, proved::instruction_decode(o, w), theirs, || format!("{o:?} {w:#010x}"));
     let reason = reference::judge_word(kind, ws, sp, w);
     counts.compare("instruction judge", reason, proved::instruction_judge(o, w), reason, || format!("{o:?} {w:#010x}"));
+    if reason == 0 {
+        counts.seen("opcodes judged 0", o.number());
+    }
 }
 
 /// Fields under an opcode: their word, and whether it is listed.
@@ -40,6 +43,9 @@ fn fields(counts: &mut Counts, (o, kind, ws, sp): (Opcode, Kind, bool, bool), f:
         Err(reason) => reason,
     };
     counts.compare("instruction listed", listed, proved::instruction_listed(o, &f), listed, || format!("{o:?} {f:?}"));
+    if listed == 0 {
+        counts.seen("opcodes listed", o.number());
+    }
 }
 
 /// Words that read, under each opcode: a valid choice for every field.
@@ -71,14 +77,25 @@ fn valid_word(r: &mut Random, kind: Kind, ws: bool, sp: bool) -> u32 {
     w | if ws { (r.below(4) as u32) << 30 } else { 0 }
 }
 
+/// A word with two equal types of the kind that are listed, sparse where `.sp` stands; no N, M or dtype yet.
+fn listed_base(kind: Kind, sp: bool) -> u32 {
+    let code = if kind == Kind::Tf32 { 2 } else { 0 };
+    code << 7 | code << 10 | u32::from(sp) << 2
+}
+
+/// The dtype that goes with these types.
+fn listed_dtype(kind: Kind) -> u32 {
+    if kind == Kind::I8 { 2 } else { 1 }
+}
+
 fn instructions(counts: &mut Counts, r: &mut Random) {
     for opcode in opcodes() {
         // every combination of bits 0 to 16, at N 64 and M 128
         for low in 0..1 << 17 {
             word(counts, opcode, low | 8 << 17 | 8 << 24);
         }
-        // all N, M and dtypes, and each fixed bit
-        let base = valid_word(r, opcode.1, opcode.2, opcode.3) & !(0x1FF << 17 | 0x3F << 24 | 3 << 4);
+        // all N, M and dtypes, with types that are listed
+        let base = listed_base(opcode.1, opcode.3);
         for shape in 0..1u32 << 13 {
             let (n, m, dtype) = (shape & 63, shape >> 6 & 31, shape >> 11);
             word(counts, opcode, base | n << 17 | m << 24 | dtype << 4);
@@ -134,7 +151,7 @@ fn field_sets(counts: &mut Counts, r: &mut Random) {
             }
             fields(counts, opcode, changed);
         }
-        let w = valid_word(r, kind, ws, sp);
+        let w = listed_base(kind, sp) | listed_dtype(kind) << 4;
         let f = reference::decode_instruction(kind, ws, sp, w).expect("a valid word reads").to_array();
         // all N and M, and those between
         for n in 0..=600 {
@@ -253,9 +270,7 @@ pub fn run() -> bool {
     wrong_opcodes(&mut counts, &mut r);
     shared(&mut counts, &mut r);
     requests(&mut counts, &mut r);
-    counts.finish(
-        "words",
-        &[
+    let mut wanted = vec![
             ("instruction decode", 0, 100_000),
             ("instruction decode", 12, 100_000),
             ("instruction judge", 0, 20_000),
@@ -275,6 +290,12 @@ pub fn run() -> bool {
             ("shared encode", 12, 50_000),
             ("request", 0, 10),
             ("request", 9, 100_000),
-        ],
-    )
+    ];
+    for (o, _, ws, _) in opcodes() {
+        // every listed shape of the opcode at least once: three by three with `.ws`, else 32 N (18 for i8) by two M
+        let shapes = if ws { 9 } else if o.kind == 3 { 36 } else { 64 };
+        wanted.push(("opcodes judged 0", o.number(), shapes));
+        wanted.push(("opcodes listed", o.number(), shapes));
+    }
+    counts.finish("words", &wanted)
 }

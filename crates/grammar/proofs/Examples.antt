@@ -20,11 +20,11 @@ words-hold = (refl, (refl, (refl, (refl, (refl, (refl, (refl, (refl, (refl, (ref
 
 pub numbers-hold : All numbers
 unfolding readOf registersOf wholeC answerOf operandsC rowC moreRowC nameC numberC inBracketsC offsetC insideC addressC operandC moreC namesC endC markC recognise candidate tcgen05By mmaBy kindBy shapeOf numOf shapeBy numBy word opcodeByte wordByte letter afterBlanks blank tokenOf tokenLen afterToken isName sigil packed isNumber valueOf hexMark zeroLed someDigits isDigit digitOf
-numbers-hold = (refl, (refl, (refl, (refl, (refl, (refl, (refl, (refl, (refl, (refl, (refl, (refl, (refl, (refl, (refl, (refl, (refl, (refl, tt))))))))))))))))))
+numbers-hold = (refl, (refl, (refl, (refl, (refl, (refl, (refl, (refl, (refl, (refl, (refl, (refl, (refl, (refl, (refl, (refl, (refl, (refl, (refl, tt)))))))))))))))))))
 
 pub forms-hold : All forms
 unfolding readOf registersOf wholeC answerOf operandsC rowC moreRowC nameC numberC inBracketsC offsetC insideC addressC operandC moreC namesC endC markC recognise candidate tcgen05By mmaBy kindBy shapeOf numOf shapeBy numBy word opcodeByte wordByte letter afterBlanks blank tokenOf tokenLen afterToken isName sigil packed isNumber valueOf hexMark zeroLed someDigits isDigit digitOf
-forms-hold = (refl, (refl, (refl, (refl, (refl, (refl, (refl, (refl, (refl, (refl, (refl, (refl, (refl, (refl, (refl, (refl, tt))))))))))))))))
+forms-hold = (refl, (refl, (refl, (refl, (refl, (refl, (refl, (refl, (refl, (refl, (refl, (refl, (refl, (refl, (refl, (refl, (refl, (refl, tt))))))))))))))))))
 
 pub places-hold : All places
 unfolding readOf registersOf wholeC answerOf operandsC rowC moreRowC nameC numberC inBracketsC offsetC insideC addressC operandC moreC namesC endC markC recognise candidate tcgen05By mmaBy kindBy shapeOf numOf shapeBy numBy word opcodeByte wordByte letter afterBlanks blank tokenOf tokenLen afterToken isName sigil packed isNumber valueOf hexMark zeroLed someDigits isDigit digitOf

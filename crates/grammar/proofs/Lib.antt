@@ -7,5 +7,7 @@ pub mod Back
 pub mod Short
 pub mod Trip
 pub mod Stops
+pub mod Overs
 pub mod Places
+pub mod Theorems
 pub mod Examples

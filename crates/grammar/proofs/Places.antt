@@ -1,4 +1,4 @@
--- The place of reason 3 is that of the first token at which no form can go on: an opcode's operands are read as a row of tokens is, and such a row stops there. Assumes nothing.
+-- The place of reason 3 is that of the first token at which no statement can go on, that of reason 4 the first at which none with its numbers in range can: an opcode's operands are read as a row of tokens is, and such a row stops there. Assumes nothing.
 use Prim.Native.Nat.{ℕ, zero, suc, _-_, _≤_, _<_}
 use native.Mathlib.Omega.{arith}
 use mathlib.Core.Path.{_≡_, refl, sym, ap, _∙_}
@@ -7,12 +7,12 @@ use mathlib.Core.Bool.{Bool, true, false, _&&_, true≢false}
 use lib.ListN.{length, getD, take, drop, length-append, length-drop, take-append-drop}
 use lib.Seq.{take-append-seam, drop-append-seam, take-at}
 use lib.Dec.{leb, eqb}
-use borrow.Author.Tests.{eq-eqb, eqb-true, le-leb}
+use borrow.Author.Tests.{eq-eqb, eqb-true, le-leb, not-false}
 use Rattle.tokens.specs.declared.Name.{Name}
 use Rattle.tokens.specs.Bytes.{pick, letter, wordByte, opcodeByte, blank, runLen, afterBlanks, tokenLen, tokenOf, afterToken}
 use Rattle.tokens.specs.Names.{isName, packed, noName}
 use Rattle.tokens.specs.Numbers.{digitOf, isDigit, hexMark, zeroLed, someDigits, isNumber, valueOf}
-use Rattle.tokens.specs.Cursors.{Rest, on, off, large, Took, markHere, markC, endC, nameHere, nameC, numberIs, numberHere, numberC}
+use Rattle.tokens.specs.Cursors.{Rest, on, off, Took, markHere, markC, endC, nameC, numberC}
 use Rattle.statement.specs.declared.Operand.the-variants as operand
 use Rattle.statement.specs.declared.Statement.{Statement}
 use Rattle.statement.specs.declared.Opcode.{Opcode}
@@ -22,12 +22,13 @@ use Rattle.statement.specs.declared.Reading.the-variants.{Got, Refused}
 use Rattle.statement.specs.Forms.{Slot, name, number, inBrackets, address, operand, names, max32, row, Whole, word, make}
 use Rattle.statement.specs.Opcodes.{recognise}
 use Rattle.statement.specs.Reading.{inBracketsC, offsetC, insideC, addressC, operandC, moreC, namesC, slotC, moreRowC, rowC, operandsC, start, opcodeLen, wholeBy, wholeC, answerOf, readOf}
-use Rattle.statement.specs.Spells.{Spells}
-use Rattle.grammar.specs.Claims.{After, here, past, Stops, Place}
+use Rattle.statement.specs.Spells.{Spells, sized}
+use Rattle.grammar.specs.Claims.{After, here, past, Stops, Place, Over, One}
 use Rattle.grammar.proofs.Opcodes.{recognised, recognises}
 use Rattle.grammar.proofs.Rows.{row-sound}
-use Rattle.grammar.proofs.Exact.{whole-at, spells-met}
+use Rattle.grammar.proofs.Exact.{whole-at, Met, spells-met}
 use Rattle.grammar.proofs.Lexing.{never, starts, token-parts}
+use Rattle.grammar.proofs.Overs.{whole-far}
 use Rattle.grammar.proofs.Stops.{Stand, good, bad, Kind, Row, end, one, branch, reads, takes, Good, Stop, stop, head-none, run-stops, same-head, heads, lights, token-ends, token-replay}
 
 -- ---- a reader of one token, and a row of them
@@ -52,46 +53,33 @@ unfolding reads
 fold-at f g l true = fold-by g (f .test (tokenOf (afterBlanks l))) (afterToken (afterBlanks l)) (afterBlanks l)
 fold-at f g l false = refl
 
--- a reader and then g reads as h does
-abbrev As : (Rest → Rest) → Row → Row → Type 0
-As x g h = (r : Rest) → run g (stand (x r)) ≡ run h (stand r)
-
--- a reader reads one token of a kind
-abbrev Token : (Rest → Rest) → Kind → Type 0
-Token x f = (r : Rest) → stand (x r) ≡ sticky f (stand r)
-
-by : (f : Kind) (x : Rest → Rest) → Token x f → (g : Row) → As x g (one f g)
-by f x law g r = ap (run g) (law r) ∙ fold-at f g (r .rest) (r .ok)
-
 -- at a token of the kind one way, at any other the other
-taken-at : (f : Kind) (g h : Row) (l : List ℕ) (b : Bool) → sticky f (record { rest = l; ok = b }) .ok ≡ true → run (one f g) (record { rest = l; ok = b }) ≡ run (branch f g h) (record { rest = l; ok = b })
+taken-at : (f : Kind) (g h : Row) (l : List ℕ) (b : Bool) → (b ≡ true → sticky f (record { rest = l; ok = b }) .ok ≡ true) → run (one f g) (record { rest = l; ok = b }) ≡ run (branch f g h) (record { rest = l; ok = b })
 unfolding reads
-taken-at f g h l true e = go (f .test (tokenOf (afterBlanks l))) e
+taken-at f g h l true e = go (f .test (tokenOf (afterBlanks l))) (e refl)
   where
     go : (v : Bool) → pick v (good (afterToken (afterBlanks l))) (bad (afterBlanks l)) .ok ≡ true
         → pick v (reads g (afterToken (afterBlanks l))) (bad (afterBlanks l)) ≡ pick v (reads g (afterToken (afterBlanks l))) (reads h l)
     go true k = refl
     go false k = never k
-taken-at f g h l false e = never e
+taken-at f g h l false e = refl
 
-passed-at : (f : Kind) (g h : Row) (l : List ℕ) (b : Bool) → sticky f (record { rest = l; ok = b }) .ok ≡ false → run h (record { rest = l; ok = b }) ≡ run (branch f g h) (record { rest = l; ok = b })
+passed-at : (f : Kind) (g h : Row) (l : List ℕ) (b : Bool) → (b ≡ true → sticky f (record { rest = l; ok = b }) .ok ≡ false) → run h (record { rest = l; ok = b }) ≡ run (branch f g h) (record { rest = l; ok = b })
 unfolding reads
-passed-at f g h l true e = go (f .test (tokenOf (afterBlanks l))) e
+passed-at f g h l true e = go (f .test (tokenOf (afterBlanks l))) (e refl)
   where
     go : (v : Bool) → pick v (good (afterToken (afterBlanks l))) (bad (afterBlanks l)) .ok ≡ false → reads h l ≡ pick v (reads g (afterToken (afterBlanks l))) (reads h l)
     go true k = never (sym k)
     go false k = refl
 passed-at f g h l false e = refl
 
-module _ (f : Kind) (m x y : Rest → Rest) (g h k : Row) (law : Token m f) (p : As x k g) (q : As y k h) where
-  either-at : (r : Rest) (b : Bool) → m r .ok ≡ b → run k (stand (pick b (x (m r)) (y r))) ≡ run (branch f g h) (stand r)
-  either-at r true e = p (m r) ∙ (by f m law g r ∙ taken-at f g h (r .rest) (r .ok) (sym (ap (λ (s : Stand). s .ok) (law r)) ∙ e))
-  either-at r false e = q r ∙ passed-at f g h (r .rest) (r .ok) (sym (ap (λ (s : Stand). s .ok) (law r)) ∙ e)
+-- ---- marks and names
+-- a reader of one token of a kind that leaves it alone what was too large
+record Plain (x : Rest → Rest) (f : Kind) : Type 0 where
+  token : (r : Rest) → stand (x r) ≡ sticky f (stand r)
+  over : (r : Rest) → x r .over ≡ r .over
+  far : (r : Rest) → x r .far ≡ r .far
 
-  either : As (λ r. pick (m r .ok) (x (m r)) (y r)) k (branch f g h)
-  either r = either-at r (m r .ok) refl
-
--- ---- marks
 module _ (m : ℕ) (z : eqb 0 m ≡ false) (d : blank m ≡ false) (n : starts m ≡ false) where
   markKind : Kind
   markKind = record { test = λ w. eqb (getD w 0 0) m; none = z; wit = m; fits = eq-eqb m m refl; dark = d }
@@ -105,13 +93,30 @@ module _ (m : ℕ) (z : eqb 0 m ≡ false) (d : blank m ≡ false) (n : starts m
       go true e = let q : starts x ≡ false = ap starts (eqb-true x m e) ∙ n in rw q
       go false e = refl
 
-  mark-token : Token (markC m) markKind
+  mark-token : (r : Rest) → stand (markC m r) ≡ sticky markKind (stand r)
   unfolding markC
   mark-token r = go (r .ok) refl
     where
       go : (v : Bool) → r .ok ≡ v → stand (pick v (markHere m r (afterBlanks (r .rest))) r) ≡ pick v (first markKind (afterBlanks (r .rest))) (stand r)
       go true e = mark-first r (afterBlanks (r .rest))
       go false e = refl
+
+-- what was too large stays
+mark-kept : (m : ℕ) (r : Rest) → (markC m r .over ≡ r .over) × (markC m r .far ≡ r .far)
+unfolding markC
+mark-kept m r = go (r .ok) (afterBlanks (r .rest))
+  where
+    by-head : (v : Bool) (x : ℕ) (l : List ℕ) → (pick v (on r l) (off r (x ∷ l)) .over ≡ r .over) × (pick v (on r l) (off r (x ∷ l)) .far ≡ r .far)
+    by-head true x l = (refl, refl)
+    by-head false x l = (refl, refl)
+
+    go : (v : Bool) (b : List ℕ) → (pick v (markHere m r b) r .over ≡ r .over) × (pick v (markHere m r b) r .far ≡ r .far)
+    go true [] = (refl, refl)
+    go true (x ∷ l) = by-head (eqb x m) x l
+    go false b = (refl, refl)
+
+plain-mark : (m : ℕ) (f : Kind) → ((r : Rest) → stand (markC m r) ≡ sticky f (stand r)) → Plain (markC m) f
+plain-mark m f law = record { token = law; over = λ r. mark-kept m r .0; far = λ r. mark-kept m r .1 }
 
 comma : Kind
 unfolding blank wordByte letter
@@ -141,249 +146,349 @@ semicolon : Kind
 unfolding blank wordByte letter
 semicolon = markKind 59 refl refl refl
 
-comma-token : Token (markC 44) comma
+comma-plain : Plain (markC 44) comma
 unfolding comma blank wordByte letter
-comma-token = mark-token 44 refl refl refl
+comma-plain = plain-mark 44 comma (mark-token 44 refl refl refl)
 
-opening-token : Token (markC 91) opening
+opening-plain : Plain (markC 91) opening
 unfolding opening blank wordByte letter
-opening-token = mark-token 91 refl refl refl
+opening-plain = plain-mark 91 opening (mark-token 91 refl refl refl)
 
-closing-token : Token (markC 93) closing
+closing-plain : Plain (markC 93) closing
 unfolding closing blank wordByte letter
-closing-token = mark-token 93 refl refl refl
+closing-plain = plain-mark 93 closing (mark-token 93 refl refl refl)
 
-plus-token : Token (markC 43) plus
+plus-plain : Plain (markC 43) plus
 unfolding plus blank wordByte letter
-plus-token = mark-token 43 refl refl refl
+plus-plain = plain-mark 43 plus (mark-token 43 refl refl refl)
 
-brace-token : Token (markC 123) brace
+brace-plain : Plain (markC 123) brace
 unfolding brace blank wordByte letter
-brace-token = mark-token 123 refl refl refl
+brace-plain = plain-mark 123 brace (mark-token 123 refl refl refl)
 
-unbrace-token : Token (markC 125) unbrace
+unbrace-plain : Plain (markC 125) unbrace
 unfolding unbrace blank wordByte letter
-unbrace-token = mark-token 125 refl refl refl
+unbrace-plain = plain-mark 125 unbrace (mark-token 125 refl refl refl)
 
-semicolon-token : Token (markC 59) semicolon
+semicolon-plain : Plain (markC 59) semicolon
 unfolding semicolon blank wordByte letter
-semicolon-token = mark-token 59 refl refl refl
+semicolon-plain = plain-mark 59 semicolon (mark-token 59 refl refl refl)
 
--- ---- names and numbers
 nameKind : Kind
 unfolding isName letter blank
 nameKind = record { test = isName; none = refl; wit = 97; fits = refl; dark = refl }
 
-name-first : (r : Rest) (b : List ℕ) → stand (nameHere r b .next) ≡ first nameKind b
-unfolding nameKind
-name-first r b = go (isName (tokenOf b))
+abbrev nameNext : Rest → Rest
+nameNext r = nameC r .next
+
+name-plain : Plain nameNext nameKind
+unfolding nameC nameKind
+name-plain =
+    record {
+      token = λ r. token-by (isName (tokenOf (afterBlanks (r .rest)))) (r .ok) r;
+      over = λ r. over-by (isName (tokenOf (afterBlanks (r .rest)))) (r .ok) r;
+      far = λ r. far-by (isName (tokenOf (afterBlanks (r .rest)))) (r .ok) r;
+    }
   where
-    go : (v : Bool) → stand (pick {A = Took Name} v (record { value = packed (tokenOf b); next = on r (afterToken b) }) (record { value = noName; next = off r b }) .next) ≡ pick v (good (afterToken b)) (bad b)
-    go true = refl
-    go false = refl
+    took : Bool → Bool → Rest → Took Name
+    took v k r =
+        pick k (pick v (record { value = packed (tokenOf (afterBlanks (r .rest))); next = on r (afterToken (afterBlanks (r .rest))) }) (record { value = noName; next = off r (afterBlanks (r .rest)) }))
+        (record { value = noName; next = r })
 
-name-token : Token (λ r. nameC r .next) nameKind
-unfolding nameC
-name-token r = go (r .ok) refl
-  where
-    go : (v : Bool) → r .ok ≡ v → stand (pick {A = Took Name} v (nameHere r (afterBlanks (r .rest))) (record { value = noName; next = r }) .next) ≡ pick v (first nameKind (afterBlanks (r .rest))) (stand r)
-    go true e = name-first r (afterBlanks (r .rest))
-    go false e = refl
+    token-by : (v k : Bool) (r : Rest) → stand (took v k r .next) ≡ pick k (pick v (good (afterToken (afterBlanks (r .rest)))) (bad (afterBlanks (r .rest)))) (stand r)
+    token-by true true r = refl
+    token-by false true r = refl
+    token-by v false r = refl
 
-numberKind : Kind
-unfolding isNumber hexMark zeroLed someDigits isDigit digitOf blank
-numberKind = record { test = isNumber; none = refl; wit = 48; fits = refl; dark = refl }
+    over-by : (v k : Bool) (r : Rest) → took v k r .next .over ≡ r .over
+    over-by true true r = refl
+    over-by false true r = refl
+    over-by v false r = refl
 
-number-past : (limit : ℕ) (r : Rest) (b : List ℕ) (v : ℕ) → stand (numberIs limit r b v .next) ≡ good (afterToken b)
-number-past limit r b v = go (leb v limit)
-  where
-    go : (c : Bool) → stand (pick {A = Took ℕ} c (record { value = v; next = on r (afterToken b) }) (record { value = 0; next = large r b }) .next) ≡ good (afterToken b)
-    go true = refl
-    go false = refl
+    far-by : (v k : Bool) (r : Rest) → took v k r .next .far ≡ r .far
+    far-by true true r = refl
+    far-by false true r = refl
+    far-by v false r = refl
 
-number-first : (limit : ℕ) (r : Rest) (b : List ℕ) → stand (numberHere limit r b .next) ≡ first numberKind b
-unfolding numberKind
-number-first limit r b = go (isNumber (tokenOf b))
-  where
-    go : (v : Bool) → stand (pick {A = Took ℕ} v (numberIs limit r b (valueOf (tokenOf b))) (record { value = 0; next = off r b }) .next) ≡ pick v (good (afterToken b)) (bad b)
-    go true = number-past limit r b (valueOf (tokenOf b))
-    go false = refl
+-- ---- with numbers of any size, or, strict, as if reading had stopped at the first number that is too large
+numberTest : Bool → ℕ → List ℕ → Bool
+numberTest strict limit w = pick (isNumber w) (pick strict (leb (valueOf w) limit) true) false
 
-number-token : (limit : ℕ) → Token (λ r. numberC limit r .next) numberKind
-unfolding numberC
-number-token limit r = go (r .ok) refl
-  where
-    go : (v : Bool) → r .ok ≡ v → stand (pick {A = Took ℕ} v (numberHere limit r (afterBlanks (r .rest))) (record { value = 0; next = r }) .next) ≡ pick v (first numberKind (afterBlanks (r .rest))) (stand r)
-    go true e = number-first limit r (afterBlanks (r .rest))
-    go false e = refl
+module _ (strict : Bool) where
+  abbrev view : Rest → Stand
+  view r = pick (strict && r .over) (bad (r .far)) (stand r)
 
--- ---- the end
+  -- a reader and then g reads as h does
+  abbrev As : (Rest → Rest) → Row → Row → Type 0
+  As x g h = (r : Rest) → run g (view (x r)) ≡ run h (view r)
+
+  abbrev Token : (Rest → Rest) → Kind → Type 0
+  Token x f = (r : Rest) → view (x r) ≡ sticky f (view r)
+
+  by : (f : Kind) (x : Rest → Rest) → Token x f → (g : Row) → As x g (one f g)
+  by f x law g r = ap (run g) (law r) ∙ fold-at f g (view r .rest) (view r .ok)
+
+  plain-token : (f : Kind) (x : Rest → Rest) → Plain x f → Token x f
+  plain-token f x p r = ap (λ (o : Bool). pick (strict && o) (bad (x r .far)) (stand (x r))) (p .over r) ∙ go (strict && r .over)
+    where
+      go : (c : Bool) → pick c (bad (x r .far)) (stand (x r)) ≡ sticky f (pick c (bad (r .far)) (stand r))
+      go true = ap bad (p .far r)
+      go false = p .token r
+
+  simple : (f : Kind) (x : Rest → Rest) → Plain x f → (g : Row) → As x g (one f g)
+  simple f x p = by f x (plain-token f x p)
+
+  -- where reading goes on, the mark tells
+  told : (f : Kind) (m : Rest → Rest) → Plain m f → (r : Rest) (b : Bool) → m r .ok ≡ b → view r .ok ≡ true → sticky f (view r) .ok ≡ b
+  told f m p r b e h = go (strict && r .over) refl h
+    where
+      go : (c : Bool) → (strict && r .over) ≡ c → pick c (bad (r .far)) (stand r) .ok ≡ true → sticky f (pick c (bad (r .far)) (stand r)) .ok ≡ b
+      go true q k = never k
+      go false q k = sym (ap (λ (s : Stand). s .ok) (p .token r)) ∙ e
+
+  either-at : (f : Kind) (m x y : Rest → Rest) (g h k : Row) → Plain m f → As x k g → As y k h → (r : Rest) (b : Bool) → m r .ok ≡ b → run k (view (pick b (x (m r)) (y r))) ≡ run (branch f g h) (view r)
+  either-at f m x y g h k l p q r true e = p (m r) ∙ (simple f m l g r ∙ taken-at f g h (view r .rest) (view r .ok) (told f m l r true e))
+  either-at f m x y g h k l p q r false e = q r ∙ passed-at f g h (view r .rest) (view r .ok) (told f m l r false e)
+
+  either : (f : Kind) (m x y : Rest → Rest) (g h k : Row) → Plain m f → As x k g → As y k h → As (λ r. pick (m r .ok) (x (m r)) (y r)) k (branch f g h)
+  either f m x y g h k l p q r = either-at f m x y g h k l p q r (m r .ok) refl
+
+  -- ---- numbers
+  number-fits : (limit : ℕ) → numberTest strict limit (48 ∷ []) ≡ true
+  unfolding numberTest isNumber hexMark zeroLed someDigits isDigit digitOf valueOf
+  number-fits limit = go strict
+    where
+      go : (s : Bool) → pick s (leb 0 limit) true ≡ true
+      go true = le-leb 0 limit (omega arith)
+      go false = refl
+
+  numberKind : ℕ → Kind
+  unfolding numberTest isNumber hexMark zeroLed someDigits isDigit digitOf blank
+  numberKind limit = record { test = numberTest strict limit; none = refl; wit = 48; fits = number-fits limit; dark = refl }
+
+number-at : (s k o n c : Bool) (limit : ℕ) (l f : List ℕ) → isNumber (tokenOf (afterBlanks l)) ≡ n → leb (valueOf (tokenOf (afterBlanks l))) limit ≡ c
+    → view s (numberC limit (record { rest = l; ok = k; over = o; far = f }) .next) ≡ sticky (numberKind s limit) (view s (record { rest = l; ok = k; over = o; far = f }))
+unfolding numberC numberKind numberTest
+number-at false false o n c limit l f p q = refl
+number-at false true o false c limit l f p q = rw p
+number-at false true o true true limit l f p q = rw (p, q)
+number-at false true o true false limit l f p q = rw (p, q)
+number-at true false true n c limit l f p q = refl
+number-at true false false n c limit l f p q = refl
+number-at true true true false c limit l f p q = rw p
+number-at true true true true true limit l f p q = rw (p, q)
+number-at true true true true false limit l f p q = rw (p, q)
+number-at true true false false c limit l f p q = rw p
+number-at true true false true true limit l f p q = rw (p, q)
+number-at true true false true false limit l f p q = rw (p, q)
+
+abbrev numberNext : ℕ → Rest → Rest
+numberNext limit r = numberC limit r .next
+
 end-by : (l : List ℕ) (b c : Bool) → _≡_ {A = Stand} (record { rest = l; ok = b && c }) (pick b (pick c (good l) (bad l)) (record { rest = l; ok = b }))
 end-by l true true = refl
 end-by l true false = refl
 end-by l false c = refl
 
-end-row : (r : Rest) → stand (endC r) ≡ run (one semicolon end) (stand r)
-unfolding endC reads
-end-row r = end-by (markC 59 r .rest) (markC 59 r .ok) (eqb (length (markC 59 r .rest)) 0) ∙ by semicolon (markC 59) semicolon-token end r
-
--- ---- operands
 next-pick : {A : Type 0} (b : Bool) (p q : Took A) → pick b p q .next ≡ pick b (p .next) (q .next)
 next-pick true p q = refl
 next-pick false p q = refl
 
-abbrev bracketRow : Row → Row
-bracketRow g = one opening (one nameKind (one closing g))
+module _ (s : Bool) where
+  number-row : (limit : ℕ) (g : Row) → As s (numberNext limit) g (one (numberKind s limit) g)
+  number-row limit =
+      by s (numberKind s limit) (numberNext limit)
+      (λ r. number-at s (r .ok) (r .over) (isNumber (tokenOf (afterBlanks (r .rest)))) (leb (valueOf (tokenOf (afterBlanks (r .rest)))) limit) limit (r .rest) (r .far) refl refl)
 
-bracket-row : (g : Row) → As (λ r. inBracketsC r .next) g (bracketRow g)
-unfolding inBracketsC
-bracket-row g r =
-    let a = markC 91 r in
-    let n = nameC a .next in
-    by closing (markC 93) closing-token g n ∙ (by nameKind (λ x. nameC x .next) name-token (one closing g) a ∙ by opening (markC 91) opening-token (one nameKind (one closing g)) r)
+  name-row : (g : Row) → As s nameNext g (one nameKind g)
+  name-row = simple s nameKind nameNext name-plain
 
-abbrev offsetRow : Row → Row
-offsetRow g = branch plus (one numberKind g) g
+  -- ---- the end
+  end-row : (r : Rest) → view s (endC r) ≡ run (one semicolon end) (view s r)
+  unfolding endC reads
+  end-row r = go (s && markC 59 r .over) ∙ simple s semicolon (markC 59) semicolon-plain end r
+    where
+      d : Rest
+      d = markC 59 r
 
-offset-row : (g : Row) → As (λ r. offsetC r .next) g (offsetRow g)
-unfolding offsetC
-offset-row g r =
-    ap (λ (x : Rest). run g (stand x)) (next-pick (markC 43 r .ok) (numberC max32 (markC 43 r)) (record { value = 0; next = r }))
-    ∙ either plus (markC 43) (λ x. numberC max32 x .next) (λ x. x) (one numberKind g) g g plus-token (by numberKind (λ x. numberC max32 x .next) (number-token max32) g) (λ x. refl) r
+      go : (c : Bool) → pick c (bad (d .far)) (record { rest = d .rest; ok = d .ok && eqb (length (d .rest)) 0 }) ≡ run end (pick c (bad (d .far)) (stand d))
+      go true = refl
+      go false = end-by (d .rest) (d .ok) (eqb (length (d .rest)) 0)
 
-abbrev insideRow : Row → Row
-insideRow g = one nameKind (offsetRow (one closing g))
+  -- ---- operands
+  abbrev bracketRow : Row → Row
+  bracketRow g = one opening (one nameKind (one closing g))
 
-inside-row : (g : Row) → As (λ r. insideC r .next) g (insideRow g)
-unfolding insideC
-inside-row g r =
-    let n = nameC r .next in
-    by closing (markC 93) closing-token g (offsetC n .next) ∙ (offset-row (one closing g) n ∙ by nameKind (λ x. nameC x .next) name-token (offsetRow (one closing g)) r)
+  bracket-row : (g : Row) → As s (λ r. inBracketsC r .next) g (bracketRow g)
+  unfolding inBracketsC
+  bracket-row g r =
+      let a = markC 91 r in
+      simple s closing (markC 93) closing-plain g (nameNext a) ∙ (name-row (one closing g) a ∙ simple s opening (markC 91) opening-plain (one nameKind (one closing g)) r)
 
-abbrev addressRow : Row → Row
-addressRow g = one opening (insideRow g)
+  abbrev offsetRow : Row → Row
+  offsetRow g = branch plus (one (numberKind s max32) g) g
 
-address-row : (g : Row) → As (λ r. addressC r .next) g (addressRow g)
-unfolding addressC
-address-row g r = inside-row g (markC 91 r) ∙ by opening (markC 91) opening-token (insideRow g) r
+  offset-row : (g : Row) → As s (λ r. offsetC r .next) g (offsetRow g)
+  unfolding offsetC
+  offset-row g r =
+      ap (λ (x : Rest). run g (view s x)) (next-pick (markC 43 r .ok) (numberC max32 (markC 43 r)) (record { value = 0; next = r }))
+      ∙ either s plus (markC 43) (numberNext max32) (λ x. x) (one (numberKind s max32) g) g g plus-plain (number-row max32 g) (λ x. refl) r
 
-abbrev operandRow : Row → Row
-operandRow g = branch opening (insideRow g) (one nameKind g)
+  abbrev insideRow : Row → Row
+  insideRow g = one nameKind (offsetRow (one closing g))
 
-operand-row : (g : Row) → As (λ r. operandC r .next) g (operandRow g)
-unfolding operandC
-operand-row g r =
-    ap (λ (x : Rest). run g (stand x)) (next-pick (markC 91 r .ok) (record { value = operand.Address (insideC (markC 91 r) .value); next = insideC (markC 91 r) .next }) (record { value = operand.Descriptor (nameC r .value); next = nameC r .next }))
-    ∙ either opening (markC 91) (λ x. insideC x .next) (λ x. nameC x .next) (insideRow g) (one nameKind g) g opening-token (inside-row g) (by nameKind (λ x. nameC x .next) name-token g) r
+  inside-row : (g : Row) → As s (λ r. insideC r .next) g (insideRow g)
+  unfolding insideC
+  inside-row g r = simple s closing (markC 93) closing-plain g (offsetC (nameNext r) .next) ∙ (offset-row (one closing g) (nameNext r) ∙ name-row (offsetRow (one closing g)) r)
 
-abbrev moreNamesRow : ℕ → Row → Row
-moreNamesRow zero g = one unbrace g
-moreNamesRow (suc k) g = branch comma (one nameKind (moreNamesRow k g)) (one unbrace g)
+  abbrev addressRow : Row → Row
+  addressRow g = one opening (insideRow g)
 
-more-names-row : (k : ℕ) (g : Row) → As (λ r. moreC k r .next) g (moreNamesRow k g)
-unfolding moreC
-more-names-row zero g r = by unbrace (markC 125) unbrace-token g r
-more-names-row (suc k) g r =
-    ap (λ (x : Rest). run g (stand x)) (next-pick (markC 44 r .ok) (record { value = nameC (markC 44 r) .value ∷ moreC k (nameC (markC 44 r) .next) .value; next = moreC k (nameC (markC 44 r) .next) .next }) (record { value = []; next = markC 125 r }))
-    ∙ either comma (markC 44) (λ x. moreC k (nameC x .next) .next) (markC 125) (one nameKind (moreNamesRow k g)) (one unbrace g) g comma-token
-    (λ x. more-names-row k g (nameC x .next) ∙ by nameKind (λ y. nameC y .next) name-token (moreNamesRow k g) x) (by unbrace (markC 125) unbrace-token g) r
+  address-row : (g : Row) → As s (λ r. addressC r .next) g (addressRow g)
+  unfolding addressC
+  address-row g r = inside-row g (markC 91 r) ∙ simple s opening (markC 91) opening-plain (insideRow g) r
 
-abbrev namesRow : Row → Row
-namesRow g = one brace (one nameKind (moreNamesRow 127 g))
+  abbrev operandRow : Row → Row
+  operandRow g = branch opening (insideRow g) (one nameKind g)
 
-names-row : (g : Row) → As (λ r. namesC r .next) g (namesRow g)
-unfolding namesC
-names-row g r =
-    let a = markC 123 r in
-    more-names-row 127 g (nameC a .next) ∙ (by nameKind (λ x. nameC x .next) name-token (moreNamesRow 127 g) a ∙ by brace (markC 123) brace-token (one nameKind (moreNamesRow 127 g)) r)
+  operand-row : (g : Row) → As s (λ r. operandC r .next) g (operandRow g)
+  unfolding operandC
+  operand-row g r =
+      ap (λ (x : Rest). run g (view s x)) (next-pick (markC 91 r .ok) (record { value = operand.Address (insideC (markC 91 r) .value); next = insideC (markC 91 r) .next }) (record { value = operand.Descriptor (nameC r .value); next = nameNext r }))
+      ∙ either s opening (markC 91) (λ x. insideC x .next) nameNext (insideRow g) (one nameKind g) g opening-plain (inside-row g) (name-row g) r
 
-abbrev slotRow : Slot → Row → Row
-slotRow name g = one nameKind g
-slotRow (number limit) g = one numberKind g
-slotRow inBrackets g = bracketRow g
-slotRow address g = addressRow g
-slotRow operand g = operandRow g
-slotRow names g = namesRow g
+  abbrev moreNamesRow : ℕ → Row → Row
+  moreNamesRow zero g = one unbrace g
+  moreNamesRow (suc k) g = branch comma (one nameKind (moreNamesRow k g)) (one unbrace g)
 
-slot-row : (k : Slot) (g : Row) → As (λ r. slotC k r .next) g (slotRow k g)
-slot-row name g r = by nameKind (λ x. nameC x .next) name-token g r
-slot-row (number limit) g r = by numberKind (λ x. numberC limit x .next) (number-token limit) g r
-slot-row inBrackets g r = bracket-row g r
-slot-row address g r = address-row g r
-slot-row operand g r = operand-row g r
-slot-row names g r = names-row g r
+  more-names-row : (k : ℕ) (g : Row) → As s (λ r. moreC k r .next) g (moreNamesRow k g)
+  unfolding moreC
+  more-names-row zero g r = simple s unbrace (markC 125) unbrace-plain g r
+  more-names-row (suc k) g r =
+      let n = nameC (markC 44 r) in
+      ap (λ (x : Rest). run g (view s x)) (next-pick (markC 44 r .ok) (record { value = n .value ∷ moreC k (n .next) .value; next = moreC k (n .next) .next }) (record { value = []; next = markC 125 r }))
+      ∙ either s comma (markC 44) (λ x. moreC k (nameNext x) .next) (markC 125) (one nameKind (moreNamesRow k g)) (one unbrace g) g comma-plain
+      (λ x. more-names-row k g (nameNext x) ∙ name-row (moreNamesRow k g) x) (simple s unbrace (markC 125) unbrace-plain g) r
 
--- ---- rows of operands
-abbrev tailRow : List Slot → Row
-tailRow [] = one semicolon end
-tailRow (k ∷ ks) = one comma (slotRow k (tailRow ks))
+  abbrev namesRow : Row → Row
+  namesRow g = one brace (one nameKind (moreNamesRow 127 g))
 
-abbrev tokenRow : List Slot → Row
-tokenRow [] = one semicolon end
-tokenRow (k ∷ ks) = slotRow k (tailRow ks)
+  names-row : (g : Row) → As s (λ r. namesC r .next) g (namesRow g)
+  unfolding namesC
+  names-row g r =
+      let a = markC 123 r in
+      more-names-row 127 g (nameNext a) ∙ (name-row (moreNamesRow 127 g) a ∙ simple s brace (markC 123) brace-plain (one nameKind (moreNamesRow 127 g)) r)
 
-tail-row : (ks : List Slot) (r : Rest) → stand (moreRowC ks r .next) ≡ run (tailRow ks) (stand r)
-unfolding moreRowC
-tail-row [] r = end-row r
-tail-row (k ∷ ks) r =
-    let a = markC 44 r in
-    tail-row ks (slotC k a .next) ∙ (slot-row k (tailRow ks) a ∙ by comma (markC 44) comma-token (slotRow k (tailRow ks)) r)
+  abbrev slotRow : Slot → Row → Row
+  slotRow name g = one nameKind g
+  slotRow (number limit) g = one (numberKind s limit) g
+  slotRow inBrackets g = bracketRow g
+  slotRow address g = addressRow g
+  slotRow operand g = operandRow g
+  slotRow names g = namesRow g
 
-token-row : (ks : List Slot) (r : Rest) → stand (rowC ks r .next) ≡ run (tokenRow ks) (stand r)
-unfolding rowC
-token-row [] r = end-row r
-token-row (k ∷ ks) r = tail-row ks (slotC k r .next) ∙ slot-row k (tailRow ks) r
+  slot-row : (k : Slot) (g : Row) → As s (λ r. slotC k r .next) g (slotRow k g)
+  slot-row name g r = name-row g r
+  slot-row (number limit) g r = number-row limit g r
+  slot-row inBrackets g r = bracket-row g r
+  slot-row address g r = address-row g r
+  slot-row operand g r = operand-row g r
+  slot-row names g r = names-row g r
 
--- ---- at each branch the other way begins with another token
-inside-good : (g : Row) → Good g → Good (insideRow g)
-unfolding afterBlanks blank tokenOf tokenLen plus closing markKind
-inside-good g k = (tt, refl, k, k)
+  -- ---- rows of operands
+  abbrev tailRow : List Slot → Row
+  tailRow [] = one semicolon end
+  tailRow (k ∷ ks) = one comma (slotRow k (tailRow ks))
 
-operand-good : (g : Row) → Good g → Good (operandRow g)
-unfolding afterBlanks blank tokenOf tokenLen opening nameKind markKind
-operand-good g k = (tt, refl, inside-good g k, k)
+  abbrev tokenRow : List Slot → Row
+  tokenRow [] = one semicolon end
+  tokenRow (k ∷ ks) = slotRow k (tailRow ks)
 
-more-names-good : (k : ℕ) (g : Row) → Good g → Good (moreNamesRow k g)
-unfolding afterBlanks blank tokenOf tokenLen comma unbrace markKind
-more-names-good zero g h = h
-more-names-good (suc k) g h = (tt, refl, more-names-good k g h, h)
+  tail-row : (ks : List Slot) (r : Rest) → view s (moreRowC ks r .next) ≡ run (tailRow ks) (view s r)
+  unfolding moreRowC
+  tail-row [] r = end-row r
+  tail-row (k ∷ ks) r =
+      let a = markC 44 r in
+      tail-row ks (slotC k a .next) ∙ (slot-row k (tailRow ks) a ∙ simple s comma (markC 44) comma-plain (slotRow k (tailRow ks)) r)
 
-slot-good : (k : Slot) (g : Row) → Good g → Good (slotRow k g)
-slot-good name g h = h
-slot-good (number limit) g h = h
-slot-good inBrackets g h = h
-slot-good address g h = inside-good g h
-slot-good operand g h = operand-good g h
-slot-good names g h = more-names-good 127 g h
+  token-row : (ks : List Slot) (r : Rest) → view s (rowC ks r .next) ≡ run (tokenRow ks) (view s r)
+  unfolding rowC
+  token-row [] r = end-row r
+  token-row (k ∷ ks) r = tail-row ks (slotC k r .next) ∙ slot-row k (tailRow ks) r
 
-tail-good : (ks : List Slot) → Good (tailRow ks)
-tail-good [] = tt
-tail-good (k ∷ ks) = slot-good k (tailRow ks) (tail-good ks)
+  -- ---- at each branch the other way begins with another token
+  inside-good : (g : Row) → Good g → Good (insideRow g)
+  unfolding afterBlanks blank tokenOf tokenLen plus closing markKind
+  inside-good g k = (tt, refl, k, k)
 
-token-good : (ks : List Slot) → Good (tokenRow ks)
-token-good [] = tt
-token-good (k ∷ ks) = slot-good k (tailRow ks) (tail-good ks)
+  operand-good : (g : Row) → Good g → Good (operandRow g)
+  unfolding afterBlanks blank tokenOf tokenLen opening nameKind markKind
+  operand-good g k = (tt, refl, inside-good g k, k)
+
+  more-names-good : (k : ℕ) (g : Row) → Good g → Good (moreNamesRow k g)
+  unfolding afterBlanks blank tokenOf tokenLen comma unbrace markKind
+  more-names-good zero g h = h
+  more-names-good (suc k) g h = (tt, refl, more-names-good k g h, h)
+
+  slot-good : (k : Slot) (g : Row) → Good g → Good (slotRow k g)
+  slot-good name g h = h
+  slot-good (number limit) g h = h
+  slot-good inBrackets g h = h
+  slot-good address g h = inside-good g h
+  slot-good operand g h = operand-good g h
+  slot-good names g h = more-names-good 127 g h
+
+  tail-good : (ks : List Slot) → Good (tailRow ks)
+  tail-good [] = tt
+  tail-good (k ∷ ks) = slot-good k (tailRow ks) (tail-good ks)
+
+  token-good : (ks : List Slot) → Good (tokenRow ks)
+  token-good [] = tt
+  token-good (k ∷ ks) = slot-good k (tailRow ks) (tail-good ks)
 
 -- ---- the place
--- the operands of o, from l on, are read as a row of tokens is
-reads-as : (o : Opcode) (l : List ℕ) → stand (operandsC o (start l) .next) ≡ reads (tokenRow (row o)) l
-unfolding operandsC
-reads-as o l = token-row (row o) (start l)
+-- the statements that are looked for: all, or, strict, those whose numbers are in range
+abbrev fitsBy : Bool → Statement → Bool
+fitsBy true t = sized t
+fitsBy false t = true
 
--- a text whose operands the row takes is one of a statement
-taken-spells : (o : Opcode) (l : List ℕ) → runLen opcodeByte l ≡ 0 → takes (tokenRow (row o)) l ≡ true → (w : Whole) × Spells w (word o ++ l)
+-- the operands of o, from l on, are read as a row of tokens is
+reads-as : (s : Bool) (o : Opcode) (l : List ℕ) → view s (operandsC o (start l) .next) ≡ reads (tokenRow s (row o)) l
 unfolding operandsC
-taken-spells o l e h =
-    let p = row-sound (row o) (start l) (ap (λ (s : Stand). s .ok) (reads-as o l) ∙ h) in
-    (make o (p .1), record { opcode = o; values = p .1; rest = l; parts = refl; ends = e; operands = p .2; made = refl })
+reads-as true o l = token-row true (row o) (start l)
+reads-as false o l = token-row false (row o) (start l)
+
+view-ok : (s : Bool) (r : Rest) → view s r .ok ≡ true → (r .ok ≡ true) × ((s && r .over) ≡ false)
+view-ok s r h = go (s && r .over) h
+  where
+    go : (c : Bool) → pick c (bad (r .far)) (stand r) .ok ≡ true → (r .ok ≡ true) × (c ≡ false)
+    go true k = never k
+    go false k = (k, refl)
+
+met-at : (o : Opcode) (l : List ℕ) → runLen opcodeByte l ≡ 0 → (w : Whole) → Spells w (word o ++ l) → Met w (operandsC o (start l))
+met-at o l e w t = rw (whole-at o l e) at (spells-met w (word o ++ l) t)
+
+-- a text whose operands the row takes is one of such a statement
+taken-fits : (s : Bool) (o : Opcode) (l : List ℕ) (w : Whole) → Met w (operandsC o (start l)) → (s && operandsC o (start l) .next .over) ≡ false → fitsBy s (w .statement) ≡ true
+taken-fits true o l w m h = not-false (sized (w .statement)) (sym (ap (λ (r : Rest). r .over) (m .next)) ∙ h)
+taken-fits false o l w m h = refl
+
+taken-spells : (s : Bool) (o : Opcode) (l : List ℕ) → runLen opcodeByte l ≡ 0 → takes (tokenRow s (row o)) l ≡ true → (w : Whole) × Spells w (word o ++ l) × (fitsBy s (w .statement) ≡ true)
+unfolding operandsC
+taken-spells s o l e h =
+    let v = view-ok s (operandsC o (start l) .next) (ap (λ (x : Stand). x .ok) (reads-as s o l) ∙ h) in
+    let p = row-sound (row o) (start l) (v .0) in
+    let w = make o (p .1) in
+    let t : Spells w (word o ++ l) = record { opcode = o; values = p .1; rest = l; parts = refl; ends = e; operands = p .2; made = refl } in
+    (w, t, taken-fits s o l w (met-at o l e w t) (v .1))
 
 -- and one whose operands it does not take is none
-not-taken : (o : Opcode) (l : List ℕ) → runLen opcodeByte l ≡ 0 → takes (tokenRow (row o)) l ≡ false → (w : Whole) → Spells w (word o ++ l) → ⊥
-not-taken o l e h w t =
-    let m = spells-met w (word o ++ l) t in
-    let a : wholeC (word o ++ l) .next .ok ≡ true = ap (λ (r : Rest). r .ok) (m .next) in
-    let b : wholeC (word o ++ l) .next .ok ≡ false = ap (λ (x : Took Whole). x .next .ok) (whole-at o l e) ∙ (ap (λ (s : Stand). s .ok) (reads-as o l) ∙ h) in
-    true≢false (sym a ∙ b)
+met-ok : (s : Bool) (w : Whole) (t : Took Whole) → Met w t → fitsBy s (w .statement) ≡ true → view s (t .next) .ok ≡ true
+met-ok true w t m h = rw (m .next, h)
+met-ok false w t m h = rw (m .next)
+
+not-taken : (s : Bool) (o : Opcode) (l : List ℕ) → runLen opcodeByte l ≡ 0 → takes (tokenRow s (row o)) l ≡ false → (w : Whole) → Spells w (word o ++ l) → fitsBy s (w .statement) ≡ true → ⊥
+not-taken s o l e h w t f = true≢false (sym (met-ok s w (operandsC o (start l)) (met-at o l e w t) f) ∙ (ap (λ (x : Stand). x .ok) (reads-as s o l) ∙ h))
 
 -- text is front and l: the place of l
 module _ (text front l : List ℕ) (parts : text ≡ front ++ l) where
@@ -396,37 +501,47 @@ module _ (text front l : List ℕ) (parts : text ≡ front ++ l) where
   place-drop : drop (length text - length l) text ≡ l
   place-drop = rw (place-is, parts) (drop-append-seam front l)
 
-stops-at : (text : List ℕ) (o : Opcode) (l : List ℕ) → take (opcodeLen text) text ≡ word o → Stop (tokenRow (row o)) (drop (opcodeLen text) text) l → Stops text (length text - length l)
+stops-at : (s : Bool) (text : List ℕ) (o : Opcode) (l : List ℕ) → take (opcodeLen text) text ≡ word o → Stop (tokenRow s (row o)) (drop (opcodeLen text) text) l → Stops (fitsBy s) text (length text - length l) × (drop (length text - length l) text ≡ l)
 unfolding opcodeByte letter wordByte
-stops-at text o l e i =
-    let rest = drop (opcodeLen text) text in
+stops-at s text o l e i =
     let front : List ℕ = word o ++ i .before in
     let parts : text ≡ front ++ l = sym (take-append-drop (opcodeLen text) text) ∙ (rw (e, i .parts, append-assoc)) in
     let other : opcodeByte (getD (i .before ++ l) 0 0) ≡ false = rw (← i .parts) (run-stops opcodeByte text refl) in
     let ends : runLen opcodeByte (i .before ++ i .more) ≡ 0 = head-none opcodeByte (i .before ++ i .more) (lights opcodeByte (i .before) (i .more) l (i .light opcodeByte refl refl) other) in
     let same : (t : List ℕ) → tokenOf t ≡ tokenOf l → runLen opcodeByte (i .before ++ t) ≡ 0 =
     λ t j. head-none opcodeByte (i .before ++ t) (rw (heads (i .before) t l (same-head t l j)) other) in
-    let g = taken-spells o (i .before ++ i .more) ends (i .goes) in
-    record {
-      inside = omega (arith, place-is text front l parts, length-append front l, ap length parts);
-      reached = rw (place-drop text front l parts) (i .reached);
-      more = i .more;
-      ends = head-none wordByte (i .more) (i .light wordByte refl refl);
-      goes = (g .0, rw (place-take text front l parts, append-assoc) (g .1));
-      stuck = λ t j w x. not-taken o (i .before ++ t) (same t (rw (place-drop text front l parts) at j)) (i .stuck t (rw (place-drop text front l parts) at j)) w (rw (place-take text front l parts, append-assoc) at x);
-    }
+    let g = taken-spells s o (i .before ++ i .more) ends (i .goes) in (
+      record {
+        inside = omega (arith, place-is text front l parts, length-append front l, ap length parts);
+        reached = rw (place-drop text front l parts) (i .reached);
+        more = i .more;
+        ends = head-none wordByte (i .more) (i .light wordByte refl refl);
+        goes = (g .0, rw (place-take text front l parts, append-assoc) (g .1), g .2);
+        stuck = λ t j w x. not-taken s o (i .before ++ t) (same t (rw (place-drop text front l parts) at j)) (i .stuck t (rw (place-drop text front l parts) at j)) w (rw (place-take text front l parts, append-assoc) at x);
+      },
+      place-drop text front l parts,
+    )
 
-refused-by : (b o : Bool) (k q p : ℕ) (t : Statement) → pick b (pick o (Refused 4 k) (Got t)) (Refused 3 q) ≡ Refused 3 p → (b ≡ false) × (p ≡ q)
-refused-by true true k q p t h = absurd (let z : _≡_ {A = ℕ} 4 3 = cc in omega arith)
-refused-by true false k q p t h = absurd (let z : _≡_ {A = ℕ} 0 1 = cc in omega arith)
-refused-by false o k q p t h = (refl, cc)
+later-place : (s : Bool) (text : List ℕ) (o : Opcode) (l : List ℕ) → take (opcodeLen text) text ≡ word o → view s (wholeC text .next) ≡ bad l → Stops (fitsBy s) text (length text - length l) × (drop (length text - length l) text ≡ l)
+unfolding wholeC
+later-place s text o l e k =
+    let rest = drop (opcodeLen text) text in
+    let w : wholeC text ≡ operandsC o (start rest) = rw (e, recognised o) in
+    let b : reads (tokenRow s (row o)) rest ≡ bad l = sym (reads-as s o rest) ∙ (ap (λ (t : Took Whole). view s (t .next)) (sym w) ∙ k) in
+    stops-at s text o l e (stop (tokenRow s (row o)) rest l (token-good s (row o)) b)
 
--- reading stopped at l
+-- ---- reason 3
+three-by : (b o : Bool) (k q p : ℕ) (t : Statement) → pick b (pick o (Refused 4 k) (Got t)) (Refused 3 q) ≡ Refused 3 p → (b ≡ false) × (p ≡ q)
+three-by true true k q p t h = absurd (let z : _≡_ {A = ℕ} 4 3 = cc in omega arith)
+three-by true false k q p t h = absurd (let z : _≡_ {A = ℕ} 0 1 = cc in omega arith)
+three-by false o k q p t h = (refl, cc)
+
+-- reading stopped there
 stopped : (text : List ℕ) (p : ℕ) → length text ≤ 4096 → readOf text ≡ Refused 3 p → (wholeC text .next .ok ≡ false) × (p ≡ length text - length (wholeC text .next .rest))
 unfolding readOf answerOf
 stopped text p n h =
-    refused-by (wholeC text .next .ok) (wholeC text .next .over) (length text - length (wholeC text .next .far)) (length text - length (wholeC text .next .rest)) p (wholeC text .value .statement)
-    (rw (le-leb (length text) 4096 n) at h)
+    let r = wholeC text .next in
+    three-by (r .ok) (r .over) (length text - length (r .far)) (length text - length (r .rest)) p (wholeC text .value .statement) (rw (le-leb (length text) 4096 n) at h)
 
 no-opcode : (text : List ℕ) (found : Found) → recognise (take (opcodeLen text) text) ≡ found → ((o : Opcode) → take (opcodeLen text) text ≡ word o → ⊥) → wholeBy text (drop (opcodeLen text) text) found .next .rest ≡ text
 no-opcode text (Is o) e h = absurd (h o (recognises (take (opcodeLen text) text) o e))
@@ -436,16 +551,44 @@ first-place : (text : List ℕ) → ((o : Opcode) → take (opcodeLen text) text
 unfolding wholeC
 first-place text h = no-opcode text (recognise (take (opcodeLen text) text)) refl h
 
-later-place : (text : List ℕ) (o : Opcode) → take (opcodeLen text) text ≡ word o → wholeC text .next .ok ≡ false → Stops text (length text - length (wholeC text .next .rest))
+pub places : (text : List ℕ) (p : ℕ) → length text ≤ 4096 → readOf text ≡ Refused 3 p → Place text p
+places text p n h =
+    let z = stopped text p n h in
+    let l = wholeC text .next .rest in
+    record {
+      first = λ k. z .1 ∙ (rw (first-place text k) (omega arith));
+      later = λ o e. rw (z .1) (later-place false text o l e (ap (λ (c : Bool). record { rest = l; ok = c }) (z .0)) .0);
+    }
+
+-- ---- reason 4
+four-by : (a b o : Bool) (k q p : ℕ) (t : Statement) → pick a (pick b (pick o (Refused 4 k) (Got t)) (Refused 3 q)) (Refused 3 4096) ≡ Refused 4 p → (b ≡ true) × (o ≡ true) × (p ≡ k)
+four-by true true true k q p t h = (refl, refl, cc)
+four-by true true false k q p t h = absurd (let z : _≡_ {A = ℕ} 0 1 = cc in omega arith)
+four-by true false o k q p t h = absurd (let z : _≡_ {A = ℕ} 3 4 = cc in omega arith)
+four-by false b o k q p t h = absurd (let z : _≡_ {A = ℕ} 3 4 = cc in omega arith)
+
+over-at : (text : List ℕ) (p : ℕ) → readOf text ≡ Refused 4 p → (wholeC text .next .ok ≡ true) × (wholeC text .next .over ≡ true) × (p ≡ length text - length (wholeC text .next .far))
+unfolding readOf answerOf
+over-at text p h =
+    let r = wholeC text .next in
+    four-by (leb (length text) 4096) (r .ok) (r .over) (length text - length (r .far)) (length text - length (r .rest)) p (wholeC text .value .statement) h
+
+some-opcode : (text : List ℕ) (found : Found) → recognise (take (opcodeLen text) text) ≡ found → wholeBy text (drop (opcodeLen text) text) found .next .ok ≡ true → (o : Opcode) × (take (opcodeLen text) text ≡ word o)
+some-opcode text (Is o) e h = (o, recognises (take (opcodeLen text) text) o e)
+some-opcode text Nothing e h = never h
+
+opcode-there : (text : List ℕ) → wholeC text .next .ok ≡ true → (o : Opcode) × (take (opcodeLen text) text ≡ word o)
 unfolding wholeC
-later-place text o e k =
-    let rest = drop (opcodeLen text) text in
-    let w : wholeC text ≡ operandsC o (start rest) = rw (e, recognised o) in
-    let b : operandsC o (start rest) .next .ok ≡ false = ap (λ (t : Took Whole). t .next .ok) (sym w) ∙ k in
-    let l = operandsC o (start rest) .next .rest in
-    let s : reads (tokenRow (row o)) rest ≡ bad l = sym (reads-as o rest) ∙ ap (λ (c : Bool). record { rest = l; ok = c }) b in
-    let g = stops-at text o l e (stop (tokenRow (row o)) rest l (token-good (row o)) s) in
-    rw w g
+opcode-there text h = some-opcode text (recognise (take (opcodeLen text) text)) refl h
+
+pub overs : (text : List ℕ) (p : ℕ) → readOf text ≡ Refused 4 p → Over text p
+overs text p h =
+    let z = over-at text p h in
+    let o = opcode-there text (z .0) in
+    let l = wholeC text .next .far in
+    let v : view true (wholeC text .next) ≡ bad l = rw (z .1) in
+    let s = later-place true text (o .0) l (o .1) v in
+    record { stops = rw (z .2) (s .0); number = rw (z .2, s .1) (whole-far text (z .1)) }
 
 -- ---- one place
 data Either (A B : Type 0) : Type 0 where
@@ -492,7 +635,7 @@ cut-front q text front e h =
     let z : take q (front ++ drop q text) ≡ front = take-at front (drop q text) q n in
     ap (take q) e ∙ z
 
-module _ (text : List ℕ) (p q : ℕ) (a : Stops text p) (b : Stops text q) where
+module _ (fits : Statement → Bool) (text : List ℕ) (p q : ℕ) (a : Stops fits text p) (b : Stops fits text q) where
   -- no later place stops too
   not-later : (x : ℕ) (l : List ℕ) → drop p text ≡ x ∷ l → After (afterToken (x ∷ l)) (drop q text) → ⊥
   not-later x l e k =
@@ -503,7 +646,7 @@ module _ (text : List ℕ) (p q : ℕ) (a : Stops text p) (b : Stops text q) whe
       sym (take-append-drop p text) ∙ (ap (λ (w : List ℕ). take p text ++ w) (e ∙ (token-parts (x ∷ l) ∙ ap (λ (w : List ℕ). tokenOf (x ∷ l) ++ w) (m .1))) ∙ simp append-assoc) in
       let front : take q text ≡ take p text ++ (tokenOf (x ∷ l) ++ m .0) = cut-front q text (take p text ++ (tokenOf (x ∷ l) ++ m .0)) whole (b .inside) in
       let s : Spells (b .goes .0) (take p text ++ t) = rw (front, append-assoc, append-assoc) at (b .goes .1) in
-      a .stuck t same (b .goes .0) s
+      a .stuck t same (b .goes .0) s (b .goes .2)
 
   same-place : drop p text ≡ drop q text → p ≡ q
   same-place e = omega (arith, ap length e, length-drop p text, length-drop q text, a .inside, b .inside)
@@ -513,18 +656,12 @@ module _ (text : List ℕ) (p q : ℕ) (a : Stops text p) (b : Stops text q) whe
   ordered [] l e f (past k) = same-place (e ∙ sym (f ∙ nil-after l k))
   ordered (x ∷ m) l e f (past k) = absurd (not-later x m e (rw f k))
 
-one-place : (text : List ℕ) (p q : ℕ) → Stops text p → Stops text q → p ≡ q
-one-place text p q a b = go (compare (drop (opcodeLen text) text) (drop p text) (drop q text) (a .reached) (b .reached))
+one-place : (fits : Statement → Bool) (text : List ℕ) (p q : ℕ) → Stops fits text p → Stops fits text q → p ≡ q
+one-place fits text p q a b = go (compare (drop (opcodeLen text) text) (drop p text) (drop q text) (a .reached) (b .reached))
   where
     go : Either (After (drop p text) (drop q text)) (After (drop q text) (drop p text)) → p ≡ q
-    go (left k) = ordered text p q a b (drop p text) (drop q text) refl refl k
-    go (right k) = sym (ordered text q p b a (drop q text) (drop p text) refl refl k)
+    go (left k) = ordered fits text p q a b (drop p text) (drop q text) refl refl k
+    go (right k) = sym (ordered fits text q p b a (drop q text) (drop p text) refl refl k)
 
-pub places : (text : List ℕ) (p : ℕ) → length text ≤ 4096 → readOf text ≡ Refused 3 p → Place text p
-places text p n h =
-    let s = stopped text p n h in
-    record {
-      first = λ k. s .1 ∙ (rw (first-place text k) (omega arith));
-      later = λ o e. rw (s .1) (later-place text o e (s .0));
-      unique = one-place text p;
-    }
+pub ones : (fits : Statement → Bool) (text : List ℕ) → One fits text
+ones fits text = record { place = one-place fits text }

@@ -1,15 +1,16 @@
--- What is shown of reading and writing: each record is a theorem on every text or every statement, each field one sentence of it. Assumes nothing.
+-- What is shown of reading and writing: a record for each theorem, a field for each sentence of it, and last, in `Theorems`, of which texts and statements each is shown. Assumes nothing.
 use Prim.Native.Nat.{ℕ, _≤_}
 use mathlib.Core.Path.{_≡_}
 use mathlib.Core.Logic.{_↔_}
 use mathlib.Core.List.{List, _++_}
-use mathlib.Core.Bool.{true, false}
+use mathlib.Core.Bool.{Bool, true, false}
 use lib.ListN.{length, take, drop}
 use Rattle.tokens.specs.declared.Name.{Name}
 use Rattle.tokens.specs.Bytes.{wordByte, runLen, tokenOf, afterToken}
+use Rattle.tokens.specs.Numbers.{isNumber}
 use Rattle.statement.specs.declared.Statement.{Statement}
 use Rattle.statement.specs.declared.Opcode.{Opcode}
-use Rattle.statement.specs.declared.Reading.the-variants.{Got}
+use Rattle.statement.specs.declared.Reading.the-variants.{Got, Refused}
 use Rattle.statement.specs.Forms.{word, Whole}
 use Rattle.statement.specs.Reading.{opcodeLen, readOf, reasonOf, registersOf}
 use Rattle.statement.specs.Spells.{Spells, sized}
@@ -55,29 +56,52 @@ pub record Canonical (text : List ℕ) (t : Statement) : Type 0 where
   -- and the canonical text of that is itself.
   pub again : (u : Statement) → readOf (textOf t (registersOf text)) ≡ Got u → textOf u (registersOf (textOf t (registersOf text))) ≡ textOf t (registersOf text)
 
--- ---- the place of reason 3
+-- ---- places
 -- l is what is left of s after some tokens, and bytes that start none, such as spaces
 pub data After : List ℕ → List ℕ → Type 0 where
   here : {l : List ℕ} → After l l
   past : {s l : List ℕ} → After (afterToken s) l → After s l
 
--- the place is that of the first token, or byte that starts none, or end, at which no form can go on
-pub record Stops (text : List ℕ) (place : ℕ) : Type 0 where
+-- the place is that of the first token, or byte that starts none, or end, at which no statement that fits can go on
+pub record Stops (fits : Statement → Bool) (text : List ℕ) (place : ℕ) : Type 0 where
   pub inside : place ≤ length text
   -- No token before it goes on past it.
   pub reached : After (drop (opcodeLen text) text) (drop place text)
   -- What stands before it can be completed, the last token before it as it is,
   pub more : List ℕ
   pub ends : runLen wordByte more ≡ 0
-  pub goes : (w : Whole) × Spells w (take place text ++ more)
-  -- and no statement's text has this token there.
-  pub stuck : (t : List ℕ) → tokenOf t ≡ tokenOf (drop place text) → (w : Whole) → Spells w (take place text ++ t) → ⊥
+  pub goes : (w : Whole) × Spells w (take place text ++ more) × (fits (w .statement) ≡ true)
+  -- and no text of a statement that fits has this token there.
+  pub stuck : (t : List ℕ) → tokenOf t ≡ tokenOf (drop place text) → (w : Whole) → Spells w (take place text ++ t) → fits (w .statement) ≡ true → ⊥
+
+-- every statement fits
+abbrev pub any : Statement → Bool
+any t = true
 
 -- of a text of at most 4,096 bytes that reason 3 is given for
 pub record Place (text : List ℕ) (place : ℕ) : Type 0 where
   -- Where its first word is no opcode's, the place is 0,
   pub first : ((o : Opcode) → take (opcodeLen text) text ≡ word o → ⊥) → place ≡ 0
-  -- and else that of the first token at which no form can go on,
-  pub later : (o : Opcode) → take (opcodeLen text) text ≡ word o → Stops text place
-  -- which is one place.
-  pub unique : (other : ℕ) → Stops text place → Stops text other → place ≡ other
+  -- and else that of the first token at which no statement can go on.
+  pub later : (o : Opcode) → take (opcodeLen text) text ≡ word o → Stops any text place
+
+-- of a text that reason 4 is given for
+pub record Over (text : List ℕ) (place : ℕ) : Type 0 where
+  -- The place is that of the first token at which no statement with its numbers in range can go on,
+  pub stops : Stops sized text place
+  -- and that token is a number.
+  pub number : isNumber (tokenOf (drop place text)) ≡ true
+
+-- There is one such place at most.
+pub record One (fits : Statement → Bool) (text : List ℕ) : Type 0 where
+  pub place : (a b : ℕ) → Stops fits text a → Stops fits text b → a ≡ b
+
+-- ---- the theorems
+pub record Theorems : Type 0 where
+  pub exact : (text : List ℕ) → Exact text
+  pub trip : (t : Statement) (regs : List Name) → given t regs ≡ true → Trip t regs
+  pub writable : (t : Statement) (regs : List Name) → Writable t regs
+  pub canonical : (text : List ℕ) (t : Statement) → readOf text ≡ Got t → Canonical text t
+  pub three : (text : List ℕ) (place : ℕ) → length text ≤ 4096 → readOf text ≡ Refused 3 place → Place text place
+  pub four : (text : List ℕ) (place : ℕ) → readOf text ≡ Refused 4 place → Over text place
+  pub one : (fits : Statement → Bool) (text : List ℕ) → One fits text

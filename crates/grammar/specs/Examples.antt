@@ -86,7 +86,8 @@ numbers =
     gives "mov.b32 x, 4294967296" 3 ∷
     gives "mov.b32 x, 4294967296;;" 3 ∷
     gives "mov.b32 x, 0x00000000000000000000000000000001;" 0 ∷
-    gives "mov.b32 x, 999999999999999999999999999999;" 4 ∷
+    gives "mov.b32 x, 99999999999999999999999999999999999999999999999999999999999999999999999999999999999999999999999999999999999999999999999999999999999999999999999999999999999999999999999999999999999999999999999999999999;" 4 ∷
+    gives "mov.b32 x, 0x000000000000000000000000000000000000000000000000000000000000000000000000000000000000000000000000000000000000000000000000000000000000000000000000000000000000000000000000000000000000000000000000000000001;" 0 ∷
     gives "mov.b64 x, 18446744073709551615;" 0 ∷
     gives "mov.b64 x, 18446744073709551616;" 4 ∷
     gives "tcgen05.alloc.cta_group::1.sync.aligned.b32 [t], 4294967296;" 4 ∷
@@ -98,6 +99,8 @@ forms =
     gives "" 3 ∷
     gives "  " 3 ∷
     gives "tcgen05.ld.sync.aligned.32x32b.x1.b32 {}, [t];" 3 ∷
+    gives "tcgen05.ld.sync.aligned.32x32b.x128.b32 {r,r,r,r,r,r,r,r,r,r,r,r,r,r,r,r,r,r,r,r,r,r,r,r,r,r,r,r,r,r,r,r,r,r,r,r,r,r,r,r,r,r,r,r,r,r,r,r,r,r,r,r,r,r,r,r,r,r,r,r,r,r,r,r,r,r,r,r,r,r,r,r,r,r,r,r,r,r,r,r,r,r,r,r,r,r,r,r,r,r,r,r,r,r,r,r,r,r,r,r,r,r,r,r,r,r,r,r,r,r,r,r,r,r,r,r,r,r,r,r,r,r,r,r,r,r,r,r}, [t];" 0 ∷
+    gives "tcgen05.ld.sync.aligned.32x32b.x128.b32 {r,r,r,r,r,r,r,r,r,r,r,r,r,r,r,r,r,r,r,r,r,r,r,r,r,r,r,r,r,r,r,r,r,r,r,r,r,r,r,r,r,r,r,r,r,r,r,r,r,r,r,r,r,r,r,r,r,r,r,r,r,r,r,r,r,r,r,r,r,r,r,r,r,r,r,r,r,r,r,r,r,r,r,r,r,r,r,r,r,r,r,r,r,r,r,r,r,r,r,r,r,r,r,r,r,r,r,r,r,r,r,r,r,r,r,r,r,r,r,r,r,r,r,r,r,r,r,r,r}, [t];" 3 ∷
     gives "tcgen05.alloc.cta_group::1.sync.aligned.b32 [t+0], 32;" 3 ∷
     gives "tcgen05.ld.sync.aligned.32x32b.x3.b32 {r}, [t];" 3 ∷
     gives "tcgen05.ld.sync.aligned.32x32b.x01.b32 {r}, [t];" 3 ∷

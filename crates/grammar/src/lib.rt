@@ -1,1 +1,1 @@
-// Theorems alone: they stand in proofs/.
+// Theorems alone: specs/Claims.antt says them, specs/Examples.antt has worked examples, proofs/ proves them.

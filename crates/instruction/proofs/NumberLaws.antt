@@ -13,7 +13,7 @@ use Rattle.laws.proofs.TestLaws.{never, and-split, find-passes, never-all}
 use Rattle.laws.proofs.LayoutLaws.{unpacked}
 use Rattle.instruction.proofs.InstructionLaws.{decoded-none, decoded-both, encoded-both, numbers-none, numbers-out, numbers-some}
 use Rattle.instruction.proofs.NamingLaws.{same}
-use Rattle.instruction.specs.Instruction.{layout, fields, values, numbers, fieldsRead, named3, named, rules, keeps, dtypeOf, elementOf, ofKind, code, elements, isI8, zero, found, made, noDescriptor, noWord, decoded, encodedNumbers, listing, readReason, wordReason}
+use Rattle.instruction.specs.Instruction.{layout, fields, values, fieldsIn, numbers, good, fieldsRead, named3, named, rules, keeps, dtypeOf, elementOf, ofKind, code, elements, isI8, zero, found, made, noDescriptor, noWord, decoded, encodedNumbers, listing, listedBy, readReason, wordReason}
 use Rattle.instruction.specs.declared.Kind.{Kind}
 use Rattle.instruction.specs.declared.Dtype.{Dtype}
 use Rattle.instruction.specs.declared.Element.{Element}
@@ -21,6 +21,7 @@ use Rattle.instruction.specs.declared.Instruction.{Instruction}
 use Rattle.instruction.specs.declared.Fields.{Fields}
 use Rattle.instruction.specs.declared.FieldsRead.{FieldsRead}
 use Rattle.instruction.specs.declared.InstructionRead.{InstructionRead}
+use Rattle.instruction.specs.declared.InstructionWord.{InstructionWord}
 
 -- the rules that do not look at the types, on numbers
 abbrev pub flags : Kind → Bool → Bool → List ℕ → List Bool
@@ -68,33 +69,11 @@ reading : (kind : Kind) (ws sp : Bool) (w : ℕ) (l : List ℕ) (t : Bool) → l
 reading kind ws sp w l t e h =
     by-name kind ws sp w (named kind l) (ap (named kind) (sym e)) ∙ ap (λ (b : Bool). cond b (found (Option·getD (named kind l) zero)) noDescriptor) h
 
--- the fields in a list of their numbers
-abbrev fieldsIn : List ℕ → Fields
-fieldsIn l = record {
-  selector = getD l 0 0;
-  sparse = getD l 1 0;
-  saturate = getD l 2 0;
-  dtype = getD l 3 0;
-  atype = getD l 4 0;
-  btype = getD l 5 0;
-  anegate = getD l 6 0;
-  bnegate = getD l 7 0;
-  atranspose = getD l 8 0;
-  btranspose = getD l 9 0;
-  n = getD l 10 0;
-  m = getD l 11 0;
-  shift = getD l 12 0;
-}
-
 -- fields in range that are kept are those of the descriptor that they name
 kept-same : (kind : Kind) (ws sp : Bool) (f : Fields) (x : Option Instruction)
     → all (ranges layout (values f)) ≡ true → named kind (values f) ≡ x → keeps kind ws sp x ≡ true → fields (Option·getD x zero) ≡ f
 kept-same kind ws sp f none h e k = never k
 kept-same kind ws sp f (some d) h e k = ap fieldsIn (same kind f d h e)
-
--- the answer with these fields
-abbrev pub good : Fields → FieldsRead
-good f = record { reason = 0; fields = f }
 
 -- the fields of a word that is read, and of one that is not
 pub read-fields : (kind : Kind) (ws sp : Bool) (w : ℕ) (f : Fields) → w < 2 ^ 32 → values f ≡ says layout w
@@ -144,3 +123,15 @@ pub judged : (kind : Kind) (ws sp : Bool) (w : ℕ) (r : FieldsRead) → r ≡ f
 judged kind ws sp w r e t =
     ap (λ (x : FieldsRead). x .reason) e
     ∙ sym (judged-by kind ws false (decoded kind ws sp w) (ap (λ (x : FieldsRead). eqb (x .reason) 0) (sym e) ∙ t))
+
+-- the reason of a descriptor from its word: listed or not, and no word
+pub listed-made : (kind : Kind) (ws : Bool) {w v : InstructionWord} {f g : Fields} {r : ℕ}
+    → w ≡ v → eqb (w .reason) 0 ≡ true → r ≡ firstBroken (listing kind ws f) → f ≡ g → r ≡ listedBy kind ws v g
+listed-made kind ws {w} {v} {f} {g} p t e q =
+    e
+    ∙ ap (λ (x : Fields). firstBroken (listing kind ws x)) q
+    ∙ sym (ap (λ (b : Bool). cond b (firstBroken (listing kind ws g)) 12) (ap (λ (x : InstructionWord). eqb (x .reason) 0) (sym p) ∙ t))
+
+pub listed-none : (kind : Kind) (ws : Bool) {w v : InstructionWord} (g : Fields) → w ≡ v → eqb (w .reason) 0 ≡ false → 12 ≡ listedBy kind ws v g
+listed-none kind ws g p t =
+    sym (ap (λ (b : Bool). cond b (firstBroken (listing kind ws g)) 12) (ap (λ (x : InstructionWord). eqb (x .reason) 0) (sym p) ∙ t))

@@ -2,7 +2,7 @@
 use Prim.Native.Nat.{ℕ, _^_, _<_}
 use mathlib.Core.Path.{_≡_}
 use mathlib.Core.Bool.{Bool}
-use Rattle.instruction.specs.Instruction.{decoded, encoded, encodedNumbers, found, made, numbers, values}
+use Rattle.instruction.specs.Instruction.{decoded, encoded, encodedNumbers, found, made, values, fieldsRead, good}
 use Rattle.instruction.specs.declared.Kind.{Kind}
 use Rattle.instruction.specs.declared.Instruction.{Instruction}
 use Rattle.instruction.specs.declared.Fields.{Fields}
@@ -16,7 +16,7 @@ pub record InstructionExact (kind : Kind) (ws sp : Bool) : Type 0 where
   -- so no two words read as one descriptor
   pub sole : (v w : ℕ) (d : Instruction)
       → v < 2 ^ 32 → w < 2 ^ 32 → decoded kind ws sp v ≡ found d → decoded kind ws sp w ≡ found d → v ≡ w
-  -- the word of some numbers reads as a descriptor that has those numbers
-  pub fields : (f : Fields)
-      → encodedNumbers kind ws sp (values f) .reason ≡ 0
-      → numbers (decoded kind ws sp (encodedNumbers kind ws sp (values f) .word) .descriptor) ≡ values f
+  -- the same of fields as numbers: the word of some numbers reads as those numbers, and no other word does
+  pub fields-back : (f : Fields)
+      → encodedNumbers kind ws sp (values f) .reason ≡ 0 → fieldsRead (decoded kind ws sp (encodedNumbers kind ws sp (values f) .word)) ≡ good f
+  pub fields-word : (w : ℕ) (f : Fields) → w < 2 ^ 32 → fieldsRead (decoded kind ws sp w) ≡ good f → encodedNumbers kind ws sp (values f) ≡ made w

@@ -149,6 +149,24 @@ values f =
     ∷ f .shift
     ∷ []
 
+-- the fields in a list of thirteen numbers
+abbrev pub fieldsIn : List ℕ → Fields
+fieldsIn l = record {
+  selector = getD l 0 0;
+  sparse = getD l 1 0;
+  saturate = getD l 2 0;
+  dtype = getD l 3 0;
+  atype = getD l 4 0;
+  btype = getD l 5 0;
+  anegate = getD l 6 0;
+  bnegate = getD l 7 0;
+  atranspose = getD l 8 0;
+  btranspose = getD l 9 0;
+  n = getD l 10 0;
+  m = getD l 11 0;
+  shift = getD l 12 0;
+}
+
 abbrev pub numbers : Instruction → List ℕ
 numbers d = values (fields d)
 
@@ -181,7 +199,7 @@ abbrev pub named : Kind → List ℕ → Option Instruction
 named kind l = named3 l (dtypeOf (getD l 3 0)) (elementOf kind (getD l 4 0)) (elementOf kind (getD l 5 0))
 
 abbrev pub isI8 : Kind → Bool
-isI8 kind = eqb (kindNumber kind) 3
+isI8 kind = eqb (kindNumber kind) (kindNumber Kind.I8)
 
 -- Both types are of the kind. Sparse stands exactly with `.sp`. Selector is 0 when dense. Saturate only for i8, negate not for i8. Max shift
 -- only with `.ws`.
@@ -229,6 +247,9 @@ abbrev pub noDescriptor : InstructionRead
 noDescriptor = record { reason = 12; descriptor = zero }
 
 -- an answer with its descriptor as numbers
+abbrev pub good : Fields → FieldsRead
+good f = record { reason = 0; fields = f }
+
 abbrev pub fieldsRead : InstructionRead → FieldsRead
 fieldsRead a = record { reason = a .reason; fields = fields (a .descriptor) }
 
@@ -265,14 +286,25 @@ nListed kind ws n = cond ws (among n (64 ∷ 128 ∷ 256 ∷ [])) (cond (isI8 ki
 
 -- By codes, the dtypes of a kind: f16 has f32, and f16 with two f16; both its types agree. tf32 has f32; f8f6f4 f16 or f32; i8 s32.
 abbrev pub typesListed : Kind → ℕ → ℕ → ℕ → Bool
-typesListed Kind.F16 dtype atype btype = eqb atype btype && (eqb dtype 1 || (eqb dtype 0 && eqb atype 0))
-typesListed Kind.Tf32 dtype atype btype = eqb dtype 1
-typesListed Kind.F8f6f4 dtype atype btype = eqb dtype 0 || eqb dtype 1
-typesListed Kind.I8 dtype atype btype = eqb dtype 2
+typesListed Kind.F16 d a b =
+    eqb a b && (eqb d (dtypeCode Dtype.F32) || (eqb d (dtypeCode Dtype.F16) && eqb a (code Element.F16)))
+typesListed Kind.Tf32 d a b = eqb d (dtypeCode Dtype.F32)
+typesListed Kind.F8f6f4 d a b = eqb d (dtypeCode Dtype.F16) || eqb d (dtypeCode Dtype.F32)
+typesListed Kind.I8 d a b = eqb d (dtypeCode Dtype.S32)
 
 -- the listing rules in their order, each with its reason: M, then N for that M, then the types
 abbrev pub listing : Kind → Bool → Fields → List Rule
 listing kind ws f = rule 13 (mListed ws (f .m)) ∷ rule 13 (nListed kind ws (f .n)) ∷ rule 13 (typesListed kind (f .dtype) (f .atype) (f .btype)) ∷ []
+
+-- the reason of a descriptor, and of some numbers, under an opcode: 12 if no word reads as it, else the first listing rule that it breaks
+abbrev pub listedBy : Kind → Bool → InstructionWord → Fields → ℕ
+listedBy kind ws w f = cond (eqb (w .reason) 0) (firstBroken (listing kind ws f)) 12
+
+abbrev pub descriptorReason : Kind → Bool → Bool → Instruction → ℕ
+descriptorReason kind ws sp d = listedBy kind ws (encoded kind ws sp d) (fields d)
+
+abbrev pub fieldsReason : Kind → Bool → Bool → Fields → ℕ
+fieldsReason kind ws sp f = listedBy kind ws (encodedNumbers kind ws sp (values f)) f
 
 -- K is 16, 8, 32, 32 in the order of the kinds, doubled when sparse.
 abbrev pub denseK : Kind → ℕ

@@ -6,7 +6,7 @@ ghost use Rattle.laws.specs.Tests.{all, isSome};
 ghost use Rattle.laws.specs.Layout.{pack, says, stands, ranges};
 ghost use Rattle.laws.specs.Rules.{firstBroken};
 ghost use Rattle.laws.proofs.LayoutLaws.{Inside};
-ghost use Rattle.instruction.specs.Instruction.{layout, dtypeCode, code, kindNumber, kindOf, ofKind, isI8, bit, dtypeOf, dtypeSeen, elementOf, elementSeen, fields, values, named, namedSeen, fieldsRead, encodedNumbers, rules, keeps, noDescriptor, decoded, encoded, mListed, nListed, typesListed, listing, denseK, kOf, wordReason};
+ghost use Rattle.instruction.specs.Instruction.{layout, dtypeCode, code, kindNumber, kindOf, ofKind, isI8, bit, dtypeOf, dtypeSeen, elementOf, elementSeen, fields, values, named, namedSeen, fieldsRead, encodedNumbers, rules, keeps, noDescriptor, decoded, encoded, mListed, nListed, typesListed, listing, descriptorReason, fieldsReason, denseK, kOf, wordReason};
 
 pub enum Kind {
     F16,
@@ -436,7 +436,7 @@ pub fn named_by(kind: Kind, f: Fields) -> Named
 }
 
 // The answer to a word that has no reading.
-pub fn refused_read() -> InstructionRead
+fn refused_read() -> InstructionRead
     ensures { λ r. ⌜ r ≡ noDescriptor ⌝ }
 {
     InstructionRead {
@@ -619,7 +619,7 @@ fn types_listed(kind: Kind, dtype: u32, atype: u32, btype: u32) -> bool
 }
 
 // The reason of the first listing rule that a shape and types break, or 0.
-pub fn listed_fields(kind: Kind, ws: bool, f: Fields) -> u32
+fn listing_reason(kind: Kind, ws: bool, f: Fields) -> u32
     ensures { λ r. ⌜ r ≡ firstBroken (listing kind ws f) ⌝ }
 {
     if !m_listed(ws, f.m) {
@@ -635,11 +635,28 @@ pub fn listed_fields(kind: Kind, ws: bool, f: Fields) -> u32
     }
 }
 
-// The same of a descriptor.
-pub fn listed(kind: Kind, ws: bool, d: Instruction) -> u32
-    ensures { λ r. ⌜ r ≡ firstBroken (listing kind ws (fields d)) ⌝ }
+// The reason of a descriptor under an opcode: 12 if no word reads as it, 13 if it is not listed, else 0.
+pub fn listed(kind: Kind, ws: bool, sp: bool, d: Instruction) -> u32
+    ensures { λ r. ⌜ r ≡ descriptorReason kind ws sp d ⌝ }
 {
-    listed_fields(kind, ws, fields_of(d))
+    let w = encode(kind, ws, sp, d);
+    if w.reason == 0 {
+        listing_reason(kind, ws, fields_of(d))
+    } else {
+        12
+    }
+}
+
+// The same of some numbers.
+pub fn listed_fields(kind: Kind, ws: bool, sp: bool, f: Fields) -> u32
+    ensures { λ r. ⌜ r ≡ fieldsReason kind ws sp f ⌝ }
+{
+    let w = encode_fields(kind, ws, sp, f);
+    if w.reason == 0 {
+        listing_reason(kind, ws, f)
+    } else {
+        12
+    }
 }
 
 // K of a dense opcode.
@@ -680,7 +697,7 @@ pub fn judge(kind: Kind, ws: bool, sp: bool, word: u32) -> u32
     let a = decode_fields(kind, ws, sp, word);
     let f = a.fields;
     if a.reason == 0 {
-        return listed_fields(kind, ws, f);
+        return listing_reason(kind, ws, f);
     }
     a.reason
 }

@@ -1,4 +1,4 @@
--- Tests joined from the left, as the code's `&` and `|` join them.
+-- Tests joined from the left, as the code's `&` and `|` join them. Assumes nothing.
 use Prim.Native.Nat.{ℕ}
 use mathlib.Core.Bool.{Bool, true, false, _&&_, _||_, cond}
 use mathlib.Core.List.{List, [], _∷_}

@@ -3,7 +3,7 @@ use Prim.Native.Nat.{ℕ, zero, suc, _+_, _*_, _-_, _^_, _<_, _≤_}
 use native.Mathlib.Numerals.{add-one}
 use native.Mathlib.Nat.{le-mul-of-pos-right, add-zero}
 use native.Mathlib.Omega.{arith}
-use native.Mathlib.Decide.{decLe, decLt}
+use native.Mathlib.Decide.{decLe}
 use mathlib.Core.Path.{_≡_, refl, sym, ap, _∙_}
 use mathlib.Core.List.{List, [], _∷_}
 use mathlib.Core.Bool.{Bool, true, false, _&&_, _||_, not, true≢false}
@@ -12,11 +12,11 @@ use lib.Seq.{drop-cons, drop-drop, length-take-le, getD-drop}
 use lib.Dec.{ltb, leb, eqb}
 use borrow.Author.Tests.{eq-eqb, ne-eqb, le-leb, lt-leb, lt-ltb, le-ltb, ltb-true, ltb-false, leb-true, eqb-true, not-true}
 use Rattle.tokens.specs.declared.Numeral.{Numeral}
-use Rattle.tokens.specs.Bytes.{pick, between, letter, wordByte, runLen, all, tokenLen, tokenOf, afterToken}
+use Rattle.tokens.specs.Bytes.{pick, between, wordByte, runLen, all, tokenLen, tokenOf, afterToken}
 use Rattle.tokens.specs.Numbers.{digitOf, isDigit, hexMark, zeroLed, someDigits, isNumber, valueOf, numeralOf, fitted, noNumeral, positional}
 use Rattle.tokens.specs.Cursors.{Rest, on, off, numberHere}
 use Rattle.lexer.specs.Runs.{baseOf, digitsLen, digitsAfter, wholeRun, runNumeral}
-use Rattle.lexer.proofs.Laws.{run-stop, run-past, run-le, word-low, word-mid, word-high}
+use Rattle.lexer.proofs.Laws.{and-no, and-parts, word-0, run-stop, run-past, run-le, word-low, word-mid, word-high}
 
 -- ---- digits
 pub digit-no : (base x : ℕ) → base ≤ digitOf x → isDigit base x ≡ false
@@ -34,23 +34,22 @@ room-16 v d h = go (decLe v 0x0fff_ffff_ffff_ffff)
     go (yes p) = rw (le-leb _ _ p, lt-ltb (v * 16 + d) (2 ^ 64) (omega arith))
     go (no q) = let p : 0x0fff_ffff_ffff_ffff < v = omega arith in rw (lt-leb _ _ p, le-ltb (v * 16 + d) (2 ^ 64) (omega arith))
 
-pub room-10 : (v d : ℕ) → d < 10 → (ltb v 1844674407370955161 || (eqb v 1844674407370955161 && leb d 5)) ≡ ltb (v * 10 + d) (2 ^ 64)
-room-10 v d h = go (decLt v 1844674407370955161)
+pub room-below : (v d : ℕ) → d < 10 → v < 1844674407370955161 → true ≡ ltb (v * 10 + d) (2 ^ 64)
+room-below v d h p = rw (lt-ltb (v * 10 + d) (2 ^ 64) (omega arith))
+
+pub room-last : (v d : ℕ) → d < 10 → 1844674407370955161 ≤ v → (eqb v 1844674407370955161 && leb d 5) ≡ ltb (v * 10 + d) (2 ^ 64)
+room-last v d h g = go (decLe (2 ^ 64) (v * 10 + d))
   where
-    over : (1844674407370955161 ≤ v) → Dec (v ≤ 1844674407370955161) → (2 ^ 64 ≤ v * 10 + d) → (eqb v 1844674407370955161 && leb d 5) ≡ false
-    over g (yes p) o = rw (eq-eqb v 1844674407370955161 (omega arith), lt-leb d 5 (omega arith))
-    over g (no q) o = rw (ne-eqb v 1844674407370955161 (omega arith))
+    over : Dec (v ≤ 1844674407370955161) → (2 ^ 64 ≤ v * 10 + d) → (eqb v 1844674407370955161 && leb d 5) ≡ false
+    over (yes p) o = rw (eq-eqb v 1844674407370955161 (omega arith), lt-leb d 5 (omega arith))
+    over (no q) o = rw (ne-eqb v 1844674407370955161 (omega arith))
 
-    last : (1844674407370955161 ≤ v) → Dec (2 ^ 64 ≤ v * 10 + d) → (eqb v 1844674407370955161 && leb d 5) ≡ ltb (v * 10 + d) (2 ^ 64)
-    last g (yes p) = rw (le-ltb (v * 10 + d) (2 ^ 64) p) (over g (decLe v 1844674407370955161) p)
-    last g (no q) = rw (lt-ltb (v * 10 + d) (2 ^ 64) (omega arith), eq-eqb v 1844674407370955161 (omega arith), le-leb d 5 (omega arith))
-
-    go : Dec (v < 1844674407370955161) → (ltb v 1844674407370955161 || (eqb v 1844674407370955161 && leb d 5)) ≡ ltb (v * 10 + d) (2 ^ 64)
-    go (yes p) = rw (lt-ltb v 1844674407370955161 p, lt-ltb (v * 10 + d) (2 ^ 64) (omega arith))
-    go (no q) = let p : 1844674407370955161 ≤ v = omega arith in rw (le-ltb v 1844674407370955161 p) (last p (decLe (2 ^ 64) (v * 10 + d)))
+    go : Dec (2 ^ 64 ≤ v * 10 + d) → (eqb v 1844674407370955161 && leb d 5) ≡ ltb (v * 10 + d) (2 ^ 64)
+    go (yes p) = rw (le-ltb (v * 10 + d) (2 ^ 64) p) (over (decLe v 1844674407370955161) p)
+    go (no q) = rw (lt-ltb (v * 10 + d) (2 ^ 64) (omega arith), eq-eqb v 1844674407370955161 (omega arith), le-leb d 5 (omega arith))
 
 -- a number is at least what stands before its last digits
-pub grows : (base v : ℕ) → 0 < base → (l : List ℕ) → v ≤ positional base v l
+grows : (base v : ℕ) → 0 < base → (l : List ℕ) → v ≤ positional base v l
 grows base v h [] = omega arith
 grows base v h (x ∷ l) = omega (arith, grows base (v * base + digitOf x) h l, le-mul-of-pos-right v h)
 
@@ -84,18 +83,6 @@ module _ (base : ℕ) (s : List ℕ) (v i : ℕ) where
       (omega (arith, grows base (v * base + digitOf (getD s i 0)) b (take (digitsLen base (drop (i + 1) s)) (drop (i + 1) s))))
 
 -- ---- a digit is a word byte
-and-no : (b : Bool) → (b && false) ≡ false
-and-no true = refl
-and-no false = refl
-
-and-yes : (b : Bool) → (b && true) ≡ b
-and-yes true = refl
-and-yes false = refl
-
-and-parts : (a b : Bool) → (a && b) ≡ true → (a ≡ true) × (b ≡ true)
-and-parts true b h = (refl, h)
-and-parts false b h = absurd (true≢false (sym h))
-
 in-range : (a e x : ℕ) → between a e x ≡ true → (a ≤ x) × (x ≤ e)
 in-range a e x h = let p = and-parts (leb a x) (leb x e) h in (leb-true a x (p .0), leb-true x e (p .1))
 
@@ -124,10 +111,6 @@ digit-word base x b h = go (between 48 57 x) (between 65 70 x) (between 97 102 x
     go false false false p q r k = absurd (let t : 16 < base = ltb-true 16 base k in omega arith)
 
 -- ---- a run of digits against the run of word bytes that it starts
-pub word-0 : wordByte 0 ≡ false
-unfolding wordByte letter
-word-0 = refl
-
 module _ (base : ℕ) (small : base ≤ 16) where
   run-all : (m : List ℕ) → all (isDigit base) (take (runLen wordByte m) m) ≡ not (wordByte (getD m (digitsLen base m) 0))
   run-all [] = rw word-0

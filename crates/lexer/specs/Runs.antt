@@ -1,13 +1,16 @@
--- Runs of digits at the head of a list of bytes. Assumes nothing.
-use Prim.Native.Nat.{ℕ}
+-- Runs of digits and of word bytes at the head of a list of bytes. Assumes nothing.
+use Prim.Native.Nat.{ℕ, min}
 use mathlib.Core.List.{List}
-use mathlib.Core.Bool.{Bool, _&&_, not}
-use lib.ListN.{getD, take}
+use mathlib.Core.Bool.{Bool, true, false, _&&_, not}
+use lib.ListN.{getD, take, drop}
 use lib.Dec.{ltb}
+use Rattle.tokens.specs.declared.Name.{Name}
 use Rattle.tokens.specs.declared.Numeral.{Numeral}
-use Rattle.tokens.specs.Bytes.{pick, wordByte, runLen}
+use Rattle.tokens.specs.Bytes.{pick, wordByte, runLen, tokenOf, afterToken}
+use Rattle.tokens.specs.Names.{isName, packed, noName}
 use Rattle.tokens.specs.Numbers.{isDigit, positional, fitted, noNumeral}
 use Rattle.lexer.specs.declared.number.Digits.{Digits}
+use Rattle.lexer.specs.declared.name.Taken.{Taken}
 
 abbrev pub numeralIn : Digits → Numeral
 numeralIn r = record { ok = r .ok; over = r .over; value = r .value }
@@ -29,3 +32,22 @@ wholeRun base l = ltb 0 (digitsLen base l) && not (wordByte (getD l (digitsLen b
 
 unfoldable pub runNumeral : ℕ → List ℕ → Numeral
 runNumeral base l = pick (wholeRun base l) (fitted (digitsAfter base 0 l)) noNumeral
+
+-- how many word bytes there are, but no more than there is room for
+abbrev pub wordsLen : ℕ → List ℕ → ℕ
+wordsLen room l = min room (runLen wordByte l)
+
+-- the name that the token at the head is, and what follows; or that it is none
+pub record NameThere : Type 0 where
+  pub ok : Bool
+  pub value : Name
+  pub rest : List ℕ
+
+abbrev pub thereBy : Bool → List ℕ → NameThere
+thereBy is l = pick is (record { ok = true; value = packed (tokenOf l); rest = afterToken l }) (record { ok = false; value = noName; rest = l })
+
+unfoldable pub nameThere : List ℕ → NameThere
+nameThere l = thereBy (isName (tokenOf l)) l
+
+abbrev pub nameIn : List ℕ → Taken → NameThere
+nameIn s r = record { ok = r .ok; value = r .value; rest = drop (r .end) s }

@@ -1,7 +1,7 @@
 // Bytes by class, and runs of them.
 ghost use mathlib.Core.Path.{_≡_};
 ghost use Prim.Native.Nat.{_+_};
-ghost use lib.ListN.{drop};
+ghost use lib.ListN.{getD, drop};
 ghost use Rattle.tokens.specs.Bytes.{wordByte, opcodeByte, blank, runLen};
 ghost use Rattle.tokens.specs.Numbers.{digitOf};
 
@@ -56,18 +56,14 @@ pub fn is_opcode(x: u8) -> bool
     ((65 <= x) & (x <= 90)) | (x == 95)
 }
 
-// Where a run of word bytes ends.
-pub fn word_end(s: &[u8], at: usize) -> usize
-    ensures { λ r. ⌜ r ≡ at + runLen wordByte (drop at (now (s .entry))) ⌝ }
+// Whether a word byte stands at a position.
+pub fn word_at(s: &[u8], at: usize) -> bool
+    ensures { λ r. ⌜ r ≡ wordByte (getD (now (s .entry)) at 0) ⌝ }
 {
-    let mut i = at;
-    while i < s.len() {
-        if !is_word(s[i]) {
-            return i;
-        }
-        i += 1;
+    if s.len() <= at {
+        return false;
     }
-    i
+    is_word(s[at])
 }
 
 // Where a run of opcode bytes ends.

@@ -5,6 +5,7 @@ use tokens::NameRead;
 use tokens::NumberRead;
 ghost use mathlib.Core.Path.{_≡_};
 ghost use Prim.Native.Nat.{_-_};
+ghost use mathlib.Core.Bool.{true};
 ghost use lib.ListN.{length, drop};
 ghost use Rattle.tokens.specs.Bytes.{pick};
 ghost use Rattle.tokens.specs.Cursors.{seen, markC, endC, nameSeen, nameC, numberSeen, numberC};
@@ -56,56 +57,57 @@ pub fn end(s: &[u8], k: Cursor) -> Cursor
     }
 }
 
+// The cursor at another place.
+fn moved(k: Cursor, at: usize, ok: bool) -> Cursor
+    ensures { λ r. ⌜ r ≡ record { at = at; ok = ok; over = k .over; far = k .far } ⌝ }
+{
+    Cursor {
+        at,
+        ok,
+        over: k.over,
+        far: k.far,
+    }
+}
+
+// The cursor past a number that starts at i, ends at e and is too large.
+fn past(k: Cursor, i: usize, e: usize) -> Cursor
+    ensures { λ r. ⌜ r ≡ record { at = e; ok = true; over = true; far = pick (k .over) (k .far) i } ⌝ }
+{
+    if k.over {
+        return Cursor {
+            at: e,
+            ok: true,
+            over: true,
+            far: k.far,
+        };
+    }
+    Cursor {
+        at: e,
+        ok: true,
+        over: true,
+        far: i,
+    }
+}
+
 // Past a name, which blanks may precede.
 pub fn name(s: &[u8], k: Cursor) -> NameRead
     ensures { λ r. ⌜ nameSeen (now (s .entry)) r ≡ nameC (seen (now (s .entry)) k) ⌝ }
 {
-    let none = Name { hi: 0, lo: 0 };
     if !k.ok {
         return NameRead {
-            value: none,
+            value: Name { hi: 0, lo: 0 },
             next: k,
         };
     }
     let at = k.at;
     let i = crate::bytes::blanks_end(s, at);
-    let over = k.over;
-    let far = k.far;
-    let stop = Cursor {
-        at: i,
-        ok: false,
-        over,
-        far,
-    };
-    if s.len() <= i {
-        return NameRead {
-            value: none,
-            next: stop,
-        };
-    }
-    let x = s[i];
-    if !crate::name::starts(x) {
-        return NameRead {
-            value: none,
-            next: stop,
-        };
-    }
-    let e = crate::bytes::word_end(s, i + 1);
-    if crate::name::shaped(x, e - i - 1) {
-        let value = crate::name::name_of(&s[i..e]);
-        return NameRead {
-            value,
-            next: Cursor {
-                at: e,
-                ok: true,
-                over,
-                far,
-            },
-        };
-    }
+    let n = crate::name::name_at(s, i);
+    let value = n.value;
+    let e = n.end;
+    let ok = n.ok;
     NameRead {
-        value: none,
-        next: stop,
+        value,
+        next: moved(k, e, ok),
     }
 }
 
@@ -118,18 +120,11 @@ pub fn number(s: &[u8], k: Cursor, limit: u64) -> NumberRead
     }
     let at = k.at;
     let i = crate::bytes::blanks_end(s, at);
-    let over = k.over;
-    let far = k.far;
     let n = crate::number::numeral(s, i);
     if !n.ok {
         return NumberRead {
             value: 0,
-            next: Cursor {
-                at: i,
-                ok: false,
-                over,
-                far,
-            },
+            next: moved(k, i, false),
         };
     }
     let e = n.end;
@@ -137,30 +132,13 @@ pub fn number(s: &[u8], k: Cursor, limit: u64) -> NumberRead
     if n.over | (limit < v) {
         return NumberRead {
             value: 0,
-            next: Cursor {
-                at: e,
-                ok: true,
-                over: true,
-                far: first(over, far, i),
-            },
+            next: past(k, i, e),
         };
     }
     NumberRead {
         value: v,
-        next: Cursor {
-            at: e,
-            ok: true,
-            over,
-            far,
-        },
+        next: moved(k, e, true),
     }
-}
-
-// The first of two places, if it is one.
-fn first(is: bool, a: usize, b: usize) -> usize
-    ensures { λ r. ⌜ r ≡ pick is a b ⌝ }
-{
-    if is { a } else { b }
 }
 
 // A position as an answer names it: the length where nothing is left.

@@ -1,12 +1,15 @@
 // Names, packed.
+use crate::bytes::is_word;
+use crate::bytes::word_at;
 use tokens::Name;
 ghost use mathlib.Core.Path.{_≡_};
-ghost use Prim.Native.Nat.{_+_, _-_, _≤_, _<_};
-ghost use mathlib.Core.Bool.{_&&_, _||_};
+ghost use Prim.Native.Nat.{_+_, _-_, _*_, _^_, _≤_, _<_, min};
+ghost use mathlib.Core.Bool.{true, false, _&&_, _||_};
 ghost use lib.ListN.{length, drop, take};
 ghost use lib.Dec.{ltb, leb};
-ghost use Rattle.tokens.specs.Bytes.{pick, letter};
-ghost use Rattle.tokens.specs.Names.{sigil, byteDigits, packed, noName};
+ghost use Rattle.tokens.specs.Bytes.{letter};
+ghost use Rattle.tokens.specs.Names.{sigil, byteDigits, noName};
+ghost use Rattle.lexer.specs.Runs.{wordsLen, nameIn, nameThere};
 
 fn wide(x: u8) -> u64
     ensures { λ r. ⌜ r ≡ x ⌝ }
@@ -41,33 +44,91 @@ pub fn shaped(x: u8, n: usize) -> bool
     (is_letter(x) | (is_sigil(x) & (0 < n))) & (n <= 15)
 }
 
-// The bytes from a to e, as the digits of a number at base 256.
-fn pack(w: &[u8], a: usize, e: usize) -> u64
-    requires { ⌜ (a ≤ e) × (e ≤ a + 8) × (e ≤ length (now w)) ⌝ }
-    ensures { λ r. ⌜ r ≡ byteDigits 0 (take (e - a) (drop a (now (w .entry)))) ⌝ }
+// The lesser of two numbers.
+fn least(a: usize, b: usize) -> usize
+    ensures { λ r. ⌜ r ≡ min a b ⌝ }
 {
-    let mut v: u64 = 0;
-    let mut i = a;
-    while i < e {
-        v = v * 256 + wide(w[i]);
-        i += 1;
-    }
-    v
+    if a < b { a } else { b }
 }
 
-// A name of at most 16 bytes; no name for a longer one.
-pub fn name_of(w: &[u8]) -> Name
-    ensures { λ r. ⌜ r ≡ pick (leb (length (now (w .entry))) 16) (packed (now (w .entry))) noName ⌝ }
+// A run of word bytes as digits at base 256, and where it ends.
+pub struct Packed {
+    pub value: u64,
+    pub end: usize,
+}
+
+// The run of word bytes at a position, but no more than there is room for, after v.
+fn pack(s: &[u8], at: usize, room: usize, v: u64) -> Packed
+    requires { ⌜ (at ≤ length (now s)) × (room ≤ 8) × (v < 2 ^ (8 * (8 - room))) ⌝ }
+    ensures value { λ r. ⌜ r .value ≡ byteDigits v (take (wordsLen room (drop at (now (s .entry)))) (drop at (now (s .entry)))) ⌝ }
+    ensures end { λ r. ⌜ r .end ≡ at + wordsLen room (drop at (now (s .entry))) ⌝ }
 {
-    let n = w.len();
-    if 16 < n {
-        return Name { hi: 0, lo: 0 };
+    let stop = least(s.len(), at + room);
+    let mut w = v;
+    let mut i = at;
+    while i < stop {
+        let x = s[i];
+        if !is_word(x) {
+            return Packed { value: w, end: i };
+        }
+        w = w * 256 + wide(x);
+        i += 1;
     }
-    if n <= 8 {
-        let hi = pack(w, 0, n);
-        return Name { hi, lo: 0 };
+    Packed { value: w, end: i }
+}
+
+// A name, if one was there, and where it ends; else where it should start.
+pub struct Taken {
+    pub ok: bool,
+    pub value: Name,
+    pub end: usize,
+}
+
+fn got(hi: u64, lo: u64, end: usize) -> Taken
+    ensures { λ r. ⌜ r ≡ record { ok = true; value = record { hi = hi; lo = lo }; end = end } ⌝ }
+{
+    Taken {
+        ok: true,
+        value: Name { hi, lo },
+        end,
     }
-    let hi = pack(w, 0, 8);
-    let lo = pack(w, 8, n);
-    Name { hi, lo }
+}
+
+fn none(at: usize) -> Taken
+    ensures { λ r. ⌜ r ≡ record { ok = false; value = noName; end = at } ⌝ }
+{
+    Taken {
+        ok: false,
+        value: Name { hi: 0, lo: 0 },
+        end: at,
+    }
+}
+
+// The name that the token at a position is, if it is one.
+pub fn name_at(s: &[u8], at: usize) -> Taken
+    ensures { λ r. ⌜ nameIn (now (s .entry)) r ≡ nameThere (drop at (now (s .entry))) ⌝ }
+{
+    if s.len() <= at {
+        return none(at);
+    }
+    let x = s[at];
+    if !starts(x) {
+        return none(at);
+    }
+    let h = pack(s, at + 1, 7, wide(x));
+    let hi = h.value;
+    let e = h.end;
+    if e < at + 8 {
+        if shaped(x, e - at - 1) {
+            return got(hi, 0, e);
+        }
+        return none(at);
+    }
+    let l = pack(s, at + 8, 8, 0);
+    let lo = l.value;
+    let end = l.end;
+    if (at + 16 <= end) & word_at(s, end) {
+        return none(at);
+    }
+    got(hi, lo, end)
 }

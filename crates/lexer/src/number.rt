@@ -1,12 +1,12 @@
 // Numbers of any length, read in one pass.
 use crate::bytes::digit_of;
-use crate::bytes::is_word;
+use crate::bytes::word_at;
 ghost use mathlib.Core.Path.{_≡_};
 ghost use Prim.Native.Nat.{_+_, _*_, _^_, _<_};
 ghost use mathlib.Core.Bool.{true, _||_};
 ghost use lib.ListN.{getD, drop};
 ghost use lib.Dec.{ltb, eqb};
-ghost use Rattle.tokens.specs.Bytes.{wordByte, runLen, tokenLen, tokenOf};
+ghost use Rattle.tokens.specs.Bytes.{runLen, tokenLen, tokenOf};
 ghost use Rattle.tokens.specs.Numbers.{isDigit, fitted, numeralOf};
 ghost use Rattle.lexer.specs.Runs.{baseOf, numeralIn, digitsLen, digitsAfter, runNumeral};
 
@@ -39,7 +39,10 @@ fn has_room(hex: bool, v: u64, d: u64) -> bool
     if hex {
         return v <= 0x0fff_ffff_ffff_ffff;
     }
-    (v < 1844674407370955161) | ((v == 1844674407370955161) & (d <= 5))
+    if v < 1844674407370955161 {
+        return true;
+    }
+    (v == 1844674407370955161) & (d <= 5)
 }
 
 // Where a run of digits ends.
@@ -94,16 +97,6 @@ fn run(s: &[u8], at: usize, hex: bool) -> Digits
         value: v,
         end: i,
     }
-}
-
-// Whether a word byte stands at a position.
-fn word_at(s: &[u8], at: usize) -> bool
-    ensures { λ r. ⌜ r ≡ wordByte (getD (now (s .entry)) at 0) ⌝ }
-{
-    if s.len() <= at {
-        return false;
-    }
-    is_word(s[at])
 }
 
 // Whether x or X stands at a position.

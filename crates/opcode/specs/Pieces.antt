@@ -4,7 +4,6 @@ use mathlib.Core.List.{List, [], _∷_}
 use mathlib.Core.Bool.{Bool, true, false, _&&_}
 use lib.ListN.{length, drop}
 use lib.Dec.{eqb}
-use Rattle.statement.specs.Opcodes.{sameBytes}
 use Rattle.opcode.specs.declared.piece.Place.{Place}
 
 -- the second list starts with the first
@@ -25,6 +24,6 @@ leftSeen w k = record { rest = drop (k .at) w; ok = k .ok }
 unfoldable pub pieceC : List ℕ → Left → Left
 pieceC p l = record { rest = drop (length p) (l .rest); ok = l .ok && startsWith p (l .rest) }
 
--- the last piece is all that is left
-unfoldable pub lastC : List ℕ → Left → Bool
-lastC p l = l .ok && sameBytes (l .rest) p
+-- all of a word is left
+abbrev pub whole : List ℕ → Left
+whole w = record { rest = w; ok = true }

@@ -1,31 +1,20 @@
-// Which opcode a word can be: a few bytes tell.
+// Which opcode a text can start with: a few bytes tell.
 use instruction::Kind;
 use statement::Num;
 use statement::Opcode;
 use statement::Shape;
 ghost use mathlib.Core.Path.{_≡_};
-ghost use Prim.Native.Nat.{_-_};
-ghost use lib.ListN.{length, getD};
+ghost use lib.ListN.{getD};
 ghost use lib.Dec.{eqb};
 ghost use Rattle.tokens.specs.Bytes.{pick};
-ghost use Rattle.statement.specs.Opcodes.{shapeBy, numBy, kindBy, mmaBy, shapeOf, numOf, tcgen05By, candidate};
+ghost use Rattle.statement.specs.Opcodes.{shapeBy, shapeOf};
+ghost use Rattle.opcode.specs.Heads.{numPlace, numAt, numIn, kindPlace, kindAt, mmaOf, mmaIn, tcgen05In, candidateIn};
 
 // The byte at a position, 0 past the end.
 pub fn byte(w: &[u8], at: usize) -> u8
     ensures { λ r. ⌜ r ≡ getD (now (w .entry)) at 0 ⌝ }
 {
     if at < w.len() { w[at] } else { 0 }
-}
-
-// The byte that stands n before the end; the first where the word is shorter.
-pub fn byte_back(w: &[u8], n: usize) -> u8
-    ensures { λ r. ⌜ r ≡ getD (now (w .entry)) (length (now (w .entry)) - n) 0 ⌝ }
-{
-    if n <= w.len() {
-        byte(w, w.len() - n)
-    } else {
-        byte(w, 0)
-    }
 }
 
 pub fn shape_by(x: u8) -> Shape
@@ -43,46 +32,70 @@ pub fn shape_by(x: u8) -> Shape
     Shape::S16x256
 }
 
-pub fn num_by(x: u8, y: u8) -> Num
-    ensures { λ r. ⌜ r ≡ numBy x y ⌝ }
+// Where the digits of .xN stand.
+pub fn num_place(shape: Shape) -> usize
+    ensures { λ r. ⌜ r ≡ numPlace shape ⌝ }
 {
-    if x == 120 {
-        if y == 49 {
-            return Num::X1;
+    match shape {
+        Shape::S32x32 => 32,
+        Shape::S16x64 => 32,
+        Shape::S16x128 => 33,
+        Shape::S16x256 => 33,
+    }
+}
+
+// By the first two bytes of N and what follows it.
+pub fn num_at(x: u8, y: u8) -> Num
+    ensures { λ r. ⌜ r ≡ numAt x y ⌝ }
+{
+    if x == 49 {
+        if y == 54 {
+            return Num::X16;
         }
         if y == 50 {
-            return Num::X2;
+            return Num::X128;
         }
-        if y == 52 {
-            return Num::X4;
-        }
-        return Num::X8;
+        return Num::X1;
     }
-    if x == 49 {
-        return Num::X16;
+    if x == 50 {
+        return Num::X2;
     }
     if x == 51 {
         return Num::X32;
     }
+    if x == 52 {
+        return Num::X4;
+    }
     if x == 54 {
         return Num::X64;
     }
-    Num::X128
+    Num::X8
 }
 
-pub fn kind_by(x: u8) -> Kind
-    ensures { λ r. ⌜ r ≡ kindBy x ⌝ }
+// Where the kind stands.
+pub fn kind_place(ws: bool, sp: bool) -> usize
+    ensures { λ r. ⌜ r ≡ kindPlace ws sp ⌝ }
 {
-    if x == 54 {
-        return Kind::F16;
+    if ws {
+        return if sp { 37 } else { 34 };
     }
-    if x == 50 {
+    if sp { 34 } else { 31 }
+}
+
+// By the first two bytes: f16, tf32, f8f6f4, i8.
+pub fn kind_at(x: u8, y: u8) -> Kind
+    ensures { λ r. ⌜ r ≡ kindAt x y ⌝ }
+{
+    if x == 116 {
         return Kind::Tf32;
     }
-    if x == 52 {
-        return Kind::F8f6f4;
+    if x == 105 {
+        return Kind::I8;
     }
-    Kind::I8
+    if y == 49 {
+        return Kind::F16;
+    }
+    Kind::F8f6f4
 }
 
 pub fn shape_of(w: &[u8]) -> Shape
@@ -91,29 +104,32 @@ pub fn shape_of(w: &[u8]) -> Shape
     shape_by(byte(w, 27))
 }
 
-pub fn num_of(w: &[u8]) -> Num
-    ensures { λ r. ⌜ r ≡ numOf (now (w .entry)) ⌝ }
+pub fn num_in(w: &[u8]) -> Num
+    ensures { λ r. ⌜ r ≡ numIn (now (w .entry)) ⌝ }
 {
-    num_by(byte_back(w, 6), byte_back(w, 5))
+    let p = num_place(shape_of(w));
+    num_at(byte(w, p), byte(w, p + 1))
 }
 
-pub fn mma_by(w: &[u8]) -> Opcode
-    ensures { λ r. ⌜ r ≡ mmaBy (now (w .entry)) ⌝ }
+pub fn mma_of(ws: bool, sp: bool, w: &[u8]) -> Opcode
+    ensures { λ r. ⌜ r ≡ mmaOf ws sp (now (w .entry)) ⌝ }
+{
+    let p = kind_place(ws, sp);
+    Opcode::Multiply {
+        ws,
+        sp,
+        kind: kind_at(byte(w, p), byte(w, p + 1)),
+    }
+}
+
+pub fn mma_in(w: &[u8]) -> Opcode
+    ensures { λ r. ⌜ r ≡ mmaIn (now (w .entry)) ⌝ }
 {
     let x = byte(w, 12);
-    let kind = kind_by(byte_back(w, 1));
     if x == 119 {
-        return Opcode::Multiply {
-            ws: true,
-            sp: byte(w, 15) == 115,
-            kind,
-        };
+        return mma_of(true, byte(w, 15) == 115, w);
     }
-    Opcode::Multiply {
-        ws: false,
-        sp: x == 115,
-        kind,
-    }
+    mma_of(false, x == 115, w)
 }
 
 pub fn wait_by(w: &[u8]) -> Opcode
@@ -146,23 +162,23 @@ pub fn mov_by(w: &[u8]) -> Opcode
     }
 }
 
-pub fn tcgen05_by(x: u8, w: &[u8]) -> Opcode
-    ensures { λ r. ⌜ r ≡ tcgen05By x (now (w .entry)) ⌝ }
+pub fn tcgen05_in(x: u8, w: &[u8]) -> Opcode
+    ensures { λ r. ⌜ r ≡ tcgen05In x (now (w .entry)) ⌝ }
 {
     if x == 108 {
         return Opcode::Load {
             shape: shape_of(w),
-            num: num_of(w),
+            num: num_in(w),
         };
     }
     if x == 115 {
         return Opcode::Store {
             shape: shape_of(w),
-            num: num_of(w),
+            num: num_in(w),
         };
     }
     if x == 109 {
-        return mma_by(w);
+        return mma_in(w);
     }
     if x == 97 {
         return Opcode::Alloc {
@@ -181,16 +197,16 @@ pub fn tcgen05_by(x: u8, w: &[u8]) -> Opcode
     Opcode::Relinquish
 }
 
-// The one opcode that a word can be.
-pub fn candidate_of(w: &[u8]) -> Opcode
-    ensures { λ r. ⌜ r ≡ candidate (now (w .entry)) ⌝ }
+// The one opcode that a text can start with.
+pub fn candidate_in(w: &[u8]) -> Opcode
+    ensures { λ r. ⌜ r ≡ candidateIn (now (w .entry)) ⌝ }
 {
     let x = byte(w, 0);
     if x == 109 {
         return mov_by(w);
     }
     if x == 116 {
-        return tcgen05_by(byte(w, 8), w);
+        return tcgen05_in(byte(w, 8), w);
     }
     Opcode::Exit
 }

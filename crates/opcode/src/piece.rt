@@ -6,8 +6,7 @@ ghost use mathlib.Core.Path.{_≡_};
 ghost use Prim.Native.Nat.{_+_, _≤_};
 ghost use lib.ListN.{length, drop};
 ghost use Rattle.statement.specs.Forms.{shapeText, numText, kindText, option};
-ghost use Rattle.statement.specs.Opcodes.{sameBytes};
-ghost use Rattle.opcode.specs.Pieces.{startsWith, leftSeen, pieceC, lastC};
+ghost use Rattle.opcode.specs.Pieces.{startsWith, leftSeen, pieceC, whole};
 
 // A position in a word, and whether all before it was as wanted.
 pub struct Place {
@@ -52,24 +51,11 @@ pub fn piece(w: &[u8], k: Place, p: &[u8]) -> Place
     }
 }
 
-// Whether p is all that is left.
-pub fn last(w: &[u8], k: Place, p: &[u8]) -> bool
-    ensures { λ r. ⌜ r ≡ lastC (now (p .entry)) (leftSeen (now (w .entry)) k) ⌝ }
+// Past a piece at the start.
+pub fn first(w: &[u8], p: &[u8]) -> Place
+    ensures { λ r. ⌜ leftSeen (now (w .entry)) r ≡ pieceC (now (p .entry)) (whole (now (w .entry))) ⌝ }
 {
-    let at = k.at;
-    if w.len() < at {
-        return k.ok & (p.len() == 0);
-    }
-    if w.len() - at != p.len() {
-        return false;
-    }
-    k.ok & has(w, at, p)
-}
-
-pub fn same(w: &[u8], p: &[u8]) -> bool
-    ensures { λ r. ⌜ r ≡ sameBytes (now (w .entry)) (now (p .entry)) ⌝ }
-{
-    last(w, Place { at: 0, ok: true }, p)
+    piece(w, Place { at: 0, ok: true }, p)
 }
 
 pub fn shape_piece(w: &[u8], k: Place, shape: Shape) -> Place
@@ -98,14 +84,14 @@ pub fn num_piece(w: &[u8], k: Place, num: Num) -> Place
     }
 }
 
-pub fn kind_last(w: &[u8], k: Place, kind: Kind) -> bool
-    ensures { λ r. ⌜ r ≡ lastC (kindText kind) (leftSeen (now (w .entry)) k) ⌝ }
+pub fn kind_piece(w: &[u8], k: Place, kind: Kind) -> Place
+    ensures { λ r. ⌜ leftSeen (now (w .entry)) r ≡ pieceC (kindText kind) (leftSeen (now (w .entry)) k) ⌝ }
 {
     match kind {
-        Kind::F16 => last(w, k, b"f16"),
-        Kind::Tf32 => last(w, k, b"tf32"),
-        Kind::F8f6f4 => last(w, k, b"f8f6f4"),
-        Kind::I8 => last(w, k, b"i8"),
+        Kind::F16 => piece(w, k, b"f16"),
+        Kind::Tf32 => piece(w, k, b"tf32"),
+        Kind::F8f6f4 => piece(w, k, b"f8f6f4"),
+        Kind::I8 => piece(w, k, b"i8"),
     }
 }
 

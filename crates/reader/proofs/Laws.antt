@@ -7,13 +7,13 @@ use mathlib.Core.Path.{_≡_, refl, sym, ap, _∙_}
 use mathlib.Core.List.{List, [], _∷_}
 use mathlib.Core.Bool.{Bool, true, false, _&&_}
 use lib.ListN.{length, set, take, drop}
-use lib.Seq.{sets, length-take-le}
+use lib.Seq.{sets}
 use lib.Dec.{leb}
 use borrow.Author.Tests.{leb-true, le-leb, lt-leb}
 use Rattle.tokens.specs.declared.Name.{Name}
 use Rattle.tokens.specs.declared.Cursor.{Cursor}
 use Rattle.tokens.specs.declared.NameRead.{NameRead}
-use Rattle.tokens.specs.Bytes.{pick, opcodeByte, runLen, afterBlanks, tokenOf}
+use Rattle.tokens.specs.Bytes.{pick, afterBlanks, tokenOf}
 use Rattle.tokens.specs.Numbers.{isNumber, valueOf}
 use Rattle.tokens.specs.Cursors.{Rest, seen, off, Took, markC, nameC, nameSeen, numberC}
 use Rattle.instruction.specs.declared.Kind.{Kind}
@@ -27,7 +27,9 @@ use Rattle.statement.specs.declared.Reading.{Reading}
 use Rattle.statement.specs.declared.Reading.the-variants.{Got, Refused}
 use Rattle.statement.specs.Forms.{Whole, plain}
 use Rattle.statement.specs.Opcodes.{recognise}
-use Rattle.statement.specs.Reading.{moreC, counted, his, los, answerOf, operandsC, start, opcodeLen, wholeC, readOf, fine, registersOf, told}
+use Rattle.statement.specs.Reading.{moreC, counted, his, los, answerOf, operandsC, start, opcodeLen, wholeBy, wholeC, readOf, fine, registersOf, told}
+use Rattle.opcode.specs.declared.Head.{Head}
+use Rattle.opcode.specs.Heads.{headSeen, headBy, headOf}
 use Rattle.reader.specs.Lists.{listC}
 
 -- ---- numbers
@@ -111,29 +113,23 @@ stored-end hi lo hi₀ lo₀ count v ns h =
 pub none-stored : (hi lo : List ℕ) (ns : List Name) → ns ≡ [] → (0 ≡ length ns) × ((hi ≡ sets hi 0 (his ns)) × (lo ≡ sets lo 0 (los ns)))
 none-stored hi lo ns h = rw h (refl, (refl, refl))
 
--- ---- a statement, in the words of the code: e is where the opcode ends
-run-le : (f : ℕ → Bool) (l : List ℕ) → runLen f l ≤ length l
-run-le f [] = omega arith
-run-le f (x ∷ l) = by (f x) (run-le f l)
+-- ---- a statement, by the opcode at its head
+head-whole : (s : List ℕ) → wholeC s ≡ wholeBy s (headOf s .rest) (headOf s .found)
+unfolding wholeC headOf
+head-whole s = by (recognise (take (opcodeLen s) s)) refl
   where
-    by : (b : Bool) → runLen f l ≤ length l → pick b (suc (runLen f l)) 0 ≤ suc (length l)
-    by true h = omega arith
-    by false h = omega arith
+    by : (f : Found) → recognise (take (opcodeLen s) s) ≡ f
+        → wholeBy s (drop (opcodeLen s) s) (recognise (take (opcodeLen s) s)) ≡ wholeBy s (headBy s (recognise (take (opcodeLen s) s)) .rest) (headBy s (recognise (take (opcodeLen s) s)) .found)
+    by (Is o) e = rw e
+    by Nothing e = rw e
 
-module _ (s : List ℕ) (e : ℕ) (ends : e ≡ 0 + runLen opcodeByte (drop 0 s)) where
-  opcode-len : opcodeLen s ≡ e
-  opcode-len = omega arith
+-- in the words of the code
+module _ (s : List ℕ) (h : Head) (is : headSeen s h ≡ headOf s) where
+  pub whole-is : (o : Opcode) → h .found ≡ Is o → wholeC s ≡ operandsC o (start (drop (h .end) s))
+  whole-is o e = head-whole s ∙ rw (← is, e)
 
-  pub opcode-taken : e ≡ length (take e s)
-  opcode-taken = sym (length-take-le e s (omega (arith, run-le opcodeByte s)))
-
-  pub whole-is : (o : Opcode) (f : Found) → f ≡ recognise (take e s) → f ≡ Is o → wholeC s ≡ operandsC o (start (drop e s))
-  unfolding wholeC
-  whole-is o f r i = rw (opcode-len, ← r, i)
-
-  pub whole-none : (f : Found) → f ≡ recognise (take e s) → f ≡ Nothing → wholeC s ≡ record { value = plain Exit; next = off (start s) s }
-  unfolding wholeC
-  whole-none f r i = rw (opcode-len, ← r, i)
+  pub whole-none : h .found ≡ Nothing → wholeC s ≡ record { value = plain Exit; next = off (start s) s }
+  whole-none e = head-whole s ∙ rw (← is, e)
 
 -- ---- the answer
 pub read-long : (s : List ℕ) → 4096 < length s → Refused 3 4096 ≡ readOf s

@@ -8,7 +8,7 @@ use statement::Reading;
 use statement::Statement;
 use tokens::Cursor;
 ghost use mathlib.Core.Path.{_≡_};
-ghost use lib.ListN.{length, drop, take};
+ghost use lib.ListN.{length};
 ghost use lib.Seq.{sets};
 ghost use Rattle.tokens.specs.Cursors.{seen};
 ghost use Rattle.statement.specs.Reading.{readOf, reasonOf, registersOf, his, los, operandsC, told};
@@ -42,8 +42,9 @@ pub fn read(s: &[u8]) -> Reading
     if 4096 < s.len() {
         return Reading::Refused(3, 4096);
     }
-    let e = lexer::bytes::opcode_end(s, 0);
-    let f = opcode::recognise_word(&s[..e]);
+    let h = opcode::head_of(s);
+    let e = h.end;
+    let f = h.found;
     let Found::Is(o) = f else {
         return Reading::Refused(3, 0);
     };
@@ -96,8 +97,9 @@ pub fn registers(s: &[u8], hi: &mut [u64; 128], lo: &mut [u64; 128]) -> usize
     if 4096 < s.len() {
         return 0;
     }
-    let e = lexer::bytes::opcode_end(s, 0);
-    let f = opcode::recognise_word(&s[..e]);
+    let h = opcode::head_of(s);
+    let e = h.end;
+    let f = h.found;
     let Found::Is(o) = f else {
         return 0;
     };

@@ -32,9 +32,12 @@ layout =
 abbrev pub numbers : Shared → List ℕ
 numbers d = d .start ∷ d .leading ∷ d .stride ∷ d .base ∷ d .mode ∷ d .swizzle ∷ []
 
--- the descriptor of six numbers
+-- the descriptor of a list of six numbers: any six name one
+abbrev pub sharedIn : List ℕ → Shared
+sharedIn l = record { start = getD l 0 0; leading = getD l 1 0; stride = getD l 2 0; base = getD l 3 0; mode = getD l 4 0; swizzle = getD l 5 0 }
+
 abbrev pub named : List ℕ → Option Shared
-named l = some (record { start = getD l 0 0; leading = getD l 1 0; stride = getD l 2 0; base = getD l 3 0; mode = getD l 4 0; swizzle = getD l 5 0 })
+named l = some (sharedIn l)
 
 -- Swizzle is 0, 1, 2, 4 or 6. Base offset is 0 when swizzle is 0.
 abbrev pub rules : Shared → List Bool

@@ -1,4 +1,4 @@
--- What the functions on plain numbers answer: those of the crate `descriptor`, and for a number that is no kind, or a flag that is not 0 or 1, what
+-- What the functions on plain numbers answer: those of the crates `instruction` and `shared_memory`, and for a number that is no kind, or a flag that is not 0 or 1, what
 -- they answer to a refusal. Assumes nothing.
 use Prim.Native.Nat.{ℕ}
 use mathlib.Core.Bool.{Bool, _&&_, cond}
@@ -43,24 +43,6 @@ abbrev pub decodedFor : Option Opcode → ℕ → InstructionRead
 decodedFor none word = I.noDescriptor
 decodedFor (some o) word = I.decoded (o .kind) (o .ws) (o .sp) word
 
--- the fields in a list of thirteen numbers
-abbrev pub fieldsOf : List ℕ → Fields
-fieldsOf l = record {
-  selector = getD l 0 0;
-  sparse = getD l 1 0;
-  saturate = getD l 2 0;
-  dtype = getD l 3 0;
-  atype = getD l 4 0;
-  btype = getD l 5 0;
-  anegate = getD l 6 0;
-  bnegate = getD l 7 0;
-  atranspose = getD l 8 0;
-  btranspose = getD l 9 0;
-  n = getD l 10 0;
-  m = getD l 11 0;
-  shift = getD l 12 0;
-}
-
 -- the word of fields
 abbrev pub encodedFor : Option Opcode → Fields → InstructionWord
 encodedFor none f = I.noWord
@@ -71,18 +53,12 @@ abbrev pub judgedFor : Option Opcode → ℕ → ℕ
 judgedFor none word = 12
 judgedFor (some o) word = I.wordReason (o .kind) (o .ws) (o .sp) word
 
--- the reason of fields: that of their word
-abbrev pub listedBy : Option Opcode → InstructionWord → ℕ
-listedBy o w = cond (eqb (w .reason) 0) (judgedFor o (w .word)) 12
-
+-- the reason of fields
 abbrev pub listedFor : Option Opcode → Fields → ℕ
-listedFor o f = listedBy o (encodedFor o f)
+listedFor none f = 12
+listedFor (some o) f = I.fieldsReason (o .kind) (o .ws) (o .sp) f
 
 -- K, or 12 with 0
 abbrev pub kFor : Option Opcode → KRead
 kFor none = record { reason = 12; k = 0 }
 kFor (some o) = record { reason = 0; k = I.kOf (o .kind) (o .sp) }
-
--- the shared memory descriptor of a list of six numbers
-abbrev pub sharedOf : List ℕ → Shared
-sharedOf l = record { start = getD l 0 0; leading = getD l 1 0; stride = getD l 2 0; base = getD l 3 0; mode = getD l 4 0; swizzle = getD l 5 0 }

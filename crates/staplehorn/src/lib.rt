@@ -1,2 +1,3 @@
-// What C and Rust link: the functions on plain numbers and fixed arrays. include/staplehorn.h has their C declarations.
+// What C and Rust link: the functions on plain numbers, fixed arrays and bytes. include/staplehorn.h has their C declarations.
+pub mod statements;
 pub mod words;

@@ -5,7 +5,7 @@ use instruction::InstructionWord;
 use instruction::Kind;
 use shared_memory::Shared;
 ghost use mathlib.Core.Path.{_≡_};
-ghost use Rattle.staplehorn.specs.Words.{kindOf, kindSeen, opcodeOf, opcodeSeen, decodedFor, fieldsOf, encodedFor, judgedFor, listedFor, kFor, sharedOf};
+ghost use Rattle.staplehorn.specs.Words.{kindOf, kindSeen, opcodeOf, opcodeSeen, decodedFor, encodedFor, judgedFor, listedFor, kFor};
 ghost use Rattle.instruction.specs.Instruction as I;
 ghost use Rattle.shared_memory.specs.Shared as S;
 ghost use Rattle.request.specs.Request.{requestReason};
@@ -98,7 +98,7 @@ fn encode_numbers(kind: u32, ws: u32, sp: u32, f: Fields) -> InstructionWord
 
 // An array as fields.
 fn fields_at(l: [u32; 13]) -> Fields
-    ensures { λ r. ⌜ r ≡ fieldsOf l ⌝ }
+    ensures { λ r. ⌜ r ≡ I.fieldsIn l ⌝ }
 {
     Fields {
         selector: l[0],
@@ -165,8 +165,8 @@ pub extern "C" fn staplehorn_instruction_encode(
     fields: &[u32; 13],
     word: &mut u32,
 ) -> u32
-    ensures reason { λ r. ⌜ r ≡ encodedFor (opcodeOf kind ws sp) (fieldsOf (now (fields .entry))) .reason ⌝ }
-    ensures word { λ _. ⌜ now (word .exit) ≡ encodedFor (opcodeOf kind ws sp) (fieldsOf (now (fields .entry))) .word ⌝ }
+    ensures reason { λ r. ⌜ r ≡ encodedFor (opcodeOf kind ws sp) (I.fieldsIn (now (fields .entry))) .reason ⌝ }
+    ensures word { λ _. ⌜ now (word .exit) ≡ encodedFor (opcodeOf kind ws sp) (I.fieldsIn (now (fields .entry))) .word ⌝ }
 {
     let r = encode_numbers(kind, ws, sp, fields_at(*fields));
     *word = r.word;
@@ -192,7 +192,18 @@ pub extern "C" fn staplehorn_instruction_judge(kind: u32, ws: u32, sp: u32, word
     judge_word(kind, ws, sp, word)
 }
 
-// The reason of a descriptor's fields: that of their word.
+// The reason of a descriptor's fields.
+fn judge_fields(kind: u32, ws: u32, sp: u32, f: Fields) -> u32
+    ensures { λ r. ⌜ r ≡ listedFor (opcodeOf kind ws sp) f ⌝ }
+{
+    let OpcodeRead::Is(o) = opcode_of(kind, ws, sp) else {
+        return 12;
+    };
+    let k = o.kind;
+    instruction::listed_fields(k, o.ws, o.sp, f)
+}
+
+// The reason of a descriptor's fields: 12 if no word reads as them, 13 if they are not listed, else 0.
 #[no_mangle]
 pub extern "C" fn staplehorn_instruction_listed(
     kind: u32,
@@ -200,14 +211,9 @@ pub extern "C" fn staplehorn_instruction_listed(
     sp: u32,
     fields: &[u32; 13],
 ) -> u32
-    ensures { λ r. ⌜ r ≡ listedFor (opcodeOf kind ws sp) (fieldsOf (now (fields .entry))) ⌝ }
+    ensures { λ r. ⌜ r ≡ listedFor (opcodeOf kind ws sp) (I.fieldsIn (now (fields .entry))) ⌝ }
 {
-    let w = encode_numbers(kind, ws, sp, fields_at(*fields));
-    if w.reason == 0 {
-        judge_word(kind, ws, sp, w.word)
-    } else {
-        12
-    }
+    judge_fields(kind, ws, sp, fields_at(*fields))
 }
 
 // K of an opcode.
@@ -250,8 +256,8 @@ pub extern "C" fn staplehorn_shared_decode(word: u64, fields: &mut [u64; 6]) -> 
 // Writes a shared memory descriptor.
 #[no_mangle]
 pub extern "C" fn staplehorn_shared_encode(fields: &[u64; 6], word: &mut u64) -> u32
-    ensures reason { λ r. ⌜ r ≡ S.encoded (sharedOf (now (fields .entry))) .reason ⌝ }
-    ensures word { λ _. ⌜ now (word .exit) ≡ S.encoded (sharedOf (now (fields .entry))) .word ⌝ }
+    ensures reason { λ r. ⌜ r ≡ S.encoded (S.sharedIn (now (fields .entry))) .reason ⌝ }
+    ensures word { λ _. ⌜ now (word .exit) ≡ S.encoded (S.sharedIn (now (fields .entry))) .word ⌝ }
 {
     let r = shared_memory::encode(Shared {
         start: fields[0],

@@ -1,7 +1,7 @@
 -- A given statement's text has at most 2,560 bytes: 128 names of 16 bytes with two before each, an address, and a word. Assumes nothing.
-use Prim.Native.Nat.{ℕ, zero, suc, _+_, _*_, _/_, _%_, _<_, _≤_}
+use Prim.Native.Nat.{ℕ, zero, suc, _+_, _*_, _/_, _%_, _≤_}
 use native.Mathlib.Omega.{arith}
-use mathlib.Core.Path.{_≡_, refl, sym, ap, _∙_}
+use mathlib.Core.Path.{_≡_, refl}
 use mathlib.Core.List.{List, [], _∷_, _++_}
 use mathlib.Core.Bool.{Bool, true, false, _&&_}
 use lib.ListN.{length, length-append}
@@ -19,13 +19,13 @@ use Rattle.statement.specs.declared.Num.{Num}
 use Rattle.statement.specs.declared.Num.the-variants.{X1, X2, X4, X8, X16, X32, X64, X128}
 use Rattle.statement.specs.declared.Address.{Address}
 use Rattle.statement.specs.declared.Operand.{Operand}
-use Rattle.statement.specs.declared.Operand.the-variants as o
 use Rattle.statement.specs.declared.Statement.{Statement}
 use Rattle.statement.specs.declared.Opcode.{Opcode}
 use Rattle.statement.specs.declared.Opcode.the-variants.{Mov32, Mov64, Alloc, Dealloc, Relinquish, Load, Store, WaitLoad, WaitStore, FenceBefore, FenceAfter, Multiply, Exit}
 use Rattle.statement.specs.Text.{bytes}
 use Rattle.statement.specs.Forms.{word, shapeText, numText, kindText, option, Slot, name, number, inBrackets, address, operand, names, Value, Values, row}
 use Rattle.statement.specs.Canonical.{opcodeOf, valuesOf, countOf, offsetText, addressText, operandText, moreNamesText, namesText, slotText, slotGiven, moreRowText, rowText, rowGiven, allNames, textOf, given}
+use Rattle.statement.specs.declared.Operand.the-variants as o
 
 and-left : (a b : Bool) → (a && b) ≡ true → a ≡ true
 and-left true b e = refl

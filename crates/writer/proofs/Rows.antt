@@ -2,7 +2,7 @@
 use Prim.Native.Nat.{ℕ, zero, suc, _+_, _<_, _≤_}
 use native.Mathlib.Omega.{arith}
 use native.Mathlib.Numerals.{add-one}
-use mathlib.Core.Path.{_≡_, refl, sym, ap, _∙_}
+use mathlib.Core.Path.{_≡_, refl, ap}
 use mathlib.Core.List.{List, [], _∷_, _++_, append-assoc}
 use mathlib.Core.Bool.{Bool, true, false, _&&_}
 use lib.ListN.{length, getD, take, drop, length-take, drop-of-length-le}
@@ -11,7 +11,7 @@ use borrow.Author.Tests.{lt-ltb, le-leb, lt-leb, eq-eqb, ne-eqb, eqb-true}
 use Rattle.tokens.specs.declared.Name.{Name}
 use Rattle.tokens.specs.Names.{nameBytes, nameGiven}
 use Rattle.tokens.specs.Numbers.{decimal}
-use Rattle.statement.specs.Forms.{Slot, Value, Values, max32}
+use Rattle.statement.specs.Forms.{Slot, Values, max32}
 use Rattle.statement.specs.Reading.{paired}
 use Rattle.statement.specs.Canonical.{slotText, slotGiven, moreRowText, rowText, rowGiven, offsetText, moreNamesText, namesText, allNames}
 use Rattle.writer.specs.Outputs.{Out, outSeen, addC}

@@ -119,5 +119,8 @@ pub fn name(t: &mut [u8; 2560], at: usize, n: Name) -> usize
         return FAILED;
     }
     let m = put(t, at, &h[a..]);
+    if b == 8 {
+        return m;
+    }
     put(t, m, &l[b..])
 }

@@ -1,3 +1,4 @@
+-- `instruction::admits` meets its contract: the two answers on types and the tests on flags are the rules, by `admitted`. Assumes nothing.
 use Rattle.instruction.specs.Instruction.{values}
 use Rattle.instruction.proofs.NumberLaws.{admitted}
 use borrow.Author.Needs.{needs}

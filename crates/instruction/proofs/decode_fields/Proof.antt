@@ -1,3 +1,4 @@
+-- `instruction::decode_fields` meets its contract: what the word says is kept or not, by `read-fields` and `read-refused`. Assumes nothing.
 use mathlib.Core.Path.{_≡_, refl, sym, _∙_, ap, ap₂}
 use mathlib.Core.Bool.{_&&_}
 use Rattle.instruction.specs.Instruction.{fieldsRead}

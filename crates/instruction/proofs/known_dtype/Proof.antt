@@ -1,3 +1,4 @@
+-- `instruction::known_dtype` meets its contract: a search finds something where some element passes. Assumes nothing.
 use mathlib.Core.Path.{sym}
 use lib.Dec.{eqb}
 use Rattle.laws.proofs.TestLaws.{find-any}

@@ -1,3 +1,4 @@
+-- `instruction::known_element` meets its contract: a search finds something where some element passes, at each kind. Assumes nothing.
 use mathlib.Core.Path.{sym, _∙_}
 use mathlib.Core.Bool.{_&&_}
 use lib.Dec.{eqb}

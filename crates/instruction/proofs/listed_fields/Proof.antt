@@ -1,38 +1,23 @@
-use mathlib.Core.Path.{sym, _∙_}
-use borrow.Author.Tests.{not-true, not-false}
+-- `instruction::listed_fields` meets its contract: the numbers have a word or none, and then the listing decides. Assumes nothing.
+use mathlib.Core.Path.{refl}
+use borrow.Author.Tests.{eq-eqb, ne-eqb}
+use Rattle.instruction.proofs.NumberLaws.{listed-made, listed-none}
 use borrow.Author.Needs.{needs}
 use Rattle.instruction.proofs.listed_fields.Statement.{statement}
 use Rattle.instruction.proofs.listed_fields.Tie as tie
 
-m-listed-requires : tie.Need-m-listed-requires
-m-listed-requires c κs = search needs
+encode-fields-requires : tie.Need-encode-fields-requires
+encode-fields-requires c κs = search needs
+
+listing-reason-requires : tie.Need-listing-reason-requires
+listing-reason-requires c κs = search needs
 
 returns : tie.Need-returns
-returns c = rw (sym (c .before .m-listed .ensures) ∙ not-true _ (c .if1 .taken))
-
-n-listed-requires : tie.Need-n-listed-requires
-n-listed-requires c κs = search needs
+returns c = listed-made (c .before .before .before .before .args .kind) (c .before .before .before .before .args .ws) {f = c .before .before .before .before .args .f} (c .before .before .before .encode-fields .ensures) (eq-eqb _ _ (c .before .if1 .taken)) (c .listing-reason .ensures) refl
 
 returns-2 : tie.Need-returns-2
-returns-2 c = rw (sym (c .before .before .before .m-listed .ensures) ∙ not-false _ (c .before .before .if1 .left), sym (c .before .n-listed .ensures) ∙ not-true _ (c .if2 .taken))
-
-types-listed-requires : tie.Need-types-listed-requires
-types-listed-requires c κs = search needs
-
-returns-3 : tie.Need-returns-3
-returns-3 c = rw (sym (c .before .before .before .before .before .m-listed .ensures) ∙ not-false _ (c .before .before .before .before .if1 .left), sym (c .before .before .before .n-listed .ensures) ∙ not-false _ (c .before .before .if2 .left), sym (c .before .types-listed .ensures) ∙ c .if3 .taken)
-
-returns-4 : tie.Need-returns-4
-returns-4 c = rw (sym (c .before .before .before .before .before .m-listed .ensures) ∙ not-false _ (c .before .before .before .before .if1 .left), sym (c .before .before .before .n-listed .ensures) ∙ not-false _ (c .before .before .if2 .left), sym (c .before .types-listed .ensures) ∙ c .if3 .left)
+returns-2 c = listed-none (c .before .before .before .args .kind) (c .before .before .before .args .ws) (c .before .before .before .args .f) (c .before .before .encode-fields .ensures) (ne-eqb _ _ (c .if1 .left))
 
 pub listed-fields-spec : {M : Type 1} → statement M
 listed-fields-spec =
-    tie.close
-    (tie.spec
-    m-listed-requires
-    returns
-    n-listed-requires
-    returns-2
-    types-listed-requires
-    returns-3
-    returns-4)
+    tie.close (tie.spec encode-fields-requires listing-reason-requires returns returns-2)

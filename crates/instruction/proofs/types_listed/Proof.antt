@@ -1,3 +1,4 @@
+-- `instruction::types_listed` meets its contract: the code makes the kind's own test. Assumes nothing.
 use borrow.Author.Needs.{needs}
 use Rattle.instruction.proofs.types_listed.Statement.{statement}
 use Rattle.instruction.proofs.types_listed.Tie as tie

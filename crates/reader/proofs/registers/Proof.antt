@@ -2,7 +2,7 @@
 -- Assumes nothing.
 use Rattle.statement.specs.Reading.{registersOf}
 use Rattle.reader.specs.Lists.{listC}
-use Rattle.reader.proofs.Laws.{none-stored, opcode-taken, whole-is, whole-none, registers-long, registers-none, registers-refused, registers-got}
+use Rattle.reader.proofs.Laws.{none-stored, whole-is, whole-none, registers-long, registers-none, registers-refused, registers-got}
 use borrow.Author.Needs.{needs}
 use Rattle.reader.proofs.registers.Statement.{statement}
 use Rattle.reader.proofs.registers.Tie as tie
@@ -12,16 +12,8 @@ returns c =
     let a = c .before .before .args in
     none-stored (a .hi .now) (a .lo .now) (registersOf (a .s .now)) (registers-long (a .s .now) (c .if1 .taken))
 
-opcode-end-requires : tie.Need-opcode-end-requires
-opcode-end-requires c κs = search needs
-
-slice-aggregate-recognise-word : tie.Need-slice-aggregate-recognise-word
-slice-aggregate-recognise-word c =
-    let opcode-end = c .before .opcode-end in
-    opcode-taken (c .before .before .before .before .args .s .now) (opcode-end .result) (opcode-end .ensures)
-
-recognise-word-requires : tie.Need-recognise-word-requires
-recognise-word-requires c κs = search needs
+head-of-requires : tie.Need-head-of-requires
+head-of-requires c κs = search needs
 
 enum-known-f : tie.Need-enum-known-f
 enum-known-f c = search needs
@@ -31,11 +23,10 @@ enum-told c = search needs
 
 returns-2 : tie.Need-returns-2
 returns-2 c =
-    let a = c .before .before .before .before .before .before .before .args in
-    let opcode-end = c .before .before .before .before .opcode-end in
-    let recognise-word = c .before .before .recognise-word in
-    none-stored (a .hi .now) (a .lo .now) (registersOf (a .s .now)) (registers-none (a .s .now) (c .before .before .before .before .before .if1 .left)
-    (whole-none (a .s .now) (opcode-end .result) (opcode-end .ensures) (recognise-word .result) (recognise-word .ensures) (c .enum-told .given .1)))
+    let a = c .before .before .before .before .before .args in
+    let head-of = c .before .before .head-of in
+    none-stored (a .hi .now) (a .lo .now) (registersOf (a .s .now)) (registers-none (a .s .now) (c .before .before .before .if1 .left) (whole-none
+    (a .s .now) (head-of .result) (head-of .ensures) (c .enum-told .given .1)))
 
 operands-requires : tie.Need-operands-requires
 operands-requires c κs = search needs
@@ -50,16 +41,13 @@ returns-3 : tie.Need-returns-3
 returns-3 c =
     let c₁ = c .before .before .before .before in
     let c₂ = c₁ .before .before in
-    let c₃ = c₂ .before .before in
-    let c₄ = c₃ .before in
-    let c₅ = c₄ .before .before in
-    let a = c₅ .args in
-    let opcode-end = c₃ .opcode-end in
-    let recognise-word = c₂ .recognise-word in
+    let c₃ = c₂ .before in
+    let c₄ = c₃ .before .before in
+    let a = c₄ .args in
+    let head-of = c₂ .head-of in
     let operands = c .before .before .operands in
-    none-stored (a .hi .now) (a .lo .now) (registersOf (a .s .now)) (registers-refused (a .s .now) _ (operands .result) (c₄ .if1 .left) (whole-is
-    (a .s .now) (opcode-end .result) (opcode-end .ensures) _ (recognise-word .result) (recognise-word .ensures) (c₁ .f .given .1)) (operands .ensures)
-    _ _ (c .enum-told3 .given .1))
+    none-stored (a .hi .now) (a .lo .now) (registersOf (a .s .now)) (registers-refused (a .s .now) _ (operands .result) (c₃ .if1 .left) (whole-is
+    (a .s .now) (head-of .result) (head-of .ensures) _ (c₁ .f .given .1)) (operands .ensures) _ _ (c .enum-told3 .given .1))
 
 list-of-requires : tie.Need-list-of-requires
 list-of-requires c κs = search needs
@@ -70,25 +58,20 @@ returns-4 c =
     let c₁ = c .before .before .before .before .before in
     let c₂ = c₁ .before .before in
     let c₃ = c₂ .before .before in
-    let c₄ = c₃ .before .before in
-    let c₅ = c₄ .before in
-    let c₆ = c₅ .before .before in
-    let a = c₆ .args in
-    let opcode-end = c₄ .opcode-end in
-    let recognise-word = c₃ .recognise-word in
+    let c₄ = c₃ .before in
+    let c₅ = c₄ .before .before in
+    let a = c₅ .args in
+    let head-of = c₃ .head-of in
     let operands = c₁ .operands in
-    rw (registers-got (a .s .now) _ (operands .result) (c₅ .if1 .left) (whole-is (a .s .now) (opcode-end .result) (opcode-end .ensures) _
-    (recognise-word .result) (recognise-word .ensures) (c₂ .f .given .1)) (operands .ensures) _ (c .before .before .before .enum-told2 .given .1))
-    (c .list-of .ensures)
+    rw (registers-got (a .s .now) _ (operands .result) (c₄ .if1 .left) (whole-is (a .s .now) (head-of .result) (head-of .ensures) _ (c₂ .f .given .1))
+    (operands .ensures) _ (c .before .before .before .enum-told2 .given .1)) (c .list-of .ensures)
 
 pub registers-spec : {M : Type 1} → statement M
 registers-spec =
     tie.close
     (tie.spec
     returns
-    opcode-end-requires
-    slice-aggregate-recognise-word
-    recognise-word-requires
+    head-of-requires
     enum-known-f
     enum-told
     returns-2

@@ -1,208 +1,154 @@
+-- `writer::compose` meets its contract: each statement is added by the function of its form. Assumes nothing.
+use borrow.Author.Needs.{needs}
 use Rattle.statement.specs.Forms.{word}
 use Rattle.statement.specs.Canonical.{rowText, rowGiven, textOf, given}
-use borrow.Author.Needs.{needs}
 use Rattle.writer.proofs.compose.Statement.{statement}
 use Rattle.writer.proofs.compose.Tie as tie
-use Rattle.writer.proofs.compose.Reads as reads
-use Rattle.writer.proofs.compose.Lts as lts
-use Rattle.writer.proofs.form.alloc.Reads as alloc-reads
-use Rattle.writer.proofs.form.dealloc.Reads as dealloc-reads
-use Rattle.writer.proofs.form.load.Reads as load-reads
-use Rattle.writer.proofs.form.mov32.Reads as mov32-reads
-use Rattle.writer.proofs.form.mov64.Reads as mov64-reads
-use Rattle.writer.proofs.form.multiply.Reads as multiply-reads
-use Rattle.writer.proofs.form.store.Reads as store-reads
-use Rattle.writer.proofs.output.put.Reads as put-reads
 
--- src/lib.rt:21:26
 enum-known-statement : tie.Need-enum-known-statement
 enum-known-statement c = search needs
 
--- src/lib.rt:21:35
 mov32-requires : tie.Need-mov32-requires
 mov32-requires c κs = search needs
 
--- src/lib.rt:22:26
 enum-known-statement-2 : tie.Need-enum-known-statement-2
 enum-known-statement-2 c = search needs
 
--- src/lib.rt:22:35
 mov64-requires : tie.Need-mov64-requires
 mov64-requires c κs = search needs
 
--- src/lib.rt:23:26
 enum-known-statement-3 : tie.Need-enum-known-statement-3
 enum-known-statement-3 c = search needs
 
--- src/lib.rt:23:35
 alloc-requires : tie.Need-alloc-requires
 alloc-requires c κs = search needs
 
--- src/lib.rt:24:28
 enum-known-statement-4 : tie.Need-enum-known-statement-4
 enum-known-statement-4 c = search needs
 
--- src/lib.rt:24:37
 dealloc-requires : tie.Need-dealloc-requires
 dealloc-requires c κs = search needs
 
--- src/lib.rt:25:46
 enum-told : tie.Need-enum-told
 enum-told c = search needs
 
--- src/lib.rt:25:52
 slice-aggregate-put : tie.Need-slice-aggregate-put
 slice-aggregate-put c = search needs
 
--- src/lib.rt:25:34
 put-requires : tie.Need-put-requires
 put-requires c κs = search needs
 
--- src/lib.rt:26:25
 enum-known-statement-5 : tie.Need-enum-known-statement-5
 enum-known-statement-5 c = search needs
 
--- src/lib.rt:26:31
 load-requires : tie.Need-load-requires
 load-requires c κs = search needs
 
--- src/lib.rt:27:26
 enum-known-statement-6 : tie.Need-enum-known-statement-6
 enum-known-statement-6 c = search needs
 
--- src/lib.rt:27:32
 store-requires : tie.Need-store-requires
 store-requires c κs = search needs
 
--- src/lib.rt:28:44
 enum-told-2 : tie.Need-enum-told-2
 enum-told-2 c = search needs
 
--- src/lib.rt:28:50
 slice-aggregate-put-2 : tie.Need-slice-aggregate-put-2
 slice-aggregate-put-2 c = search needs
 
--- src/lib.rt:28:32
 put-requires-2 : tie.Need-put-requires-2
 put-requires-2 c κs = search needs
 
--- src/lib.rt:29:45
 enum-told-3 : tie.Need-enum-told-3
 enum-told-3 c = search needs
 
--- src/lib.rt:29:51
 slice-aggregate-put-3 : tie.Need-slice-aggregate-put-3
 slice-aggregate-put-3 c = search needs
 
--- src/lib.rt:29:33
 put-requires-3 : tie.Need-put-requires-3
 put-requires-3 c κs = search needs
 
--- src/lib.rt:30:47
 enum-told-4 : tie.Need-enum-told-4
 enum-told-4 c = search needs
 
--- src/lib.rt:30:53
 slice-aggregate-put-4 : tie.Need-slice-aggregate-put-4
 slice-aggregate-put-4 c = search needs
 
--- src/lib.rt:30:35
 put-requires-4 : tie.Need-put-requires-4
 put-requires-4 c κs = search needs
 
--- src/lib.rt:31:46
 enum-told-5 : tie.Need-enum-told-5
 enum-told-5 c = search needs
 
--- src/lib.rt:31:52
 slice-aggregate-put-5 : tie.Need-slice-aggregate-put-5
 slice-aggregate-put-5 c = search needs
 
--- src/lib.rt:31:34
 put-requires-5 : tie.Need-put-requires-5
 put-requires-5 c κs = search needs
 
--- src/lib.rt:32:29
 enum-known-statement-7 : tie.Need-enum-known-statement-7
 enum-known-statement-7 c = search needs
 
--- src/lib.rt:32:35
 multiply-requires : tie.Need-multiply-requires
 multiply-requires c κs = search needs
 
--- src/lib.rt:33:40
 enum-told-6 : tie.Need-enum-told-6
 enum-told-6 c = search needs
 
--- src/lib.rt:33:46
 slice-aggregate-put-6 : tie.Need-slice-aggregate-put-6
 slice-aggregate-put-6 c = search needs
 
--- src/lib.rt:33:28
 put-requires-6 : tie.Need-put-requires-6
 put-requires-6 c κs = search needs
 
--- src/lib.rt:17:1
 returns : tie.Need-returns
 unfolding textOf given
 returns c = rw (c .before .before .before .statement .given .1) (c .mov32 .ensures)
 
--- src/lib.rt:17:1
 returns-2 : tie.Need-returns-2
 unfolding textOf given
 returns-2 c = rw (c .before .before .before .statement2 .given .1) (c .mov64 .ensures)
 
--- src/lib.rt:17:1
 returns-3 : tie.Need-returns-3
 unfolding textOf given
 returns-3 c = rw (c .before .before .before .statement3 .given .1) (c .alloc .ensures)
 
--- src/lib.rt:17:1
 returns-4 : tie.Need-returns-4
 unfolding textOf given
 returns-4 c = rw (c .before .before .before .statement4 .given .1) (c .dealloc .ensures)
 
--- src/lib.rt:17:1
 returns-5 : tie.Need-returns-5
 unfolding word rowText rowGiven textOf given
 returns-5 c = rw (c .before .before .before .enum-told .given .1) (c .put .ensures)
 
--- src/lib.rt:17:1
 returns-6 : tie.Need-returns-6
 unfolding textOf given
 returns-6 c = rw (c .before .before .before .statement5 .given .1) (c .load .ensures)
 
--- src/lib.rt:17:1
 returns-7 : tie.Need-returns-7
 unfolding textOf given
 returns-7 c = rw (c .before .before .before .statement6 .given .1) (c .store .ensures)
 
--- src/lib.rt:17:1
 returns-8 : tie.Need-returns-8
 unfolding word rowText rowGiven textOf given
 returns-8 c = rw (c .before .before .before .enum-told2 .given .1) (c .put2 .ensures)
 
--- src/lib.rt:17:1
 returns-9 : tie.Need-returns-9
 unfolding word rowText rowGiven textOf given
 returns-9 c = rw (c .before .before .before .enum-told3 .given .1) (c .put3 .ensures)
 
--- src/lib.rt:17:1
 returns-10 : tie.Need-returns-10
 unfolding word rowText rowGiven textOf given
 returns-10 c = rw (c .before .before .before .enum-told4 .given .1) (c .put4 .ensures)
 
--- src/lib.rt:17:1
 returns-11 : tie.Need-returns-11
 unfolding word rowText rowGiven textOf given
 returns-11 c = rw (c .before .before .before .enum-told5 .given .1) (c .put5 .ensures)
 
--- src/lib.rt:17:1
 returns-12 : tie.Need-returns-12
 unfolding textOf given
 returns-12 c = rw (c .before .before .before .statement7 .given .1) (c .multiply .ensures)
 
--- src/lib.rt:17:1
 returns-13 : tie.Need-returns-13
 unfolding word rowText rowGiven textOf given
 returns-13 c = rw (c .before .before .before .enum-told6 .given .1) (c .put6 .ensures)

@@ -18,20 +18,24 @@ blanks-end-requires c κs = search needs
 numeral-requires : tie.Need-numeral-requires
 numeral-requires c κs = search needs
 
+moved-requires : tie.Need-moved-requires
+moved-requires c κs = search needs
+
 returns-2 : tie.Need-returns-2
 unfolding numberC
 returns-2 c =
-    let a = c .before .before .before .before .before .before .before .args in
-    let i = c .before .before .before .blanks-end in
-    let n = c .before .before .numeral in
+    let a = c .before .before .before .before .before .before .before .before .args in
+    let i = c .before .before .before .before .blanks-end in
+    let n = c .before .before .before .numeral in
     rw (
-      not-false (a .k .ok) (c .before .before .before .before .if1 .left),
+      c .moved .ensures,
+      not-false (a .k .ok) (c .before .before .before .before .before .if1 .left),
       ← blank-law (a .s .now) (a .k .at) (i .result) (i .ensures),
-      number-none (a .limit) (c .before .before .before .before .before .before .before .fits .limit .fits) _ (seen (a .s .now) (a .k)) (numeralIn (n .result)) (n .ensures .0) (not-true _ (c .if2 .taken)),
+      number-none (a .limit) (c .before .before .before .before .before .before .before .before .fits .limit .fits) _ (seen (a .s .now) (a .k)) (numeralIn (n .result)) (n .ensures .0) (not-true _ (c .before .if2 .taken)),
     )
 
-first-requires : tie.Need-first-requires
-first-requires c κs = search needs
+past-requires : tie.Need-past-requires
+past-requires c κs = search needs
 
 returns-3 : tie.Need-returns-3
 unfolding numberC
@@ -41,24 +45,28 @@ returns-3 c =
     let n = c .before .before .before .before .before .numeral in
     let o = not-false _ (c .before .before .before .if2 .left) in
     rw (
+      c .past .ensures,
+      far-law,
       not-false (a .k .ok) (c .before .before .before .before .before .before .before .if1 .left),
       ← blank-law (a .s .now) (a .k .at) (i .result) (i .ensures),
       number-big (a .limit) (c .before .before .before .before .before .before .before .before .before .before .fits .limit .fits) _ (seen (a .s .now) (a .k)) (numeralIn (n .result)) (n .ensures .0) _ (after-law (a .s .now) (i .result) (n .result .end) (n .ensures .1 o)) o (c .before .if3 .taken),
-      c .first .ensures,
-      far-law,
     )
+
+moved-requires-2 : tie.Need-moved-requires-2
+moved-requires-2 c κs = search needs
 
 returns-4 : tie.Need-returns-4
 unfolding numberC
 returns-4 c =
-    let a = c .before .before .before .before .before .before .before .before .before .args in
-    let i = c .before .before .before .before .before .blanks-end in
-    let n = c .before .before .before .before .numeral in
-    let o = not-false _ (c .before .before .if2 .left) in
+    let a = c .before .before .before .before .before .before .before .before .before .before .args in
+    let i = c .before .before .before .before .before .before .blanks-end in
+    let n = c .before .before .before .before .before .numeral in
+    let o = not-false _ (c .before .before .before .if2 .left) in
     rw (
-      not-false (a .k .ok) (c .before .before .before .before .before .before .if1 .left),
+      c .moved2 .ensures,
+      not-false (a .k .ok) (c .before .before .before .before .before .before .before .if1 .left),
       ← blank-law (a .s .now) (a .k .at) (i .result) (i .ensures),
-      number-small (a .limit) (c .before .before .before .before .before .before .before .before .before .fits .limit .fits) _ (seen (a .s .now) (a .k)) (numeralIn (n .result)) (n .ensures .0) _ (after-law (a .s .now) (i .result) (n .result .end) (n .ensures .1 o)) o (c .if3 .left),
+      number-small (a .limit) (c .before .before .before .before .before .before .before .before .before .before .fits .limit .fits) _ (seen (a .s .now) (a .k)) (numeralIn (n .result)) (n .ensures .0) _ (after-law (a .s .now) (i .result) (n .result .end) (n .ensures .1 o)) o (c .before .if3 .left),
     )
 
 pub number-spec : {M : Type 1} → statement M
@@ -68,7 +76,9 @@ number-spec =
     returns
     blanks-end-requires
     numeral-requires
+    moved-requires
     returns-2
-    first-requires
+    past-requires
     returns-3
+    moved-requires-2
     returns-4)

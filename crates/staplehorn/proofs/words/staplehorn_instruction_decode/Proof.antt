@@ -1,3 +1,4 @@
+-- `staplehorn::words::staplehorn_instruction_decode` meets its contract: the answer is taken apart. Assumes nothing.
 use mathlib.Core.Path.{_≡_, _∙_, ap}
 use Rattle.instruction.specs.Instruction.{values}
 use Rattle.instruction.specs.declared.FieldsRead.{FieldsRead}

@@ -1,55 +1,40 @@
-use mathlib.Core.Bool.{_&&_}
+-- `writer::form::load` meets its contract: the additions follow the row of its opcode, and the count goes with the names. Assumes nothing.
 use lib.ListN.{length, take}
 use lib.Dec.{eqb}
+use borrow.Author.Needs.{needs}
 use Rattle.statement.specs.declared.Opcode.the-variants.{Load}
 use Rattle.statement.specs.Forms.{word, names}
 use Rattle.statement.specs.Reading.{paired}
 use Rattle.statement.specs.Canonical.{rowText, moreRowText, rowGiven, slotGiven, namesText, addressText, addressGiven}
 use Rattle.writer.specs.Outputs.{outSeen}
 use Rattle.writer.proofs.Rows.{load-law}
-use borrow.Author.Needs.{needs}
 use Rattle.writer.proofs.form.load.Statement.{statement}
 use Rattle.writer.proofs.form.load.Tie as tie
-use Rattle.writer.proofs.form.load.Reads as reads
-use Rattle.writer.proofs.form.load.Lts as lts
-use Rattle.writer.proofs.form.access_word.Reads as access-word-reads
-use Rattle.writer.proofs.operand.address.Reads as address-reads
-use Rattle.writer.proofs.operand.names.Reads as names-reads
-use Rattle.writer.proofs.output.put.Reads as put-reads
 
--- src/form.rt:127:32
 slice-aggregate-access-word : tie.Need-slice-aggregate-access-word
 slice-aggregate-access-word c = search needs
 
--- src/form.rt:127:9
 access-word-requires : tie.Need-access-word-requires
 access-word-requires c κs = search needs
 
--- src/form.rt:128:9
 names-requires : tie.Need-names-requires
 names-requires c κs = search needs
 
--- src/form.rt:129:38
 slice-aggregate-put : tie.Need-slice-aggregate-put
 slice-aggregate-put c = search needs
 
--- src/form.rt:129:9
 put-requires : tie.Need-put-requires
 put-requires c κs = search needs
 
--- src/form.rt:130:9
 address-requires : tie.Need-address-requires
 address-requires c κs = search needs
 
--- src/form.rt:131:30
 slice-aggregate-put-2 : tie.Need-slice-aggregate-put-2
 slice-aggregate-put-2 c = search needs
 
--- src/form.rt:131:5
 put-requires-2 : tie.Need-put-requires-2
 put-requires-2 c κs = search needs
 
--- src/form.rt:121:1
 returns : tie.Need-returns
 unfolding word rowText moreRowText rowGiven
 returns c =

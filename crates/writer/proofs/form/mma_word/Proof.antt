@@ -1,61 +1,45 @@
+-- `writer::form::mma_word` meets its contract: six additions are one. Assumes nothing.
+use borrow.Author.Needs.{needs}
 use Rattle.statement.specs.Text.{bytes}
 use Rattle.statement.specs.Forms.{word, option, kindText}
 use Rattle.writer.specs.Outputs.{outSeen}
 use Rattle.writer.proofs.Rows.{mma-law}
-use borrow.Author.Needs.{needs}
 use Rattle.writer.proofs.form.mma_word.Statement.{statement}
 use Rattle.writer.proofs.form.mma_word.Tie as tie
-use Rattle.writer.proofs.form.mma_word.Reads as reads
-use Rattle.writer.proofs.form.mma_word.Lts as lts
-use Rattle.writer.proofs.form.kind_text.Reads as kind-text-reads
-use Rattle.writer.proofs.form.option_text.Reads as option-text-reads
-use Rattle.writer.proofs.output.put.Reads as put-reads
 
--- src/form.rt:151:39
 slice-aggregate-put : tie.Need-slice-aggregate-put
 slice-aggregate-put c = search needs
 
--- src/form.rt:151:9
 put-requires : tie.Need-put-requires
 put-requires c κs = search needs
 
--- src/form.rt:152:35
 slice-aggregate-option-text : tie.Need-slice-aggregate-option-text
 slice-aggregate-option-text c = search needs
 
--- src/form.rt:152:9
 option-text-requires : tie.Need-option-text-requires
 option-text-requires c κs = search needs
 
--- src/form.rt:153:35
 slice-aggregate-option-text-2 : tie.Need-slice-aggregate-option-text-2
 slice-aggregate-option-text-2 c = search needs
 
--- src/form.rt:153:9
 option-text-requires-2 : tie.Need-option-text-requires-2
 option-text-requires-2 c κs = search needs
 
--- src/form.rt:154:38
 slice-aggregate-put-2 : tie.Need-slice-aggregate-put-2
 slice-aggregate-put-2 c = search needs
 
--- src/form.rt:154:9
 put-requires-2 : tie.Need-put-requires-2
 put-requires-2 c κs = search needs
 
--- src/form.rt:155:9
 kind-text-requires : tie.Need-kind-text-requires
 kind-text-requires c κs = search needs
 
--- src/form.rt:156:30
 slice-aggregate-put-3 : tie.Need-slice-aggregate-put-3
 slice-aggregate-put-3 c = search needs
 
--- src/form.rt:156:5
 put-requires-3 : tie.Need-put-requires-3
 put-requires-3 c κs = search needs
 
--- src/form.rt:148:1
 returns : tie.Need-returns
 unfolding word
 returns c =

@@ -1,51 +1,37 @@
+-- `writer::form::mov64` meets its contract: the additions follow the row of its opcode. Assumes nothing.
 use mathlib.Core.List.{[], _∷_}
-use mathlib.Core.Bool.{false}
-use Rattle.statement.specs.declared.Opcode.the-variants.{Mov32, Mov64, Alloc, Dealloc}
+use borrow.Author.Needs.{needs}
+use Rattle.statement.specs.declared.Opcode.the-variants.{Mov64}
 use Rattle.statement.specs.Forms.{word, name, number, max64}
 use Rattle.writer.specs.Outputs.{outSeen}
 use Rattle.writer.proofs.Rows.{row-law}
-use borrow.Author.Needs.{needs}
 use Rattle.writer.proofs.form.mov64.Statement.{statement}
 use Rattle.writer.proofs.form.mov64.Tie as tie
-use Rattle.writer.proofs.form.mov64.Reads as reads
-use Rattle.writer.proofs.form.mov64.Lts as lts
-use Rattle.writer.proofs.output.name.Reads as name-reads
-use Rattle.writer.proofs.output.number.Reads as number-reads
-use Rattle.writer.proofs.output.put.Reads as put-reads
 
--- src/form.rt:37:39
 slice-aggregate-put : tie.Need-slice-aggregate-put
 slice-aggregate-put c = search needs
 
--- src/form.rt:37:9
 put-requires : tie.Need-put-requires
 put-requires c κs = search needs
 
--- src/form.rt:38:9
 name-requires : tie.Need-name-requires
 name-requires c κs = search needs
 
--- src/form.rt:39:38
 slice-aggregate-put-2 : tie.Need-slice-aggregate-put-2
 slice-aggregate-put-2 c = search needs
 
--- src/form.rt:39:9
 put-requires-2 : tie.Need-put-requires-2
 put-requires-2 c κs = search needs
 
--- src/form.rt:40:9
 number-requires : tie.Need-number-requires
 number-requires c κs = search needs
 
--- src/form.rt:41:30
 slice-aggregate-put-3 : tie.Need-slice-aggregate-put-3
 slice-aggregate-put-3 c = search needs
 
--- src/form.rt:41:5
 put-requires-3 : tie.Need-put-requires-3
 put-requires-3 c κs = search needs
 
--- src/form.rt:34:1
 returns : tie.Need-returns
 unfolding word
 returns c =

@@ -1,135 +1,101 @@
+-- `writer::form::num_text` meets its contract: each variant has its text. Assumes nothing.
 use borrow.Author.Needs.{needs}
 use Rattle.writer.proofs.form.num_text.Statement.{statement}
 use Rattle.writer.proofs.form.num_text.Tie as tie
-use Rattle.writer.proofs.form.num_text.Reads as reads
-use Rattle.writer.proofs.form.num_text.Lts as lts
-use Rattle.writer.proofs.output.put.Reads as put-reads
 
--- src/form.rt:79:39
 enum-told : tie.Need-enum-told
 enum-told c = search needs
 
--- src/form.rt:79:46
 slice-aggregate-put : tie.Need-slice-aggregate-put
 slice-aggregate-put c = search needs
 
--- src/form.rt:79:20
 put-requires : tie.Need-put-requires
 put-requires c κs = search needs
 
--- src/form.rt:80:39
 enum-told-2 : tie.Need-enum-told-2
 enum-told-2 c = search needs
 
--- src/form.rt:80:46
 slice-aggregate-put-2 : tie.Need-slice-aggregate-put-2
 slice-aggregate-put-2 c = search needs
 
--- src/form.rt:80:20
 put-requires-2 : tie.Need-put-requires-2
 put-requires-2 c κs = search needs
 
--- src/form.rt:81:39
 enum-told-3 : tie.Need-enum-told-3
 enum-told-3 c = search needs
 
--- src/form.rt:81:46
 slice-aggregate-put-3 : tie.Need-slice-aggregate-put-3
 slice-aggregate-put-3 c = search needs
 
--- src/form.rt:81:20
 put-requires-3 : tie.Need-put-requires-3
 put-requires-3 c κs = search needs
 
--- src/form.rt:82:39
 enum-told-4 : tie.Need-enum-told-4
 enum-told-4 c = search needs
 
--- src/form.rt:82:46
 slice-aggregate-put-4 : tie.Need-slice-aggregate-put-4
 slice-aggregate-put-4 c = search needs
 
--- src/form.rt:82:20
 put-requires-4 : tie.Need-put-requires-4
 put-requires-4 c κs = search needs
 
--- src/form.rt:83:40
 enum-told-5 : tie.Need-enum-told-5
 enum-told-5 c = search needs
 
--- src/form.rt:83:47
 slice-aggregate-put-5 : tie.Need-slice-aggregate-put-5
 slice-aggregate-put-5 c = search needs
 
--- src/form.rt:83:21
 put-requires-5 : tie.Need-put-requires-5
 put-requires-5 c κs = search needs
 
--- src/form.rt:84:40
 enum-told-6 : tie.Need-enum-told-6
 enum-told-6 c = search needs
 
--- src/form.rt:84:47
 slice-aggregate-put-6 : tie.Need-slice-aggregate-put-6
 slice-aggregate-put-6 c = search needs
 
--- src/form.rt:84:21
 put-requires-6 : tie.Need-put-requires-6
 put-requires-6 c κs = search needs
 
--- src/form.rt:85:40
 enum-told-7 : tie.Need-enum-told-7
 enum-told-7 c = search needs
 
--- src/form.rt:85:47
 slice-aggregate-put-7 : tie.Need-slice-aggregate-put-7
 slice-aggregate-put-7 c = search needs
 
--- src/form.rt:85:21
 put-requires-7 : tie.Need-put-requires-7
 put-requires-7 c κs = search needs
 
--- src/form.rt:86:41
 enum-told-8 : tie.Need-enum-told-8
 enum-told-8 c = search needs
 
--- src/form.rt:86:48
 slice-aggregate-put-8 : tie.Need-slice-aggregate-put-8
 slice-aggregate-put-8 c = search needs
 
--- src/form.rt:86:22
 put-requires-8 : tie.Need-put-requires-8
 put-requires-8 c κs = search needs
 
--- src/form.rt:75:1
 returns : tie.Need-returns
 returns c = rw (c .before .before .before .enum-told .given .1) (c .put .ensures)
 
--- src/form.rt:75:1
 returns-2 : tie.Need-returns-2
 returns-2 c = rw (c .before .before .before .enum-told2 .given .1) (c .put2 .ensures)
 
--- src/form.rt:75:1
 returns-3 : tie.Need-returns-3
 returns-3 c = rw (c .before .before .before .enum-told3 .given .1) (c .put3 .ensures)
 
--- src/form.rt:75:1
 returns-4 : tie.Need-returns-4
 returns-4 c = rw (c .before .before .before .enum-told4 .given .1) (c .put4 .ensures)
 
--- src/form.rt:75:1
 returns-5 : tie.Need-returns-5
 returns-5 c = rw (c .before .before .before .enum-told5 .given .1) (c .put5 .ensures)
 
--- src/form.rt:75:1
 returns-6 : tie.Need-returns-6
 returns-6 c = rw (c .before .before .before .enum-told6 .given .1) (c .put6 .ensures)
 
--- src/form.rt:75:1
 returns-7 : tie.Need-returns-7
 returns-7 c = rw (c .before .before .before .enum-told7 .given .1) (c .put7 .ensures)
 
--- src/form.rt:75:1
 returns-8 : tie.Need-returns-8
 returns-8 c = rw (c .before .before .before .enum-told8 .given .1) (c .put8 .ensures)
 

@@ -1,71 +1,53 @@
+-- `writer::form::shape_text` meets its contract: each variant has its text. Assumes nothing.
 use borrow.Author.Needs.{needs}
 use Rattle.writer.proofs.form.shape_text.Statement.{statement}
 use Rattle.writer.proofs.form.shape_text.Tie as tie
-use Rattle.writer.proofs.form.shape_text.Reads as reads
-use Rattle.writer.proofs.form.shape_text.Lts as lts
-use Rattle.writer.proofs.output.put.Reads as put-reads
 
--- src/form.rt:68:45
 enum-told : tie.Need-enum-told
 enum-told c = search needs
 
--- src/form.rt:68:52
 slice-aggregate-put : tie.Need-slice-aggregate-put
 slice-aggregate-put c = search needs
 
--- src/form.rt:68:26
 put-requires : tie.Need-put-requires
 put-requires c κs = search needs
 
--- src/form.rt:69:45
 enum-told-2 : tie.Need-enum-told-2
 enum-told-2 c = search needs
 
--- src/form.rt:69:52
 slice-aggregate-put-2 : tie.Need-slice-aggregate-put-2
 slice-aggregate-put-2 c = search needs
 
--- src/form.rt:69:26
 put-requires-2 : tie.Need-put-requires-2
 put-requires-2 c κs = search needs
 
--- src/form.rt:70:46
 enum-told-3 : tie.Need-enum-told-3
 enum-told-3 c = search needs
 
--- src/form.rt:70:53
 slice-aggregate-put-3 : tie.Need-slice-aggregate-put-3
 slice-aggregate-put-3 c = search needs
 
--- src/form.rt:70:27
 put-requires-3 : tie.Need-put-requires-3
 put-requires-3 c κs = search needs
 
--- src/form.rt:71:46
 enum-told-4 : tie.Need-enum-told-4
 enum-told-4 c = search needs
 
--- src/form.rt:71:53
 slice-aggregate-put-4 : tie.Need-slice-aggregate-put-4
 slice-aggregate-put-4 c = search needs
 
--- src/form.rt:71:27
 put-requires-4 : tie.Need-put-requires-4
 put-requires-4 c κs = search needs
 
--- src/form.rt:64:1
 returns : tie.Need-returns
 returns c = rw (c .before .before .before .enum-told .given .1) (c .put .ensures)
 
--- src/form.rt:64:1
 returns-2 : tie.Need-returns-2
 returns-2 c = rw (c .before .before .before .enum-told2 .given .1) (c .put2 .ensures)
 
--- src/form.rt:64:1
 returns-3 : tie.Need-returns-3
 returns-3 c = rw (c .before .before .before .enum-told3 .given .1) (c .put3 .ensures)
 
--- src/form.rt:64:1
 returns-4 : tie.Need-returns-4
 returns-4 c = rw (c .before .before .before .enum-told4 .given .1) (c .put4 .ensures)
 

@@ -1,43 +1,32 @@
+-- `writer::operand::address` meets its contract: four additions are one. Assumes nothing.
 use lib.Dec.{leb}
+use borrow.Author.Needs.{needs}
 use Rattle.tokens.specs.Names.{nameBytes, nameGiven}
 use Rattle.statement.specs.Forms.{max32}
 use Rattle.statement.specs.Canonical.{addressText, offsetText}
 use Rattle.writer.specs.Outputs.{outSeen}
 use Rattle.writer.proofs.Rows.{address-law}
-use borrow.Author.Needs.{needs}
 use Rattle.writer.proofs.operand.address.Statement.{statement}
 use Rattle.writer.proofs.operand.address.Tie as tie
-use Rattle.writer.proofs.operand.address.Reads as reads
-use Rattle.writer.proofs.operand.address.Lts as lts
-use Rattle.writer.proofs.operand.offset.Reads as offset-reads
-use Rattle.writer.proofs.output.name.Reads as name-reads
-use Rattle.writer.proofs.output.put.Reads as put-reads
 
--- src/operand.rt:40:39
 slice-aggregate-put : tie.Need-slice-aggregate-put
 slice-aggregate-put c = search needs
 
--- src/operand.rt:40:9
 put-requires : tie.Need-put-requires
 put-requires c κs = search needs
 
--- src/operand.rt:41:9
 name-requires : tie.Need-name-requires
 name-requires c κs = search needs
 
--- src/operand.rt:42:9
 offset-requires : tie.Need-offset-requires
 offset-requires c κs = search needs
 
--- src/operand.rt:43:30
 slice-aggregate-put-2 : tie.Need-slice-aggregate-put-2
 slice-aggregate-put-2 c = search needs
 
--- src/operand.rt:43:5
 put-requires-2 : tie.Need-put-requires-2
 put-requires-2 c κs = search needs
 
--- src/operand.rt:36:1
 returns : tie.Need-returns
 unfolding addressText
 returns c = let a = c .before .before .before .before .before .before .before .before .before .before .before .args in rw (c .put2 .ensures, c .before .before .before .offset .ensures, c .before .before .before .before .before .name .ensures, c .before .before .before .before .before .before .before .put .ensures) (address-law (nameBytes (a .x .base)) (offsetText (a .x .offset)) (nameGiven (a .x .base)) (leb (a .x .offset) max32) (outSeen (a .t .now) (a .at)))

@@ -1,35 +1,26 @@
+-- `writer::operand::brackets` meets its contract: three additions are one. Assumes nothing.
+use borrow.Author.Needs.{needs}
 use Rattle.tokens.specs.Names.{nameBytes, nameGiven}
 use Rattle.writer.specs.Outputs.{outSeen}
 use Rattle.writer.proofs.Rows.{brackets-law}
-use borrow.Author.Needs.{needs}
 use Rattle.writer.proofs.operand.brackets.Statement.{statement}
 use Rattle.writer.proofs.operand.brackets.Tie as tie
-use Rattle.writer.proofs.operand.brackets.Reads as reads
-use Rattle.writer.proofs.operand.brackets.Lts as lts
-use Rattle.writer.proofs.output.name.Reads as name-reads
-use Rattle.writer.proofs.output.put.Reads as put-reads
 
--- src/operand.rt:20:39
 slice-aggregate-put : tie.Need-slice-aggregate-put
 slice-aggregate-put c = search needs
 
--- src/operand.rt:20:9
 put-requires : tie.Need-put-requires
 put-requires c κs = search needs
 
--- src/operand.rt:21:9
 name-requires : tie.Need-name-requires
 name-requires c κs = search needs
 
--- src/operand.rt:22:30
 slice-aggregate-put-2 : tie.Need-slice-aggregate-put-2
 slice-aggregate-put-2 c = search needs
 
--- src/operand.rt:22:5
 put-requires-2 : tie.Need-put-requires-2
 put-requires-2 c κs = search needs
 
--- src/operand.rt:17:1
 returns : tie.Need-returns
 returns c = let a = c .before .before .before .before .before .before .before .before .args in rw (c .put2 .ensures, c .before .before .before .name .ensures, c .before .before .before .before .before .put .ensures) (brackets-law (nameBytes (a .n)) (nameGiven (a .n)) (outSeen (a .t .now) (a .at)))
 

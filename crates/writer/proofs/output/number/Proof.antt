@@ -1,92 +1,73 @@
-use Rattle.writer.proofs.Digits.{power, short, q10, r10, less10, decimal-law, digit-step, digit-end, power-step, tail}
-use Rattle.writer.proofs.Laws.{refused}
-use Rattle.writer.specs.Outputs.{outSeen, addC}
-use Prim.Native.Nat.{ℕ, suc, _+_, _-_, _/_, _%_, _<_, _≤_}
+-- `writer::output::number` meets its contract: each turn puts the last digit of what is left before the others, and what is left is short enough for the places before it. Assumes nothing.
+use Prim.Native.Nat.{_+_, _-_, _<_, _≤_}
 use native.Mathlib.Omega.{arith}
-use mathlib.Core.Path.{_≡_, refl, sym, ap, _∙_}
-use mathlib.Core.Bool.{true}
+use mathlib.Core.Path.{_≡_, refl, sym, _∙_}
 use mathlib.Core.List.{_++_}
-use lib.ListN.{length, take, drop, set, length-set}
-use lib.Dec.{leb}
+use lib.ListN.{length, take, drop, length-set}
 use borrow.Author.Tests.{lt-leb, le-leb}
 use borrow.Author.Needs.{needs}
 use Rattle.tokens.specs.Numbers.{decimal}
+use Rattle.writer.proofs.Digits.{power, short, q10, r10, less10, decimal-law, digit-step, digit-end, power-step, tail}
+use Rattle.writer.proofs.Laws.{refused}
 use Rattle.writer.proofs.output.number.Statement.{statement}
 use Rattle.writer.proofs.output.number.Tie as tie
-use Rattle.writer.proofs.output.number.Reads as reads
-use Rattle.writer.proofs.output.number.Lts as lts
-use Rattle.writer.proofs.output.put.Reads as put-reads
 
+-- the digits of what is left, and those that stand from i on, are the decimal
 abbrev Inv-loop : tie.InvT-loop
 Inv-loop t at v limit out₀ i₀ w₀ out i w = (i ≤ 19) × (length out ≡ 20) × (w < power 10 i) × (short q10 r10 i w ++ drop i out ≡ decimal v)
 
+-- the places left
 abbrev μ-loop : tie.MeasureT-loop
 μ-loop t at v limit out₀ i₀ w₀ out i w = i
 
--- src/output.rt:54:9
 returns : tie.Need-returns Inv-loop μ-loop
 returns c = rw (lt-leb (c .before .args .v) (c .before .args .limit) (c .if1 .taken)) (refused (c .before .args .t .now) (decimal (c .before .args .v)) (c .before .args .at))
 
--- src/output.rt:57:20
 cast-out : tie.Need-cast-out Inv-loop μ-loop
 cast-out c = omega arith
 
--- src/output.rt:57:15
 add-out : tie.Need-add-out Inv-loop μ-loop
 add-out c = omega arith
 
--- src/output.rt:57:5
 array-write-out : tie.Need-array-write-out Inv-loop μ-loop
 array-write-out c = search needs
 
--- src/output.rt:60:5
 loop-holds : tie.Need-loop-holds Inv-loop μ-loop
 loop-holds c = (omega arith, refl, omega arith, sym (decimal-law (c .before .args .v) (c .before .fits .v .fits)))
 
--- src/output.rt:61:9
 sub-i : tie.Need-sub-i Inv-loop μ-loop
 sub-i c = power-step 10 (c .before .loop .i) (c .before .loop .w) q10 less10 (c .loop-test .taken) (c .before .loop .inv .2) .0
 
--- src/output.rt:62:23
 cast-out-2 : tie.Need-cast-out-2 Inv-loop μ-loop
 cast-out-2 c = omega arith
 
--- src/output.rt:62:18
 add-out-2 : tie.Need-add-out-2 Inv-loop μ-loop
 add-out-2 c = omega arith
 
--- src/output.rt:62:9
 array-write-out-2 : tie.Need-array-write-out-2 Inv-loop μ-loop
 array-write-out-2 c = omega arith
 
--- src/output.rt:60:5
 loop-less : tie.Need-loop-less Inv-loop μ-loop
 loop-less c = omega (arith, power-step 10 (c .before .loop .i) (c .before .loop .w) q10 less10 (c .loop-test .taken) (c .before .loop .inv .2) .0)
 
--- src/output.rt:60:5
 loop-again : tie.Need-loop-again Inv-loop μ-loop
 loop-again c =
     let l = c .before .loop in
     let p = power-step 10 (l .i) (l .w) q10 less10 (c .loop-test .taken) (l .inv .2) in
     (omega arith, simp length-set (l .inv .1), p .1, digit-step q10 r10 (l .out) (l .i) (l .w) (p .0) (omega arith) (c .loop-test .taken) ∙ l .inv .3)
 
--- src/output.rt:65:16
 sub-put : tie.Need-sub-put Inv-loop μ-loop
 sub-put c = omega arith
 
--- src/output.rt:65:16
 part-put-start : tie.Need-part-put-start Inv-loop μ-loop
 part-put-start c = omega arith
 
--- src/output.rt:65:16
 part-put-end : tie.Need-part-put-end Inv-loop μ-loop
 part-put-end c = omega arith
 
--- src/output.rt:65:5
 put-requires : tie.Need-put-requires Inv-loop μ-loop
 put-requires c κs = tt
 
--- src/output.rt:50:1
 returns-2 : tie.Need-returns-2 Inv-loop μ-loop
 returns-2 c =
     let a = c .before .before .before .before .before .before .before .args in

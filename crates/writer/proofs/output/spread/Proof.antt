@@ -1,50 +1,43 @@
-use Rattle.writer.proofs.Digits.{bytes-start}
-use Rattle.writer.proofs.Digits.{power, short, q256, r256, less256, bytes-law, digit-step, digit-end, power-step}
-use Prim.Native.Nat.{ℕ, suc, _+_, _-_, _/_, _%_, _<_, _≤_}
+-- `writer::output::spread` meets its contract: each turn puts the last byte of what is left before the others, and what is left is short enough for the places before it. Assumes nothing.
+use Prim.Native.Nat.{_+_, _-_, _<_, _≤_}
 use native.Mathlib.Omega.{arith}
-use mathlib.Core.Path.{_≡_, refl, sym, ap, _∙_}
+use mathlib.Core.Path.{_≡_, sym, _∙_}
 use mathlib.Core.List.{_++_}
-use lib.ListN.{length, drop, set, length-set}
+use lib.ListN.{length, drop, length-set}
 use Rattle.tokens.specs.Names.{lowBytes, strip}
+use Rattle.writer.proofs.Digits.{bytes-start, power, short, q256, r256, less256, digit-step, digit-end, power-step}
 use Rattle.writer.proofs.output.spread.Statement.{statement}
 use Rattle.writer.proofs.output.spread.Tie as tie
-use Rattle.writer.proofs.output.spread.Reads as reads
-use Rattle.writer.proofs.output.spread.Lts as lts
 
+-- the bytes of what is left, and those that stand from i on, are those of the number
 abbrev Inv-loop : tie.InvT-loop
 Inv-loop out₀ v i₀ w₀ out i w = (i ≤ 8) × (length out ≡ 8) × (w < power 256 i) × (short q256 r256 i w ++ drop i out ≡ strip (lowBytes 8 v))
 
+-- the places left
 abbrev μ-loop : tie.MeasureT-loop
 μ-loop out₀ v i₀ w₀ out i w = i
 
--- src/output.rt:74:5
 loop-holds : tie.Need-loop-holds Inv-loop μ-loop
 loop-holds c = (omega arith, c .pre, c .fits .v .fits, bytes-start (c .args .out .now) (c .args .v) (c .pre) (c .fits .v .fits))
 
--- src/output.rt:75:9
 sub-i : tie.Need-sub-i Inv-loop μ-loop
 sub-i c = power-step 256 (c .before .loop .i) (c .before .loop .w) q256 less256 (c .loop-test .taken) (c .before .loop .inv .2) .0
 
--- src/output.rt:76:18
 cast-out : tie.Need-cast-out Inv-loop μ-loop
 cast-out c = omega arith
 
--- src/output.rt:76:9
 element-write-out : tie.Need-element-write-out Inv-loop μ-loop
 element-write-out c = omega arith
 
--- src/output.rt:74:5
 loop-less : tie.Need-loop-less Inv-loop μ-loop
 loop-less c = omega (arith, power-step 256 (c .before .loop .i) (c .before .loop .w) q256 less256 (c .loop-test .taken) (c .before .loop .inv .2) .0)
 
--- src/output.rt:74:5
 loop-again : tie.Need-loop-again Inv-loop μ-loop
 loop-again c =
     let l = c .before .loop in
     let p = power-step 256 (l .i) (l .w) q256 less256 (c .loop-test .taken) (l .inv .2) in
     (omega arith, simp length-set (l .inv .1), p .1, digit-step q256 r256 (l .out) (l .i) (l .w) (p .0) (omega arith) (c .loop-test .taken) ∙ l .inv .3)
 
--- src/output.rt:69:1
 returns : tie.Need-returns Inv-loop μ-loop
 returns c =
     let l = c .before .loop in

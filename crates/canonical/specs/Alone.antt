@@ -1,0 +1,44 @@
+-- What is answered of a statement's text by itself. Assumes nothing.
+use Prim.Native.Nat.{ℕ}
+use mathlib.Core.Bool.{cond}
+use mathlib.Core.List.{List}
+use Rattle.tokens.specs.declared.Name.{Name}
+use Rattle.statement.specs.declared.Statement.{Statement}
+use Rattle.statement.specs.declared.Statement.the-variants as s
+use Rattle.statement.specs.declared.Reading.{Reading}
+use Rattle.statement.specs.declared.Reading.the-variants as reading
+use Rattle.statement.specs.declared.Written.{Written}
+use Rattle.statement.specs.declared.Written.the-variants as written
+use Rattle.statement.specs.Cells.{miscounted}
+use Rattle.writer.specs.Outputs.{writtenOf, leftBy}
+
+-- reason 5 of a statement, or 0
+abbrev pub countReason : Statement → ℕ
+countReason (s.Mov32 n v) = 0
+countReason (s.Mov64 n v) = 0
+countReason (s.Alloc n v) = 0
+countReason (s.Dealloc n v) = 0
+countReason s.Relinquish = 0
+countReason (s.Load a) = cond (miscounted a) 5 0
+countReason (s.Store a) = cond (miscounted a) 5 0
+countReason s.WaitLoad = 0
+countReason s.WaitStore = 0
+countReason s.FenceBefore = 0
+countReason s.FenceAfter = 0
+countReason (s.Multiply m) = 0
+countReason s.Exit = 0
+
+-- the reason of a text from what it reads as: 3 or 4, then 5
+abbrev pub aloneReason : Reading → ℕ
+aloneReason (reading.Got t) = countReason t
+aloneReason (reading.Refused n at) = n
+
+-- the answer to writing what a text reads as, with its registers' names, into a room of that length
+abbrev pub rewritten : ℕ → Reading → List Name → Written
+rewritten room (reading.Got t) regs = writtenOf room t regs
+rewritten room (reading.Refused n at) regs = written.Refused n
+
+-- what the room holds then
+abbrev pub leftOf : List ℕ → Reading → List Name → List ℕ
+leftOf old (reading.Got t) regs = leftBy old t regs
+leftOf old (reading.Refused n at) regs = old

@@ -1,0 +1,75 @@
+// A statement's text by itself: its reason, and its canonical text.
+use statement::Reading;
+use statement::Statement;
+use statement::Written;
+ghost use mathlib.Core.Path.{_≡_};
+ghost use lib.ListN.{length};
+ghost use Rattle.statement.specs.Reading.{readOf, registersOf};
+ghost use Rattle.statement.specs.declared.Reading.{Reading};
+ghost use Rattle.writer.specs.Outputs.{writtenOf, leftBy};
+ghost use Rattle.canonical.specs.Alone.{countReason, aloneReason, rewritten, leftOf};
+
+// 5 for a load or a store whose N or count of registers is wrong, else 0.
+fn count_reason(t: Statement) -> u8
+    ensures { λ r. ⌜ r ≡ countReason t ⌝ }
+{
+    match t {
+        Statement::Load(a) => if cells::is_miscounted(a) { 5 } else { 0 },
+        Statement::Store(a) => if cells::is_miscounted(a) { 5 } else { 0 },
+        Statement::Mov32(_, _) => 0,
+        Statement::Mov64(_, _) => 0,
+        Statement::Alloc(_, _) => 0,
+        Statement::Dealloc(_, _) => 0,
+        Statement::Relinquish => 0,
+        Statement::WaitLoad => 0,
+        Statement::WaitStore => 0,
+        Statement::FenceBefore => 0,
+        Statement::FenceAfter => 0,
+        Statement::Multiply(_) => 0,
+        Statement::Exit => 0,
+    }
+}
+
+// The reason of a text: 3 or 4 if it does not read, 5 for a wrong count, else 0.
+pub fn reason(text: &[u8]) -> u8
+    ensures { λ r. ⌜ r ≡ aloneReason (readOf (now (text .entry))) ⌝ }
+{
+    let t = reader::read(text);
+    match t {
+        Reading::Got(s) => count_reason(s),
+        Reading::Refused(n, _) => n,
+    }
+}
+
+// The same for a text that reads, with two arrays for its registers' names.
+fn rewrite_in(
+    text: &[u8],
+    t: Statement,
+    hi: &mut [u64; 128],
+    lo: &mut [u64; 128],
+    room: &mut [u8],
+) -> Written
+    requires { ⌜ (readOf (now text) ≡ Reading.Got t) × (length (now hi) ≡ 128) × (length (now lo) ≡ 128) ⌝ }
+    ensures answer { λ r. ⌜ r ≡ writtenOf (length (now (room .entry))) t (registersOf (now (text .entry))) ⌝ }
+    ensures left { λ _. ⌜ now (room .exit) ≡ leftBy (now (room .entry)) t (registersOf (now (text .entry))) ⌝ }
+{
+    reader::registers(text, hi, lo);
+    writer::write(t, hi, lo, room)
+}
+
+// The canonical text of a statement in the first places of a room, and how long it is; a text that does not read gives
+// its reason, too little room 19, and the room is unchanged then.
+pub fn rewrite(text: &[u8], room: &mut [u8]) -> Written
+    ensures answer { λ r. ⌜ r ≡ rewritten (length (now (room .entry))) (readOf (now (text .entry))) (registersOf (now (text .entry))) ⌝ }
+    ensures left { λ _. ⌜ now (room .exit) ≡ leftOf (now (room .entry)) (readOf (now (text .entry))) (registersOf (now (text .entry))) ⌝ }
+{
+    let t = reader::read(text);
+    match t {
+        Reading::Got(s) => {
+            let mut hi = [0u64; 128];
+            let mut lo = [0u64; 128];
+            rewrite_in(text, s, &mut hi, &mut lo, room)
+        }
+        Reading::Refused(n, _) => Written::Refused(n),
+    }
+}

@@ -1,0 +1,30 @@
+-- `staplehorn::words::judge_fields` meets its contract: the opcode or none decides. Assumes nothing.
+use mathlib.Core.Path.{_≡_, refl, sym, _∙_, ap}
+use mathlib.Core.Option.{Option}
+use Rattle.staplehorn.specs.declared.words.Opcode.{Opcode}
+use Rattle.staplehorn.specs.Words.{listedFor, opcodeSeen}
+use borrow.Author.Needs.{needs}
+use Rattle.staplehorn.proofs.words.judge_fields.Statement.{statement}
+use Rattle.staplehorn.proofs.words.judge_fields.Tie as tie
+
+opcode-of-requires : tie.Need-opcode-of-requires
+opcode-of-requires c κs = search needs
+
+enum-known-o : tie.Need-enum-known-o
+enum-known-o c = search needs
+
+enum-told : tie.Need-enum-told
+enum-told c = search needs
+
+returns : tie.Need-returns
+returns c = sym (ap (λ (o : Option Opcode). listedFor o (c .before .before .before .args .f)) (sym (c .before .before .opcode-of .ensures) ∙ ap opcodeSeen (c .enum-told .given .1)))
+
+listed-fields-requires : tie.Need-listed-fields-requires
+listed-fields-requires c κs = search needs
+
+returns-2 : tie.Need-returns-2
+returns-2 c = c .listed-fields .ensures ∙ sym (ap (λ (o : Option Opcode). listedFor o (c .before .before .before .before .before .args .f)) (sym (c .before .before .before .before .opcode-of .ensures) ∙ ap opcodeSeen (c .before .before .o .given .1)))
+
+pub judge-fields-spec : {M : Type 1} → statement M
+judge-fields-spec =
+    tie.close (tie.spec opcode-of-requires enum-known-o enum-told returns listed-fields-requires returns-2)
