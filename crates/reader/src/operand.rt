@@ -14,6 +14,9 @@ ghost use Rattle.tokens.specs.Cursors.{seen, nameSeen, markC, numberC};
 ghost use Rattle.statement.specs.Forms.{max32};
 ghost use Rattle.statement.specs.Reading.{inBracketsC, offsetC, insideC, addressC, operandC, namesC, offsetSeen, addressSeen, operandSeen, countSeen, counted, his, los};
 
+// The most names that a list has.
+const MOST: usize = 128;
+
 // A number of 32 bits.
 pub fn number32(s: &[u8], k: Cursor) -> OffsetRead
     ensures { λ r. ⌜ offsetSeen (now (s .entry)) r ≡ numberC max32 (seen (now (s .entry)) k) ⌝ }
@@ -106,7 +109,7 @@ pub fn names(s: &[u8], k: Cursor) -> CountRead
     let n = lexer::cursor::name(s, a);
     let mut at = n.next;
     let mut count: usize = 1;
-    while count < 128 {
+    while count < MOST {
         let d = lexer::cursor::mark(s, at, 44);
         if !d.ok {
             return CountRead {
@@ -137,7 +140,7 @@ pub fn fill(s: &[u8], k: Cursor, hi: &mut [u64; 128], lo: &mut [u64; 128]) -> us
     hi[0] = v.hi;
     lo[0] = v.lo;
     let mut count: usize = 1;
-    while count < 128 {
+    while count < MOST {
         let d = lexer::cursor::mark(s, at, 44);
         if !d.ok {
             return count;

@@ -1,0 +1,5 @@
+-- Laws that belong to no one function.
+pub mod EntryLaws
+pub mod WriteLaws
+pub mod CountLaws
+pub mod ShowLaws

@@ -1,0 +1,3 @@
+-- The definitions that the contracts cite, and the claim.
+pub mod Table
+pub mod Shows

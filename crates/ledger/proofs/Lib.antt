@@ -1,0 +1,5 @@
+-- Laws that belong to no one function.
+pub mod PlaceLaws
+pub mod BookingLaws
+pub mod SlotLaws
+pub mod ShowLaws

@@ -1,0 +1,239 @@
+-- A ledger that shows a state answers as the rules say, and its next ledger shows what the line does to the state. Each test of the rules is one of the
+-- ledger's, by the laws of the slots. Assumes nothing.
+use Prim.Native.Nat.{ℕ, _*_, _<_}
+use mathlib.Core.Path.{_≡_, refl, sym, ap, _∙_, subst}
+use mathlib.Core.Bool.{Bool, true, false, not, _&&_, _||_, cond}
+use mathlib.Core.List.{List, [], _∷_}
+use mathlib.Core.Option.{Option, none, some}
+use native.Mathlib.Omega.{arith}
+use lib.Dec.{ltb, eqb}
+use lib.ListN.{getD, set, replicate, getD-replicate}
+use borrow.Author.Tests.{ltb-true, lt-ltb, eqb-true, eq-eqb, ne-eqb}
+use Rattle.laws.specs.Rules.{firstBroken}
+use Rattle.laws.specs.Tests.{isSome}
+use Rattle.request.specs.Request.{legal}
+use Rattle.tokens.specs.declared.Name.{Name}
+use Rattle.statement.specs.declared.Statement.the-variants.{Alloc, Dealloc, Relinquish}
+use Rattle.rules.specs.State as rules
+use Rattle.rules.specs.State.{State, Allocation, lowest, opened}
+use Rattle.rules.specs.Reasons.{isWarp, openRules, counted, named, roomed, warped, sized, permitted, placed, reads, listed, inside, cleared}
+use Rattle.rules.specs.Sheet.{effect, startList, added, fixed}
+use Rattle.rules.proofs.CountingLaws.{least-hit}
+use Rattle.ledger.specs.declared.Ledger.{Ledger}
+use Rattle.ledger.specs.declared.Booked.{Booked}
+use Rattle.ledger.specs.declared.Span.{Span}
+use Rattle.ledger.specs.Slots.{fitsAt, placeOf, total}
+use Rattle.ledger.specs.Booking.{empty, slot, place, isLive, mayBook, columnsOf, allocRules, releaseRules, relinquishRules, withAllocation, withoutAllocation, afterRelinquish, booked, allocOf, releaseOf, relinquishOf, findIn, findOf, heldOf}
+use Rattle.ledger.specs.Shows.{Slots, Shows, Tells}
+use Rattle.ledger.proofs.BookingLaws.{legal-range}
+use Rattle.ledger.proofs.SlotLaws.{live-slot, columns-slot, live-columns, columns-none, place-slot, place-empty, slots-none, slots-alloc, slots-release}
+
+-- ---- what is booked, by its reason
+pick-reason : (l next : Ledger) (reason start : ℕ) (t : Bool) → eqb reason 0 ≡ t
+    → cond {A = Booked} t (record { next = next; reason = 0; start = start }) (record { next = l; reason = reason; start = 0 }) .reason ≡ reason
+pick-reason l next reason start true e = sym (eqb-true reason 0 e)
+pick-reason l next reason start false e = refl
+
+booked-reason : (l next : Ledger) (reason start : ℕ) → booked l reason start next .reason ≡ reason
+booked-reason l next reason start = pick-reason l next reason start (eqb reason 0) refl
+
+booked-next : (l next : Ledger) (reason start : ℕ) → reason ≡ 0 → booked l reason start next ≡ record { next = next; reason = 0; start = start }
+booked-next l next reason start e = rw e
+
+-- a rule that is kept, and the rest
+kept : (b : Bool) (x m : ℕ) → 0 < m → cond b x m ≡ 0 → (b ≡ true) × (x ≡ 0)
+kept true x m p e = (refl, e)
+kept false x m p e = absurd (omega arith)
+
+not-kept : (b : Bool) → not b ≡ true → b ≡ false
+not-kept true e = sym e
+not-kept false e = refl
+
+-- ---- orders of tests
+alloc-order : (live bound warp size permit here there : Bool) → (size ≡ true → here ≡ there)
+    → _≡_ {A = ℕ} (cond (not live && not bound) (cond warp (cond size (cond permit (cond there 0 11) 10) 9) 8) 6)
+    (cond bound 6 (cond (not live) (cond warp (cond size (cond permit (cond here 0 11) 10) 9) 8) 6))
+alloc-order true true warp size permit here there e = refl
+alloc-order true false warp size permit here there e = refl
+alloc-order false true warp size permit here there e = refl
+alloc-order false false warp true permit here there e = rw (e refl)
+alloc-order false false warp false permit here there e = refl
+
+-- ---- the warp
+same-warp : (b : Bool) (v w : ℕ) → not b || eqb v w ≡ isWarp (cond b (some v) none) w
+same-warp true v w = refl
+same-warp false v w = refl
+
+fixes : (b : Bool) (v w : ℕ) → not b || eqb v w ≡ true → some w ≡ fixed (cond b (some v) none) w
+fixes true v w e = ap some (sym (eqb-true v w e))
+fixes false v w e = refl
+
+-- ---- the placing
+some-if : (b : Bool) (x : ℕ) → isSome (cond b (some x) none) ≡ b
+some-if true x = refl
+some-if false x = refl
+
+placed-if : (live : List Allocation) (k : ℕ) → isSome (lowest live k) ≡ ltb (rules.slot live k) 16
+unfolding lowest
+placed-if live k = some-if (ltb (rules.slot live k) 16) (rules.slot live k * 32)
+
+placed-at : (live : List Allocation) (k p : ℕ) → p ≡ rules.slot live k → p < 16 → lowest live k ≡ some (p * 32)
+unfolding lowest
+placed-at live k p e h = rw (sym e, lt-ltb p 16 h)
+
+-- ---- nothing is allocated
+pub shows-empty : Shows empty opened
+unfolding total
+shows-empty = record {
+  slots = slots-none (replicate 16 0) (replicate 16 0) (replicate 16 0) refl refl refl zeros refl;
+  warp = refl;
+  relinquished = refl;
+}
+  where
+    zeros : (i : ℕ) → i < 16 → _≡_ {A = ℕ} (getD (replicate 16 0) i 0) 0
+    zeros i h = getD-replicate 16 i 0 0 h
+
+-- ---- a line that touches no allocation, warp or permit
+pub unmoved : (l : Ledger) (s r : State) → r .live ≡ s .live → r .warp ≡ s .warp → r .relinquished ≡ s .relinquished → Shows l s → Shows l r
+unmoved l s r a b c h = record {
+  slots = subst (λ (x : List Allocation). Slots (l .hi) (l .lo) (l .columns) x) (sym a) (h .slots);
+  warp = h .warp ∙ sym b;
+  relinquished = h .relinquished ∙ sym c;
+}
+
+module _ (l : Ledger) (s : State) (h : Shows l s) where
+  live-test : (n : Name) → isLive l n ≡ rules.isLive n (s .live)
+  live-test n = live-slot (l .hi) (l .lo) (l .columns) (s .live) (h .slots) n
+
+  columns-test : (n : Name) → columnsOf l n ≡ rules.columnsOf n (s .live)
+  columns-test n = columns-slot (l .hi) (l .lo) (l .columns) (s .live) (h .slots) n
+
+  warp-test : (w : ℕ) → mayBook l w ≡ isWarp (s .warp) w
+  warp-test w = same-warp (l .fixed) (l .warp) w ∙ ap (λ (o : Option ℕ). isWarp o w) (h .warp)
+
+  place-test : (k : ℕ) → legal k ≡ true → place l k ≡ rules.slot (s .live) k
+  place-test k e = place-slot (l .hi) (l .lo) (l .columns) (s .live) (h .slots) k (omega (arith, legal-range k e .0))
+
+  placed-test : (k : ℕ) → legal k ≡ true → ltb (place l k) 16 ≡ isSome (lowest (s .live) k)
+  placed-test k e = ap (λ (p : ℕ). ltb p 16) (place-test k e) ∙ sym (placed-if (s .live) k)
+
+  find-test : (n : Name) (t : Bool) → isLive l n ≡ t
+      → cond {A = Span} t (record { start = slot l n * 32; columns = columnsOf l n }) (record { start = 0; columns = 0 }) .columns ≡ rules.columnsOf n (s .live)
+  find-test n true e = columns-test n
+  find-test n false e = sym (columns-none (s .live) n (sym (live-test n) ∙ e))
+
+  found : (n : Name) → findOf l n .columns ≡ rules.columnsOf n (s .live)
+  unfolding findIn
+  found n = find-test n (isLive l n) refl
+
+  found-live : (n : Name) → not (eqb (findOf l n .columns) 0) ≡ rules.isLive n (s .live)
+  found-live n = rw (found n) (at (rules.isLive n (s .live)) refl)
+    where
+      at : (t : Bool) → rules.isLive n (s .live) ≡ t → not (eqb (rules.columnsOf n (s .live)) 0) ≡ t
+      at true e =
+          ap not (ne-eqb (rules.columnsOf n (s .live)) 0 (omega (arith, live-columns (l .hi) (l .lo) (l .columns) (s .live) (h .slots) n e)))
+      at false e = ap not (eq-eqb (rules.columnsOf n (s .live)) 0 (columns-none (s .live) n e))
+
+  held : heldOf l ≡ rules.total (s .live)
+  held = h .slots .sum
+
+  -- the reasons
+  alloc-reason : (n : Name) (w k : ℕ) → firstBroken (openRules lowest s w (Alloc n k)) ≡ cond (rules.isBound n (s .values)) 6 (allocOf l n w k .reason)
+  unfolding openRules counted named roomed warped sized permitted placed reads listed inside cleared allocOf
+  alloc-reason n w k =
+      alloc-order (rules.isLive n (s .live)) (rules.isBound n (s .values)) (isWarp (s .warp) w) (legal k) (not (s .relinquished)) (ltb (place l k) 16) (isSome (lowest (s .live) k)) (placed-test k)
+      ∙ ap (cond (rules.isBound n (s .values)) 6) (sym (
+      booked-reason l (withAllocation l (place l k) n w k) (firstBroken (allocRules l n w k)) (place l k * 32)
+      ∙ rw (live-test n, warp-test w, h .relinquished)))
+
+  release-reason : (n : Name) (w k : ℕ) → firstBroken (openRules lowest s w (Dealloc n k)) ≡ releaseOf l n w k .reason
+  unfolding openRules counted named roomed warped sized permitted placed reads listed inside cleared releaseOf
+  release-reason n w k =
+      sym (booked-reason l (withoutAllocation l (slot l n)) (firstBroken (releaseRules l n w k)) 0 ∙ rw (live-test n, warp-test w, columns-test n))
+
+  relinquish-reason : (w : ℕ) → firstBroken (openRules lowest s w Relinquish) ≡ relinquishOf l w .reason
+  unfolding openRules counted named roomed warped sized permitted placed reads listed inside cleared relinquishOf
+  relinquish-reason w = sym (booked-reason l (afterRelinquish l w) (firstBroken (relinquishRules l w)) 0 ∙ rw (warp-test w))
+
+  -- what a kept alloc says
+  alloc-kept : (n : Name) (w k : ℕ) → allocOf l n w k .reason ≡ 0
+      → (rules.isLive n (s .live) ≡ false) × (mayBook l w ≡ true) × (legal k ≡ true) × (place l k < 16) × (firstBroken (allocRules l n w k) ≡ 0)
+  unfolding allocOf
+  alloc-kept n w k e =
+      let z : firstBroken (allocRules l n w k) ≡ 0 = sym (booked-reason l (withAllocation l (place l k) n w k) (firstBroken (allocRules l n w k)) (place l k * 32)) ∙ e in
+      let a = kept (not (isLive l n)) _ 6 (omega arith) z in
+      let b = kept (mayBook l w) _ 8 (omega arith) (a .1) in
+      let c = kept (legal k) _ 9 (omega arith) (b .1) in
+      let d = kept (not (l .relinquished)) _ 10 (omega arith) (c .1) in
+      let f = kept (ltb (place l k) 16) 0 11 (omega arith) (d .1) in
+      (sym (live-test n) ∙ not-kept (isLive l n) (a .0), b .0, c .0, ltb-true (place l k) 16 (f .0), z)
+
+  -- the slot that is found is empty
+  free : (k : ℕ) → legal k ≡ true → place l k < 16 → getD (l .columns) (place l k) 0 ≡ 0
+  unfolding placeOf
+  free k c d =
+      place-empty (l .hi) (l .lo) (l .columns) (s .live) (h .slots) k (place l k) d (omega (arith, legal-range k c .0))
+      (least-hit (fitsAt (l .columns) k) 16 d)
+
+  alloc-shows : (n : Name) (w k : ℕ) → rules.isLive n (s .live) ≡ false → mayBook l w ≡ true → legal k ≡ true → place l k < 16
+      → Shows (withAllocation l (place l k) n w k) (effect lowest s w (Alloc n k))
+  unfolding effect
+  alloc-shows n w k a b c d = record {
+    slots = subst (λ (o : Option ℕ). Slots (set (l .hi) (place l k) (n .hi)) (set (l .lo) (place l k) (n .lo)) (set (l .columns) (place l k) k) (added n k o (s .live)))
+        (sym (placed-at (s .live) k (place l k) (place-test k c) d))
+        (slots-alloc (l .hi) (l .lo) (l .columns) (s .live) (h .slots) n k (place l k) d (omega (arith, legal-range k c .0)) (free k c d) a);
+    warp = fixes (l .fixed) (l .warp) w b ∙ ap (λ (o : Option ℕ). fixed o w) (h .warp);
+    relinquished = h .relinquished;
+  }
+
+  allocated : (n : Name) (w k : ℕ) → allocOf l n w k .reason ≡ 0 → Shows (allocOf l n w k .next) (effect lowest s w (Alloc n k))
+  unfolding allocOf
+  allocated n w k e =
+      let a = alloc-kept n w k e in
+      subst (λ (b : Booked). Shows (b .next) (effect lowest s w (Alloc n k)))
+      (sym (booked-next l (withAllocation l (place l k) n w k) (firstBroken (allocRules l n w k)) (place l k * 32) (a .4)))
+      (alloc-shows n w k (a .0) (a .1) (a .2) (a .3))
+
+  started : (n : Name) (w k : ℕ) → allocOf l n w k .reason ≡ 0 → startList (lowest (s .live) k) ≡ allocOf l n w k .start ∷ []
+  unfolding allocOf
+  started n w k e =
+      let a = alloc-kept n w k e in
+      rw (placed-at (s .live) k (place l k) (place-test k (a .2)) (a .3))
+      (ap (λ (b : Booked). b .start ∷ []) (sym (booked-next l (withAllocation l (place l k) n w k) (firstBroken (allocRules l n w k)) (place l k * 32) (a .4))))
+
+  released : (n : Name) (w k : ℕ) → releaseOf l n w k .reason ≡ 0 → Shows (releaseOf l n w k .next) (effect lowest s w (Dealloc n k))
+  unfolding releaseOf effect
+  released n w k e =
+      let z : firstBroken (releaseRules l n w k) ≡ 0 = sym (booked-reason l (withoutAllocation l (slot l n)) (firstBroken (releaseRules l n w k)) 0) ∙ e in
+      let a = kept (isLive l n) _ 6 (omega arith) z in
+      subst (λ (b : Booked). Shows (b .next) (effect lowest s w (Dealloc n k)))
+      (sym (booked-next l (withoutAllocation l (slot l n)) (firstBroken (releaseRules l n w k)) 0 z))
+      (record {
+        slots = slots-release (l .hi) (l .lo) (l .columns) (s .live) (h .slots) n (ltb-true (slot l n) 16 (a .0));
+        warp = h .warp;
+        relinquished = h .relinquished;
+      })
+
+  relinquished : (w : ℕ) → relinquishOf l w .reason ≡ 0 → Shows (relinquishOf l w .next) (effect lowest s w Relinquish)
+  unfolding relinquishOf effect
+  relinquished w e =
+      let z : firstBroken (relinquishRules l w) ≡ 0 = sym (booked-reason l (afterRelinquish l w) (firstBroken (relinquishRules l w)) 0) ∙ e in
+      let a = kept (mayBook l w) 0 8 (omega arith) z in
+      subst (λ (b : Booked). Shows (b .next) (effect lowest s w Relinquish))
+      (sym (booked-next l (afterRelinquish l w) (firstBroken (relinquishRules l w)) 0 z))
+      (record { slots = h .slots; warp = fixes (l .fixed) (l .warp) w (a .0) ∙ ap (λ (o : Option ℕ). fixed o w) (h .warp); relinquished = refl })
+
+  -- THE CLAIM
+  pub tells : Tells l s
+  tells = record {
+    live = found-live;
+    find = found;
+    held = held;
+    alloc = alloc-reason;
+    release = release-reason;
+    relinquish = relinquish-reason;
+    allocated = allocated;
+    started = started;
+    released = released;
+    relinquished = relinquished;
+  }

@@ -1,0 +1,69 @@
+-- A ledger shows a state of the rules: its slots are the live allocations, and it has the state's warp and permit. proofs/ShowLaws.antt shows that
+-- every method then answers and goes on as the rules say. Assumes nothing.
+use Prim.Native.Nat.{ℕ, _*_, _<_}
+use mathlib.Core.Path.{_≡_}
+use mathlib.Core.Bool.{false, not, cond}
+use mathlib.Core.List.{List, [], _∷_}
+use mathlib.Core.Logic.{_⊎_}
+use mathlib.Core.Option.{Option, none, some}
+use lib.Dec.{eqb}
+use lib.ListN.{getD, length}
+use Rattle.laws.specs.Rules.{firstBroken}
+use Rattle.tokens.specs.declared.Name.{Name}
+use Rattle.statement.specs.declared.Statement.the-variants.{Alloc, Dealloc, Relinquish}
+use Rattle.rules.specs.State as rules
+use Rattle.rules.specs.State.{State, Allocation, lowest}
+use Rattle.rules.specs.Reasons.{openRules}
+use Rattle.rules.specs.Sheet.{effect, startList}
+use Rattle.ledger.specs.declared.Ledger.{Ledger}
+use Rattle.ledger.specs.Slots.{total}
+use Rattle.ledger.specs.Booking.{allocOf, releaseOf, relinquishOf, findOf, heldOf}
+
+-- an allocation is one of a list
+abbrev pub Among : Allocation → List Allocation → Type 0
+Among a [] = ⊥
+Among a (b ∷ l) = (a ≡ b) ⊎ Among a l
+
+-- each name once
+abbrev pub Unique : List Allocation → Type 0
+Unique [] = Unit {0}
+Unique (a ∷ l) = (rules.isLive (a .name) l ≡ false) × Unique l
+
+-- the allocation of slot i
+abbrev pub slotAt : List ℕ → List ℕ → List ℕ → ℕ → Allocation
+slotAt hi lo columns i = record { name = record { hi = getD hi i 0; lo = getD lo i 0 }; start = i * 32; columns = getD columns i 0 }
+
+-- the slots that are not empty are the live allocations
+pub record Slots (hi lo columns : List ℕ) (live : List Allocation) : Type 0 where
+  pub hi-16 : length hi ≡ 16
+  pub lo-16 : length lo ≡ 16
+  pub columns-16 : length columns ≡ 16
+  pub down : (a : Allocation) → Among a live → (i : ℕ) × (i < 16) × (a ≡ slotAt hi lo columns i) × (0 < a .columns)
+  pub up : (i : ℕ) → i < 16 → 0 < getD columns i 0 → Among (slotAt hi lo columns i) live
+  pub unique : Unique live
+  pub sum : total columns 16 ≡ rules.total live
+
+-- the warp that is fixed, if any
+abbrev pub warpOf : Ledger → Option ℕ
+warpOf l = cond (l .fixed) (some (l .warp)) none
+
+pub record Shows (l : Ledger) (s : State) : Type 0 where
+  pub slots : Slots (l .hi) (l .lo) (l .columns) (s .live)
+  pub warp : warpOf l ≡ s .warp
+  pub relinquished : l .relinquished ≡ s .relinquished
+
+-- ---- the claim: what a ledger that shows a state tells of it
+pub record Tells (l : Ledger) (s : State) : Type 0 where
+  -- a name is live where an allocation is found, which has its columns; and the columns held
+  pub live : (n : Name) → not (eqb (findOf l n .columns) 0) ≡ rules.isLive n (s .live)
+  pub find : (n : Name) → findOf l n .columns ≡ rules.columnsOf n (s .live)
+  pub held : heldOf l ≡ rules.total (s .live)
+  -- the reason of each method is that of the line; of an alloc, if the name is not bound to a value
+  pub alloc : (n : Name) (w k : ℕ) → firstBroken (openRules lowest s w (Alloc n k)) ≡ cond (rules.isBound n (s .values)) 6 (allocOf l n w k .reason)
+  pub release : (n : Name) (w k : ℕ) → firstBroken (openRules lowest s w (Dealloc n k)) ≡ releaseOf l n w k .reason
+  pub relinquish : (w : ℕ) → firstBroken (openRules lowest s w Relinquish) ≡ relinquishOf l w .reason
+  -- and the next ledger of a method that accepts shows what the line does
+  pub allocated : (n : Name) (w k : ℕ) → allocOf l n w k .reason ≡ 0 → Shows (allocOf l n w k .next) (effect lowest s w (Alloc n k))
+  pub started : (n : Name) (w k : ℕ) → allocOf l n w k .reason ≡ 0 → startList (lowest (s .live) k) ≡ allocOf l n w k .start ∷ []
+  pub released : (n : Name) (w k : ℕ) → releaseOf l n w k .reason ≡ 0 → Shows (releaseOf l n w k .next) (effect lowest s w (Dealloc n k))
+  pub relinquished : (w : ℕ) → relinquishOf l w .reason ≡ 0 → Shows (relinquishOf l w .next) (effect lowest s w Relinquish)

@@ -1,0 +1,3 @@
+pub mod SheetLaws
+pub mod SheetTheorems
+pub mod Examples

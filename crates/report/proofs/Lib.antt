@@ -1,0 +1,3 @@
+pub mod ReportLaws
+pub mod Bounds
+pub mod Examples

@@ -1,0 +1,56 @@
+-- The printed report: a first line of four numbers, then a row for each alloc. Assumes nothing.
+use Prim.Native.Nat.{ℕ, _+_}
+use mathlib.Core.List.{List, [], _∷_, _++_}
+use lib.ListN.{length}
+use lib.Seq.{sets}
+use lib.Dec.{leb, eqb}
+use Rattle.tokens.specs.declared.Name.{Name}
+use Rattle.tokens.specs.Bytes.{pick}
+use Rattle.tokens.specs.Names.{nameBytes}
+use Rattle.tokens.specs.Numbers.{decimal}
+
+abbrev pub tab : ℕ
+tab = 9
+
+abbrev pub lf : ℕ
+lf = 10
+
+-- numbers in decimal: a tab between two, an LF after the last
+unfoldable pub numbersText : List ℕ → List ℕ
+numbersText [] = []
+numbersText (v ∷ []) = decimal v ++ lf ∷ []
+numbersText (v ∷ (w ∷ l)) = decimal v ++ tab ∷ numbersText (w ∷ l)
+
+-- the first line: reason, line, columns held and peak
+unfoldable pub headText : ℕ → ℕ → ℕ → ℕ → List ℕ
+headText reason line held peak = numbersText (reason ∷ line ∷ held ∷ peak ∷ [])
+
+-- the row of an alloc: its name, its start and its columns
+unfoldable pub rowText : Name → ℕ → ℕ → List ℕ
+rowText name start columns = nameBytes name ++ tab ∷ numbersText (start ∷ columns ∷ [])
+
+-- an alloc as it is reported
+pub record Reported : Type 0 where
+  pub name : Name
+  pub start : ℕ
+  pub columns : ℕ
+
+unfoldable pub rowsText : List Reported → List ℕ
+rowsText [] = []
+rowsText (a ∷ l) = rowText (a .name) (a .start) (a .columns) ++ rowsText l
+
+-- the whole report: the first line, and on a pass a row for each alloc in order
+unfoldable pub reportText : ℕ → ℕ → ℕ → ℕ → List Reported → List ℕ
+reportText reason line held peak allocs = headText reason line held peak ++ pick (eqb reason 0) (rowsText allocs) []
+
+-- a buffer after a text was put from a place on: unchanged where there is no room for all of it
+unfoldable pub putText : List ℕ → ℕ → List ℕ → List ℕ
+putText room at text = pick (leb (at + length text) (length room)) (sets room at text) room
+
+-- the place after the text, in a buffer of n bytes: the same place where there is no room
+unfoldable pub putEnd : ℕ → ℕ → List ℕ → ℕ
+putEnd n at text = pick (leb (at + length text) n) (at + length text) at
+
+-- room for the report of any sheet: a first line of at most 16 bytes, and at most 4,095 rows of at most 25
+abbrev pub reportRoom : ℕ
+reportRoom = 102391

@@ -1,0 +1,78 @@
+-- The columns held, asked for less given back over the lines, are those of the live allocations: an accepted line changes both sides alike.
+-- Assumes nothing.
+use Prim.Native.Nat.{ℕ, zero, suc, _+_, _-_, _<_}
+use mathlib.Core.Path.{_≡_, refl}
+use mathlib.Core.Bool.{Bool, true, false, _||_, cond}
+use mathlib.Core.List.{List, [], _∷_}
+use mathlib.Core.Option.{Option, none, some}
+use native.Mathlib.Omega.{arith}
+use borrow.Author.Tests.{eqb-true}
+use Rattle.laws.specs.Tests.{isSome}
+use Rattle.tokens.specs.declared.Name.{Name}
+use Rattle.tokens.specs.Names.{sameName}
+use Rattle.statement.specs.declared.Statement.the-variants.{Mov32, Mov64, Alloc, Dealloc, Relinquish, Load, Store, WaitLoad, WaitStore, FenceBefore, FenceAfter, Multiply, Exit}
+use Rattle.rules.specs.State.{State, Allocation, Placer, isLive, columnsOf, without, total}
+use Rattle.rules.specs.Reasons.{named, sized, placed}
+use Rattle.rules.specs.Sheet.{Line, badLayout, noForm, tooLarge, statement, Placing, lineRules, lineEffect, effect, added, requested, released, sum, heldAfter, stateBy, rulesBy}
+use Rattle.rules.specs.Claims.{AllKept}
+use Rattle.rules.proofs.CountingLaws.{clash}
+use Rattle.rules.proofs.RuleLaws.{accepted}
+
+-- taking out an allocation takes its columns
+pub total-without : (n : Name) (l : List Allocation) → isLive n l ≡ true → total (without n l) + columnsOf n l ≡ total l
+unfolding isLive without columnsOf total
+total-without n [] e = absurd (clash e refl)
+total-without n (a ∷ l) e = at (sameName (a .name) n) e (total-without n l)
+  where
+    at : (t : Bool) → t || isLive n l ≡ true → (isLive n l ≡ true → total (without n l) + columnsOf n l ≡ total l)
+        → total (cond t l (a ∷ without n l)) + cond t (a .columns) (columnsOf n l) ≡ a .columns + total l
+    at true e ih = omega arith
+    at false e ih = omega (arith, ih e)
+
+-- adding one adds its columns
+total-added : (n : Name) (v : ℕ) (o : Option ℕ) (l : List Allocation) → isSome o ≡ true → total (added n v o l) ≡ v + total l
+unfolding total
+total-added n v none l e = absurd (clash e refl)
+total-added n v (some s) l e = refl
+
+-- one accepted line
+balance-step : (place : Placer) (s : State) (x : Line) → AllKept (lineRules place s x) → total (s .live) + requested x ≡ total (lineEffect place s x .live) + released x
+unfolding effect requested released named sized placed
+balance-step place s badLayout h = refl
+balance-step place s noForm h = refl
+balance-step place s tooLarge h = refl
+balance-step place s (statement w (Mov32 n v)) h = refl
+balance-step place s (statement w (Mov64 n v)) h = refl
+balance-step place s (statement w (Alloc n v)) h =
+    omega (arith, total-added n v (place (s .live) v) (s .live) (accepted place s w (Alloc n v) (h .1) .places))
+balance-step place s (statement w (Dealloc n v)) h =
+    let a = accepted place s w (Dealloc n v) (h .1) in
+    omega (arith, total-without n (s .live) (a .names), eqb-true (columnsOf n (s .live)) v (a .sizes))
+balance-step place s (statement w Relinquish) h = refl
+balance-step place s (statement w (Load a)) h = refl
+balance-step place s (statement w (Store a)) h = refl
+balance-step place s (statement w WaitLoad) h = refl
+balance-step place s (statement w WaitStore) h = refl
+balance-step place s (statement w FenceBefore) h = refl
+balance-step place s (statement w FenceAfter) h = refl
+balance-step place s (statement w (Multiply m)) h = refl
+balance-step place s (statement w Exit) h = refl
+
+module _ (placing : Placing) (line : ℕ → Line) where
+  -- what is asked for is what was given back and what is live
+  pub balance : (n : ℕ) → ((k : ℕ) → k < n → AllKept (rulesBy placing line k)) → sum requested line n ≡ sum released line n + total (stateBy placing line n .live)
+  unfolding sum stateBy total
+  balance zero h = refl
+  balance (suc n) h =
+      omega (arith, balance n (λ k p. h k (omega (arith, p))), balance-step (placing n) (stateBy placing line n) (line n) (h n (omega arith)))
+
+  -- the columns held are those of the live allocations
+  pub held-total : (n : ℕ) → ((k : ℕ) → k < n → AllKept (rulesBy placing line k)) → heldAfter line n ≡ total (stateBy placing line n .live)
+  unfolding heldAfter
+  held-total n h = omega (arith, balance n h)
+
+  -- a line adds what it asks for and takes what it gives back
+  pub held-next : (n : ℕ) → ((k : ℕ) → k < suc n → AllKept (rulesBy placing line k)) → heldAfter line (suc n) + released (line n) ≡ heldAfter line n + requested (line n)
+  unfolding heldAfter sum
+  held-next n h =
+      omega (arith, balance n (λ k p. h k (omega (arith, p))), balance (suc n) h)

@@ -1,0 +1,449 @@
+-- The answer names the first broken rule of the first line that breaks one. The lines' own reasons decide where the sheet stops; then each claim is
+-- read off. Assumes nothing.
+use Prim.Native.Nat.{ℕ, zero, suc, _+_, _≤_, _<_}
+use mathlib.Core.Path.{_≡_, refl, sym, ap, _∙_, subst}
+use mathlib.Core.Bool.{Bool, true, false, not, cond}
+use mathlib.Core.List.{List, [], _∷_, _++_}
+use mathlib.Core.Logic.{_⊎_, inl, inr}
+use native.Mathlib.Omega.{arith}
+use lib.Dec.{leb, ltb, eqb}
+use lib.ListN.{length}
+use borrow.Author.Tests.{eqb-true, eqb-false, ltb-true, ltb-false, leb-true, leb-false, lt-ltb, le-ltb, eq-eqb, ne-eqb}
+use Rattle.laws.specs.Rules.{Rule, rule, firstBroken}
+use Rattle.statement.specs.declared.Statement.the-variants.{Mov32, Mov64, Alloc, Dealloc, Relinquish, Load, Store, WaitLoad, WaitStore, FenceBefore, FenceAfter, Multiply, Exit}
+use Rattle.rules.specs.Counting.{least}
+use Rattle.rules.specs.State.{State, Placer}
+use Rattle.rules.specs.Reasons.{rules, closedRules, openRules}
+use Rattle.rules.specs.Sheet.{Line, badLayout, noForm, tooLarge, statement, Sheet, Placing, lineRules, lineEffect, effect, stateBy, startsBy, rulesBy, reasonBy, stopBy, heldAfter, peakUpTo, answer, closing, answerAt, answerBy}
+use Rattle.rules.specs.Claims.{AllKept, exits, Passing, Passed, endRules, ownRules, rulesAt, Refused, RulesExact}
+use Rattle.rules.specs.declared.Answer.{Answer}
+use Rattle.rules.proofs.CountingLaws.{bool, not-t, not-f, clash, least-le, least-hit, least-below}
+use Rattle.rules.proofs.RuleLaws.{Numbered, kept-closed, kept-none, none-kept, at-most, first-is, is-first, in-turn-kept, in-turn-broken, line-numbered}
+
+-- ---- lines and exit
+pub exit-ends : (place : Placer) (s : State) (x : Line) → exits x ≡ true → lineEffect place s x .exited ≡ true
+unfolding effect
+exit-ends place s badLayout e = absurd (clash e refl)
+exit-ends place s noForm e = absurd (clash e refl)
+exit-ends place s tooLarge e = absurd (clash e refl)
+exit-ends place s (statement w (Mov32 n v)) e = absurd (clash e refl)
+exit-ends place s (statement w (Mov64 n v)) e = absurd (clash e refl)
+exit-ends place s (statement w (Alloc n v)) e = absurd (clash e refl)
+exit-ends place s (statement w (Dealloc n v)) e = absurd (clash e refl)
+exit-ends place s (statement w Relinquish) e = absurd (clash e refl)
+exit-ends place s (statement w (Load a)) e = absurd (clash e refl)
+exit-ends place s (statement w (Store a)) e = absurd (clash e refl)
+exit-ends place s (statement w WaitLoad) e = absurd (clash e refl)
+exit-ends place s (statement w WaitStore) e = absurd (clash e refl)
+exit-ends place s (statement w FenceBefore) e = absurd (clash e refl)
+exit-ends place s (statement w FenceAfter) e = absurd (clash e refl)
+exit-ends place s (statement w (Multiply m)) e = absurd (clash e refl)
+exit-ends place s (statement w Exit) e = refl
+
+pub other-stays : (place : Placer) (s : State) (x : Line) → exits x ≡ false → lineEffect place s x .exited ≡ s .exited
+unfolding effect
+other-stays place s badLayout e = refl
+other-stays place s noForm e = refl
+other-stays place s tooLarge e = refl
+other-stays place s (statement w (Mov32 n v)) e = refl
+other-stays place s (statement w (Mov64 n v)) e = refl
+other-stays place s (statement w (Alloc n v)) e = refl
+other-stays place s (statement w (Dealloc n v)) e = refl
+other-stays place s (statement w Relinquish) e = refl
+other-stays place s (statement w (Load a)) e = refl
+other-stays place s (statement w (Store a)) e = refl
+other-stays place s (statement w WaitLoad) e = refl
+other-stays place s (statement w WaitStore) e = refl
+other-stays place s (statement w FenceBefore) e = refl
+other-stays place s (statement w FenceAfter) e = refl
+other-stays place s (statement w (Multiply m)) e = refl
+other-stays place s (statement w Exit) e = absurd (clash refl e)
+
+-- after exit every line breaks a rule
+pub no-more : (place : Placer) (s : State) (x : Line) → AllKept (lineRules place s x) → s .exited ≡ true → ⊥
+unfolding rules
+no-more place s badLayout h e = clash (h .0) refl
+no-more place s noForm h e = clash (h .0) refl
+no-more place s tooLarge h e = clash (h .0) refl
+no-more place s (statement w t) h e = kept-closed t (subst (λ b. AllKept (cond b (closedRules t) (openRules place s w t))) e (h .1))
+
+-- ---- the lines' own reasons
+module _ (placing : Placing) (line : ℕ → Line) where
+  abbrev reason : ℕ → ℕ
+  reason k = reasonBy placing line k
+
+  pub zero-kept : (k : ℕ) → reason k ≡ 0 → AllKept (rulesBy placing line k)
+  unfolding reasonBy
+  zero-kept k e = none-kept 15 (rulesBy placing line k) (line-numbered (placing k) (stateBy placing line k) (line k)) e
+
+  pub kept-zero : (k : ℕ) → AllKept (rulesBy placing line k) → reason k ≡ 0
+  unfolding reasonBy
+  kept-zero k h = kept-none (rulesBy placing line k) h
+
+  pub reason-most : (k : ℕ) → reason k ≤ 15
+  unfolding reasonBy
+  reason-most k = at-most 15 (rulesBy placing line k) (line-numbered (placing k) (stateBy placing line k) (line k))
+
+  -- the line where the sheet stops is refused, and none before it
+  pub stop-le : (n : ℕ) → stopBy placing line n ≤ n
+  unfolding stopBy
+  stop-le n = least-le (λ k. not (eqb (reasonBy placing line k) 0)) n
+
+  pub stop-hit : (n : ℕ) → stopBy placing line n < n → 0 < reason (stopBy placing line n)
+  unfolding stopBy
+  stop-hit n h =
+      let k = least (λ k. not (eqb (reasonBy placing line k) 0)) n in
+      omega (arith, eqb-false (reason k) 0 (not-t (eqb (reason k) 0) (least-hit (λ k. not (eqb (reasonBy placing line k) 0)) n h)))
+
+  pub stop-before : (n j : ℕ) → j < stopBy placing line n → reason j ≡ 0
+  unfolding stopBy
+  stop-before n j h = eqb-true (reason j) 0 (not-f (eqb (reason j) 0) (least-below (λ k. not (eqb (reasonBy placing line k) 0)) n j h))
+
+  -- it stops at the end exactly where no line is refused
+  pub stop-none : (n : ℕ) → ((k : ℕ) → k < n → reason k ≡ 0) → stopBy placing line n ≡ n
+  stop-none n h = at (bool (ltb (stopBy placing line n) n))
+    where
+      at : (ltb (stopBy placing line n) n ≡ true) ⊎ (ltb (stopBy placing line n) n ≡ false) → stopBy placing line n ≡ n
+      at (inl e) =
+          let l = ltb-true (stopBy placing line n) n e in
+          absurd (omega (arith, stop-hit n l, h (stopBy placing line n) l))
+      at (inr e) = omega (arith, stop-le n, ltb-false (stopBy placing line n) n e)
+
+  -- ---- exit
+  state-next : (k : ℕ) → stateBy placing line (suc k) ≡ lineEffect (placing k) (stateBy placing line k) (line k)
+  unfolding stateBy
+  state-next k = refl
+
+  state-first : stateBy placing line 0 .exited ≡ false
+  unfolding stateBy
+  state-first = refl
+
+  pub exits-after : (k : ℕ) → exits (line k) ≡ true → stateBy placing line (suc k) .exited ≡ true
+  exits-after k e = ap (λ (s : State). s .exited) (state-next k) ∙ exit-ends (placing k) (stateBy placing line k) (line k) e
+
+  -- of lines that keep the rules, exit is the last
+  pub exit-last : (m : ℕ) → ((k : ℕ) → k < suc m → AllKept (rulesBy placing line k)) → stateBy placing line (suc m) .exited ≡ true → exits (line m) ≡ true
+  exit-last m h e = at (bool (exits (line m)))
+    where
+      at : (exits (line m) ≡ true) ⊎ (exits (line m) ≡ false) → exits (line m) ≡ true
+      at (inl z) = z
+      at (inr z) = absurd (no-more (placing m) (stateBy placing line m) (line m) (h m (omega arith)) (sym (other-stays (placing m) (stateBy placing line m) (line m) z) ∙ sym (ap (λ (s : State). s .exited) (state-next m)) ∙ e))
+
+  pub exit-sole : (m k : ℕ) → ((j : ℕ) → j < suc m → AllKept (rulesBy placing line j)) → k < m → exits (line k) ≡ false
+  exit-sole m k h p = at (bool (exits (line k)))
+    where
+      at : (exits (line k) ≡ true) ⊎ (exits (line k) ≡ false) → exits (line k) ≡ false
+      at (inl z) = absurd (no-more (placing (suc k)) (stateBy placing line (suc k)) (line (suc k)) (h (suc k) (omega arith)) (exits-after k z))
+      at (inr z) = z
+
+-- what a sheet without a refused line is, in the words of the definitions
+pub record Clear (placing : Placing) (sheet : Sheet) : Type 0 where
+  pub header : sheet .header ≡ true
+  pub zeros : (k : ℕ) → k < sheet .count → reasonBy placing (sheet .line) k ≡ 0
+  pub exited : stateBy placing (sheet .line) (sheet .count) .exited ≡ true
+
+pub clear-passed : (placing : Placing) (sheet : Sheet) → Clear placing sheet → Passed placing sheet
+clear-passed placing sheet c = by (sheet .count) refl
+  where
+    kept : (k : ℕ) → k < sheet .count → AllKept (rulesBy placing (sheet .line) k)
+    kept k h = zero-kept placing (sheet .line) k (c .zeros k h)
+
+    by : (n : ℕ) → sheet .count ≡ n → Passed placing sheet
+    by zero e = absurd (clash (subst (λ n. stateBy placing (sheet .line) n .exited ≡ true) e (c .exited)) (state-first placing (sheet .line)))
+    by (suc m) e =
+        let all : (k : ℕ) → k < suc m → AllKept (rulesBy placing (sheet .line) k) = λ k h. kept k (omega (arith, e)) in
+        record {
+          header = c .header;
+          kept = kept;
+          last = m;
+          is-last = sym e;
+          ends = exit-last placing (sheet .line) m all (subst (λ n. stateBy placing (sheet .line) n .exited ≡ true) e (c .exited));
+          sole = λ k h. exit-sole placing (sheet .line) m k all h;
+        }
+
+pub passed-clear : (placing : Placing) (sheet : Sheet) → Passed placing sheet → Clear placing sheet
+passed-clear placing sheet p =
+    record {
+      header = p .header;
+      zeros = λ k h. kept-zero placing (sheet .line) k (p .kept k h);
+      exited = subst (λ n. stateBy placing (sheet .line) n .exited ≡ true) (p .is-last) (exits-after placing (sheet .line) (p .last) (p .ends));
+    }
+
+-- ---- the answer, by cases
+module _ (placing : Placing) (sheet : Sheet) (room : ℕ) where
+  abbrev lines : ℕ → Line
+  lines = sheet .line
+
+  abbrev size : ℕ
+  size = sheet .count
+
+  abbrev stop : ℕ
+  stop = stopBy placing lines size
+
+  abbrev given : Answer
+  given = answerBy placing sheet room
+
+  abbrev starts : ℕ
+  starts = length (startsBy placing lines size)
+
+  abbrev closes : Bool → Bool → Answer
+  closes exited full = cond exited (cond full (answer 16 (size + 1) 0 (peakUpTo lines size)) (answer 0 (size + 1) 0 (peakUpTo lines size))) (answer 15 (size + 1) (heldAfter lines size) (peakUpTo lines size))
+
+  pub bad-header : sheet .header ≡ false → given ≡ answer 2 1 0 0
+  unfolding answerBy
+  bad-header e = ap (λ h. cond h (answerAt placing lines size room stop) (answer 2 1 0 0)) e
+
+  good-header : sheet .header ≡ true → given ≡ answerAt placing lines size room stop
+  unfolding answerBy
+  good-header e = ap (λ h. cond h (answerAt placing lines size room stop) (answer 2 1 0 0)) e
+
+  pub at-stop : sheet .header ≡ true → stop < size → given ≡ answer (reasonBy placing lines stop) (stop + 2) (heldAfter lines stop) (peakUpTo lines stop)
+  unfolding answerAt
+  at-stop e h = good-header e ∙ rw (lt-ltb stop size h)
+
+  pub at-end : sheet .header ≡ true → stop ≡ size → given ≡ closes (stateBy placing lines size .exited) (ltb room starts)
+  unfolding answerAt closing
+  at-end e h = good-header e ∙ rw (le-ltb stop size (omega (arith, h)))
+
+  -- ---- passed
+  closes-passing : (exited full : Bool) → Passing (closes exited full .reason) → exited ≡ true
+  closes-passing true full p = refl
+  closes-passing false full (inl e) = absurd (omega (arith, e))
+  closes-passing false full (inr e) = absurd (omega (arith, e))
+
+  passing-closes : (exited full : Bool) → exited ≡ true → Passing (closes exited full .reason)
+  passing-closes true true e = inr refl
+  passing-closes true false e = inl refl
+  passing-closes false full e = absurd (clash e refl)
+
+  no-stop : stop < size → (r : ℕ) → Passing r → r ≡ reasonBy placing lines stop → ⊥
+  no-stop h r (inl e) q = omega (arith, e, q, stop-hit placing lines size h)
+  no-stop h r (inr e) q = omega (arith, e, q, reason-most placing lines stop)
+
+  no-header : (r : ℕ) → Passing r → r ≡ 2 → ⊥
+  no-header r (inl e) q = omega (arith, e, q)
+  no-header r (inr e) q = omega (arith, e, q)
+
+  pub passing-clear : Passing (given .reason) → Clear placing sheet
+  passing-clear p = by (bool (sheet .header))
+    where
+      running : sheet .header ≡ true → (ltb stop size ≡ true) ⊎ (ltb stop size ≡ false) → Clear placing sheet
+      running h (inl e) = absurd (no-stop (ltb-true stop size e) (given .reason) p (ap (λ (a : Answer). a .reason) (at-stop h (ltb-true stop size e))))
+      running h (inr e) =
+          let q : stop ≡ size = omega (arith, stop-le placing lines size, ltb-false stop size e) in
+          record {
+            header = h;
+            zeros = λ k i. stop-before placing lines size k (omega (arith, q, i));
+            exited = closes-passing (stateBy placing lines size .exited) (ltb room starts) (subst (λ (a : Answer). Passing (a .reason)) (at-end h q) p);
+          }
+
+      by : (sheet .header ≡ true) ⊎ (sheet .header ≡ false) → Clear placing sheet
+      by (inl h) = running h (bool (ltb stop size))
+      by (inr h) = absurd (no-header (given .reason) p (ap (λ (a : Answer). a .reason) (bad-header h)))
+
+  pub clear-passing : Clear placing sheet → Passing (given .reason)
+  clear-passing c =
+      subst (λ (a : Answer). Passing (a .reason)) (sym (at-end (c .header) (stop-none placing lines size (c .zeros))))
+      (passing-closes (stateBy placing lines size .exited) (ltb room starts) (c .exited))
+
+  -- ---- where the sheet is refused
+  -- the first broken rule under l, or 0
+  abbrev first : ℕ → ℕ
+  first l = firstBroken (rulesAt placing sheet room l)
+
+  own-numbered : (l : ℕ) → Numbered 15 (ownRules placing sheet room l)
+  own-numbered zero = (omega arith, (omega arith, tt))
+  own-numbered (suc k) = line-numbered (placing k) (stateBy placing lines k) (lines k)
+
+  end-numbered : Numbered 16 (endRules placing sheet room)
+  end-numbered = (omega arith, (omega arith, (omega arith, (omega arith, tt))))
+
+  own-zero : (l : ℕ) → sheet .header ≡ true → ((k : ℕ) → k < l → reasonBy placing lines k ≡ 0) → firstBroken (ownRules placing sheet room l) ≡ 0
+  unfolding reasonBy
+  own-zero zero h z = ap (λ b. cond b 0 2) h
+  own-zero (suc k) h z = z k (omega arith)
+
+  own-same : reasonBy placing lines stop ≡ firstBroken (ownRules placing sheet room (suc stop))
+  unfolding reasonBy
+  own-same = refl
+
+  first-own : (l : ℕ) → 0 < firstBroken (ownRules placing sheet room l) → first l ≡ firstBroken (ownRules placing sheet room l)
+  first-own l h = in-turn-broken 15 (ownRules placing sheet room l) (cond (eqb l size) (endRules placing sheet room) []) (own-numbered l) h
+
+  first-then : (l : ℕ) → firstBroken (ownRules placing sheet room l) ≡ 0 → first l ≡ firstBroken (cond (eqb l size) (endRules placing sheet room) [])
+  first-then l h = in-turn-kept 15 (ownRules placing sheet room l) (cond (eqb l size) (endRules placing sheet room) []) (own-numbered l) h
+
+  first-middle : (l : ℕ) → l < size → firstBroken (ownRules placing sheet room l) ≡ 0 → first l ≡ 0
+  first-middle l p h = first-then l h ∙ ap (λ b. firstBroken (cond b (endRules placing sheet room) [])) (ne-eqb l size (omega (arith, p)))
+
+  first-end : firstBroken (ownRules placing sheet room size) ≡ 0 → first size ≡ firstBroken (endRules placing sheet room)
+  first-end h = first-then size h ∙ ap (λ b. firstBroken (cond b (endRules placing sheet room) [])) (eq-eqb size size refl)
+
+  -- the sheet is refused under l, or nowhere
+  record Stops : Type 0 where
+    l : ℕ
+    there : l ≤ size
+    earlier : (j : ℕ) → j < l → first j ≡ 0
+    here : given .reason ≡ first l
+    broken : 0 < first l
+    line : given .line ≡ suc l
+
+  record Goes : Type 0 where
+    none : (l : ℕ) → l ≤ size → first l ≡ 0
+    reason : given .reason ≡ 0
+    line : given .line ≡ suc size
+
+  full-leb : (n : ℕ) → ltb room n ≡ not (leb n room)
+  full-leb n = by (bool (leb n room))
+    where
+      by : (leb n room ≡ true) ⊎ (leb n room ≡ false) → ltb room n ≡ not (leb n room)
+      by (inl e) = rw (e, le-ltb room n (leb-true n room e))
+      by (inr e) = rw (e, lt-ltb room n (leb-false n room e))
+
+  -- the end's reason is that of the rules of the end
+  closes-first : (exited fits : Bool) → (closes exited (not fits) .reason ≡ firstBroken (rule 15 exited ∷ rule 16 fits ∷ [])) × (closes exited (not fits) .line ≡ suc size)
+  closes-first true true = (refl, omega arith)
+  closes-first true false = (refl, omega arith)
+  closes-first false fits = (refl, omega arith)
+
+  told : Goes ⊎ Stops
+  told = by (bool (sheet .header))
+    where
+      ending : sheet .header ≡ true → stop ≡ size → Goes ⊎ Stops
+      ending h q = last (bool (eqb (first size) 0))
+        where
+          zeros : (l : ℕ) → l ≤ size → firstBroken (ownRules placing sheet room l) ≡ 0
+          zeros l p = own-zero l h (λ k i. stop-before placing lines size k (omega (arith, q, i, p)))
+
+          is : (given .reason ≡ first size) × (given .line ≡ suc size)
+          is =
+              let f = closes-first (stateBy placing lines size .exited) (leb starts room) in
+              let g : given ≡ closes (stateBy placing lines size .exited) (not (leb starts room)) = at-end h q ∙ ap (λ b. closes (stateBy placing lines size .exited) b) (full-leb starts) in
+              (ap (λ (a : Answer). a .reason) g ∙ f .0 ∙ sym (first-end (zeros size (omega arith))), ap (λ (a : Answer). a .line) g ∙ f .1)
+
+          middle : (l : ℕ) → l < size → first l ≡ 0
+          middle l p = first-middle l p (zeros l (omega (arith, p)))
+
+          none : first size ≡ 0 → (l : ℕ) → l ≤ size → first l ≡ 0
+          none e l p = each (bool (ltb l size))
+            where
+              each : (ltb l size ≡ true) ⊎ (ltb l size ≡ false) → first l ≡ 0
+              each (inl i) = middle l (ltb-true l size i)
+              each (inr i) = subst (λ n. first n ≡ 0) (let z : size ≡ l = omega (arith, p, ltb-false l size i) in z) e
+
+          last : (eqb (first size) 0 ≡ true) ⊎ (eqb (first size) 0 ≡ false) → Goes ⊎ Stops
+          last (inl e) = let z = eqb-true (first size) 0 e in inl (record { none = none z; reason = is .0 ∙ z; line = is .1 })
+          last (inr e) = inr (record { l = size; there = omega arith; earlier = middle; here = is .0; broken = omega (arith, eqb-false (first size) 0 e); line = is .1 })
+
+      stopping : sheet .header ≡ true → stop < size → Stops
+      stopping h q =
+          let a = at-stop h q in
+          let p = stop-hit placing lines size q in
+          let f = first-own (suc stop) (own-is p) in
+          record {
+            l = suc stop;
+            there = omega (arith, q);
+            earlier = λ j i. first-middle j (omega (arith, q, i)) (own-zero j h (λ k u. stop-before placing lines size k (omega (arith, i, u))));
+            here = ap (λ (z : Answer). z .reason) a ∙ own-same ∙ sym f;
+            broken = subst (λ n. 0 < n) (sym f) (own-is p);
+            line = ap (λ (z : Answer). z .line) a ∙ omega arith;
+          }
+        where
+          own-is : 0 < reasonBy placing lines stop → 0 < firstBroken (ownRules placing sheet room (suc stop))
+          own-is p = subst (λ n. 0 < n) own-same p
+
+      running : sheet .header ≡ true → (ltb stop size ≡ true) ⊎ (ltb stop size ≡ false) → Goes ⊎ Stops
+      running h (inl e) = inr (stopping h (ltb-true stop size e))
+      running h (inr e) = ending h (omega (arith, stop-le placing lines size, ltb-false stop size e))
+
+      headless : sheet .header ≡ false → Stops
+      headless h =
+          let a = bad-header h in
+          let o : firstBroken (ownRules placing sheet room 0) ≡ 2 = ap (λ b. cond b 0 2) h in
+          let f = first-own 0 (omega (arith, o)) in
+          record {
+            l = 0;
+            there = omega arith;
+            earlier = λ j i. absurd (omega (arith, i));
+            here = ap (λ (z : Answer). z .reason) a ∙ sym (f ∙ o);
+            broken = omega (arith, f, o);
+            line = ap (λ (z : Answer). z .line) a;
+          }
+
+      by : (sheet .header ≡ true) ⊎ (sheet .header ≡ false) → Goes ⊎ Stops
+      by (inl h) = running h (bool (ltb stop size))
+      by (inr h) = inr (headless h)
+
+  -- ---- the claims
+  at-numbered : (l : ℕ) → Numbered 16 (rulesAt placing sheet room l)
+  at-numbered l = join (ownRules placing sheet room l) (own-numbered l) (bool (eqb l size))
+    where
+      widen : (xs ys : List Rule) → Numbered 15 xs → Numbered 16 ys → Numbered 16 (xs ++ ys)
+      widen [] ys p q = q
+      widen (rule n kept ∷ xs) ys p q = (p .0, (omega (arith, p .1 .0), widen xs ys (p .1 .1) q))
+
+      join : (xs : List Rule) → Numbered 15 xs → (eqb l size ≡ true) ⊎ (eqb l size ≡ false) → Numbered 16 (xs ++ cond (eqb l size) (endRules placing sheet room) [])
+      join xs p (inl e) = widen xs (cond (eqb l size) (endRules placing sheet room) []) p (subst (λ b. Numbered 16 (cond b (endRules placing sheet room) [])) (sym e) end-numbered)
+      join xs p (inr e) = widen xs (cond (eqb l size) (endRules placing sheet room) []) p (subst (λ b. Numbered 16 (cond b (endRules placing sheet room) [])) (sym e) tt)
+
+  all-kept : (l : ℕ) → first l ≡ 0 → AllKept (rulesAt placing sheet room l)
+  all-kept l e = none-kept 16 (rulesAt placing sheet room l) (at-numbered l) e
+
+  -- a refusal is the one that the answer tells
+  told-refused : (number l : ℕ) → 0 < number → Goes ⊎ Stops → given .reason ≡ number → given .line ≡ suc l → Refused placing sheet room number l
+  told-refused number l p (inl g) e f = absurd (omega (arith, g .reason, e))
+  told-refused number l p (inr s) e f =
+      let same : s .l ≡ l = omega (arith, s .line, f) in
+      subst (λ j. Refused placing sheet room number j) same
+      (record {
+        there = s .there;
+        earlier = λ j i. all-kept j (s .earlier j i);
+        here = first-is number (rulesAt placing sheet room (s .l)) (sym (s .here) ∙ e) p;
+      })
+
+  refused-told : (number l : ℕ) → 0 < number → Refused placing sheet room number l → Goes ⊎ Stops → (given .reason ≡ number) × (given .line ≡ suc l)
+  refused-told number l p r (inl g) = absurd (omega (arith, g .none l (r .there), is-first number (rulesAt placing sheet room l) (r .here)))
+  refused-told number l p r (inr s) =
+      let same : s .l ≡ l = omega (arith, not-lt, not-gt) in
+      (s .here ∙ ap first same ∙ is-first number (rulesAt placing sheet room l) (r .here), s .line ∙ ap suc same)
+    where
+      not-lt : s .l < l → ⊥
+      not-lt i = omega (arith, s .broken, kept-none (rulesAt placing sheet room (s .l)) (r .earlier (s .l) i))
+
+      not-gt : l < s .l → ⊥
+      not-gt i = omega (arith, s .earlier l i, is-first number (rulesAt placing sheet room l) (r .here))
+
+  none-broken : Goes ⊎ Stops → given .reason ≡ 0 → (l : ℕ) → l ≤ size → AllKept (rulesAt placing sheet room l)
+  none-broken (inl g) e l p = all-kept l (g .none l p)
+  none-broken (inr s) e l p = absurd (omega (arith, s .here, s .broken, e))
+
+  none-told : Goes ⊎ Stops → ((l : ℕ) → l ≤ size → AllKept (rulesAt placing sheet room l)) → given .reason ≡ 0
+  none-told (inl g) h = g .reason
+  none-told (inr s) h = absurd (omega (arith, s .broken, kept-none (rulesAt placing sheet room (s .l)) (h (s .l) (s .there))))
+
+  last-line : Goes ⊎ Stops → given .reason ≡ 0 → given .line ≡ suc size
+  last-line (inl g) e = g .line
+  last-line (inr s) e = absurd (omega (arith, s .here, s .broken, e))
+
+  -- under any placing, for every sheet and every number of places lent
+  pub rules-exact : RulesExact placing sheet room
+  rules-exact =
+      record {
+        refuses = λ number l p. ((λ e. told-refused number l p told (e .0) (e .1)), (λ r. refused-told number l p r told));
+        passes = (none-broken told, none-told told);
+        last = last-line told;
+        passed = ((λ p. clear-passed placing sheet (passing-clear p)), (λ p. clear-passing (passed-clear placing sheet p)));
+      }
+
+  -- ---- the figures of a passed sheet
+  closes-figures : (exited full : Bool) → exited ≡ true → (closes exited full .line ≡ suc size) × (closes exited full .held ≡ 0) × (closes exited full .peak ≡ peakUpTo lines size)
+  closes-figures true true e = (omega arith, refl, refl)
+  closes-figures true false e = (omega arith, refl, refl)
+  closes-figures false full e = absurd (clash e refl)
+
+  -- the last line, nothing held, and the most held after any line
+  pub passed-figures : Clear placing sheet → (given .line ≡ suc size) × (given .held ≡ 0) × (given .peak ≡ peakUpTo lines size)
+  passed-figures c =
+      subst (λ (a : Answer). (a .line ≡ suc size) × (a .held ≡ 0) × (a .peak ≡ peakUpTo lines size))
+      (sym (at-end (c .header) (stop-none placing lines size (c .zeros))))
+      (closes-figures (stateBy placing lines size .exited) (ltb room starts) (c .exited))

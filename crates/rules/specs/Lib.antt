@@ -1,0 +1,5 @@
+pub mod Counting
+pub mod State
+pub mod Reasons
+pub mod Sheet
+pub mod Claims

@@ -1,0 +1,305 @@
+-- Document 01, 'Reasons': the rules of a line in their order, each with its number and its test. A test is true where the rule is kept.
+-- Assumes nothing.
+use Prim.Native.Nat.{ℕ, _+_, _*_, _/_, _%_}
+use mathlib.Core.Bool.{Bool, true, false, not, _&&_, _||_, cond}
+use mathlib.Core.List.{List, [], _∷_}
+use mathlib.Core.Option.{Option, none, some}
+use lib.Dec.{leb, ltb, eqb}
+use lib.ListN.{length}
+use Rattle.laws.specs.Tests.{all, isSome}
+use Rattle.laws.specs.Rules.{Rule, rule, firstBroken}
+use Rattle.tokens.specs.declared.Name.{Name}
+use Rattle.instruction.specs.declared.InstructionRead.{InstructionRead}
+use Rattle.instruction.specs.Instruction as instruction
+use Rattle.shared_memory.specs.Shared as shared
+use Rattle.request.specs.Request.{legal}
+use Rattle.statement.specs.declared.Address.{Address}
+use Rattle.statement.specs.declared.Operand.{Operand}
+use Rattle.statement.specs.declared.Operand.the-variants as operand
+use Rattle.statement.specs.declared.Metadata.{Metadata}
+use Rattle.statement.specs.declared.Metadata.the-variants.{Dense, Sparse}
+use Rattle.statement.specs.declared.Mma.{Mma}
+use Rattle.statement.specs.declared.Access.{Access}
+use Rattle.statement.specs.declared.Statement.{Statement}
+use Rattle.statement.specs.declared.Statement.the-variants.{Mov32, Mov64, Alloc, Dealloc, Relinquish, Load, Store, WaitLoad, WaitStore, FenceBefore, FenceAfter, Multiply, Exit}
+use Rattle.statement.specs.Canonical.{sparse}
+use Rattle.statement.specs.Cells as cells
+use Rattle.rules.specs.State.{State, Placer, isLive, columnsOf, isBound, widthOf, numberOf, total}
+
+-- ---- addresses
+-- an offset's lane is its quotient by 65,536, its column the remainder
+abbrev pub laneOf : Address → ℕ
+laneOf a = a .offset / 65536
+
+abbrev pub columnOf : Address → ℕ
+columnOf a = a .offset % 65536
+
+-- ---- reason 5: N is over the shape's largest, or the count of registers differs
+unfoldable pub counted : Statement → Bool
+counted (Mov32 n v) = true
+counted (Mov64 n v) = true
+counted (Alloc n v) = true
+counted (Dealloc n v) = true
+counted Relinquish = true
+counted (Load a) = not (cells.miscounted a)
+counted (Store a) = not (cells.miscounted a)
+counted WaitLoad = true
+counted WaitStore = true
+counted FenceBefore = true
+counted FenceAfter = true
+counted (Multiply m) = true
+counted Exit = true
+
+-- ---- reason 6: a name is unbound, of the wrong sort or width, or taken
+-- a as a descriptor's name is a 64-bit value, as an address it names a live allocation
+abbrev pub operandNamed : State → Operand → Bool
+operandNamed s (operand.Descriptor n) = eqb (widthOf n (s .values)) 64
+operandNamed s (operand.Address a) = isLive (a .base) (s .live)
+
+abbrev pub metadataNamed : State → Metadata → Bool
+metadataNamed s Dense = true
+metadataNamed s (Sparse a) = isLive (a .base) (s .live)
+
+-- d, a, b, the metadata and idesc
+abbrev pub mmaNamed : State → Mma → List Bool
+mmaNamed s m =
+    isLive (m .d .base) (s .live)
+    ∷ operandNamed s (m .a)
+    ∷ eqb (widthOf (m .b) (s .values)) 64
+    ∷ metadataNamed s (m .metadata)
+    ∷ eqb (widthOf (m .idesc) (s .values)) 32
+    ∷ []
+
+unfoldable pub named : State → Statement → Bool
+named s (Mov32 n v) = not (isLive n (s .live))
+named s (Mov64 n v) = not (isLive n (s .live))
+named s (Alloc n v) = not (isLive n (s .live)) && not (isBound n (s .values))
+named s (Dealloc n v) = isLive n (s .live)
+named s Relinquish = true
+named s (Load a) = isLive (a .address .base) (s .live)
+named s (Store a) = isLive (a .address .base) (s .live)
+named s WaitLoad = true
+named s WaitStore = true
+named s FenceBefore = true
+named s FenceAfter = true
+named s (Multiply m) = all (mmaNamed s m)
+named s Exit = true
+
+-- ---- reason 7: a 129th value name
+abbrev pub roomFor : State → Name → Bool
+roomFor s n = isBound n (s .values) || ltb (length (s .values)) 128
+
+unfoldable pub roomed : State → Statement → Bool
+roomed s (Mov32 n v) = roomFor s n
+roomed s (Mov64 n v) = roomFor s n
+roomed s (Alloc n v) = true
+roomed s (Dealloc n v) = true
+roomed s Relinquish = true
+roomed s (Load a) = true
+roomed s (Store a) = true
+roomed s WaitLoad = true
+roomed s WaitStore = true
+roomed s FenceBefore = true
+roomed s FenceAfter = true
+roomed s (Multiply m) = true
+roomed s Exit = true
+
+-- ---- reason 8: the wrong warp, or the lane of a ld or st is not the warp's
+-- no warp is fixed, or this one is
+abbrev pub isWarp : Option ℕ → ℕ → Bool
+isWarp none w = true
+isWarp (some v) w = eqb v w
+
+-- lane 32w; for the shapes of 16 lanes 32w or 32w + 16
+unfoldable pub laneOfWarp : ℕ → Access → Bool
+laneOfWarp w a = eqb (laneOf (a .address)) (32 * w) || (eqb (cells.lanesOf (a .shape)) 16 && eqb (laneOf (a .address)) (32 * w + 16))
+
+unfoldable pub warped : State → ℕ → Statement → Bool
+warped s w (Mov32 n v) = true
+warped s w (Mov64 n v) = true
+warped s w (Alloc n v) = isWarp (s .warp) w
+warped s w (Dealloc n v) = isWarp (s .warp) w
+warped s w Relinquish = isWarp (s .warp) w
+warped s w (Load a) = laneOfWarp w a
+warped s w (Store a) = laneOfWarp w a
+warped s w WaitLoad = true
+warped s w WaitStore = true
+warped s w FenceBefore = true
+warped s w FenceAfter = true
+warped s w (Multiply m) = true
+warped s w Exit = true
+
+-- ---- reason 9: the request is illegal, or the size of a dealloc differs
+unfoldable pub sized : State → Statement → Bool
+sized s (Mov32 n v) = true
+sized s (Mov64 n v) = true
+sized s (Alloc n v) = legal v
+sized s (Dealloc n v) = eqb (columnsOf n (s .live)) v
+sized s Relinquish = true
+sized s (Load a) = true
+sized s (Store a) = true
+sized s WaitLoad = true
+sized s WaitStore = true
+sized s FenceBefore = true
+sized s FenceAfter = true
+sized s (Multiply m) = true
+sized s Exit = true
+
+-- ---- reason 10: alloc after relinquish
+unfoldable pub permitted : State → Statement → Bool
+permitted s (Mov32 n v) = true
+permitted s (Mov64 n v) = true
+permitted s (Alloc n v) = not (s .relinquished)
+permitted s (Dealloc n v) = true
+permitted s Relinquish = true
+permitted s (Load a) = true
+permitted s (Store a) = true
+permitted s WaitLoad = true
+permitted s WaitStore = true
+permitted s FenceBefore = true
+permitted s FenceAfter = true
+permitted s (Multiply m) = true
+permitted s Exit = true
+
+-- ---- reason 11: no free run of that length starts at a multiple of 32 (the placing gives no start)
+unfoldable pub placed : Placer → State → Statement → Bool
+placed place s (Mov32 n v) = true
+placed place s (Mov64 n v) = true
+placed place s (Alloc n v) = isSome (place (s .live) v)
+placed place s (Dealloc n v) = true
+placed place s Relinquish = true
+placed place s (Load a) = true
+placed place s (Store a) = true
+placed place s WaitLoad = true
+placed place s WaitStore = true
+placed place s FenceBefore = true
+placed place s FenceAfter = true
+placed place s (Multiply m) = true
+placed place s Exit = true
+
+-- ---- reason 12: a descriptor has no reading under the opcode
+-- a shared memory descriptor, the number under a name
+abbrev pub sharedReads : State → Name → Bool
+sharedReads s n = eqb (shared.decoded (numberOf n (s .values)) .reason) 0
+
+abbrev pub operandReads : State → Operand → Bool
+operandReads s (operand.Descriptor n) = sharedReads s n
+operandReads s (operand.Address a) = true
+
+-- the instruction descriptor, the number under idesc
+unfoldable pub instructionOf : State → Mma → InstructionRead
+instructionOf s m = instruction.decoded (m .kind) (m .ws) (sparse (m .metadata)) (numberOf (m .idesc) (s .values))
+
+-- a as a name, b and idesc
+abbrev pub mmaReads : State → Mma → List Bool
+mmaReads s m = operandReads s (m .a) ∷ sharedReads s (m .b) ∷ eqb (instructionOf s m .reason) 0 ∷ []
+
+unfoldable pub reads : State → Statement → Bool
+reads s (Mov32 n v) = true
+reads s (Mov64 n v) = true
+reads s (Alloc n v) = true
+reads s (Dealloc n v) = true
+reads s Relinquish = true
+reads s (Load a) = true
+reads s (Store a) = true
+reads s WaitLoad = true
+reads s WaitStore = true
+reads s FenceBefore = true
+reads s FenceAfter = true
+reads s (Multiply m) = all (mmaReads s m)
+reads s Exit = true
+
+-- ---- reason 13: a shape or types that are not listed
+unfoldable pub listed : State → Statement → Bool
+listed s (Mov32 n v) = true
+listed s (Mov64 n v) = true
+listed s (Alloc n v) = true
+listed s (Dealloc n v) = true
+listed s Relinquish = true
+listed s (Load a) = true
+listed s (Store a) = true
+listed s WaitLoad = true
+listed s WaitStore = true
+listed s FenceBefore = true
+listed s FenceAfter = true
+listed s (Multiply m) = eqb (firstBroken (instruction.listing (m .kind) (m .ws) (instruction.fields (instructionOf s m .descriptor)))) 0
+listed s Exit = true
+
+-- ---- reason 14: the lane of an mma is not 0, or columns go past the end of the allocation
+-- that many columns from an address on are in its allocation
+abbrev pub ends : State → Address → ℕ → Bool
+ends s a columns = leb (columnOf a + columns) (columnsOf (a .base) (s .live))
+
+-- lane 0, and the columns
+abbrev pub mmaEnds : State → Address → ℕ → Bool
+mmaEnds s a columns = eqb (laneOf a) 0 && ends s a columns
+
+abbrev pub operandEnds : State → Operand → Bool
+operandEnds s (operand.Descriptor n) = true
+operandEnds s (operand.Address a) = mmaEnds s a 8
+
+abbrev pub metadataEnds : State → Metadata → Bool
+metadataEnds s Dense = true
+metadataEnds s (Sparse a) = mmaEnds s a 2
+
+-- d has N columns, a 8, the metadata 2
+abbrev pub allEnd : State → Mma → List Bool
+allEnd s m = mmaEnds s (m .d) (instructionOf s m .descriptor .n) ∷ operandEnds s (m .a) ∷ metadataEnds s (m .metadata) ∷ []
+
+unfoldable pub inside : State → Statement → Bool
+inside s (Mov32 n v) = true
+inside s (Mov64 n v) = true
+inside s (Alloc n v) = true
+inside s (Dealloc n v) = true
+inside s Relinquish = true
+inside s (Load a) = ends s (a .address) (cells.columnsOf (a .shape) (a .num))
+inside s (Store a) = ends s (a .address) (cells.columnsOf (a .shape) (a .num))
+inside s WaitLoad = true
+inside s WaitStore = true
+inside s FenceBefore = true
+inside s FenceAfter = true
+inside s (Multiply m) = all (allEnd s m)
+inside s Exit = true
+
+-- ---- reason 15: exit with columns held
+abbrev pub isExit : Statement → Bool
+isExit (Mov32 n v) = false
+isExit (Mov64 n v) = false
+isExit (Alloc n v) = false
+isExit (Dealloc n v) = false
+isExit Relinquish = false
+isExit (Load a) = false
+isExit (Store a) = false
+isExit WaitLoad = false
+isExit WaitStore = false
+isExit FenceBefore = false
+isExit FenceAfter = false
+isExit (Multiply m) = false
+isExit Exit = true
+
+unfoldable pub cleared : State → Statement → Bool
+cleared s t = not (isExit t) || eqb (total (s .live)) 0
+
+-- ---- the rules of a line that reads
+-- before exit
+unfoldable pub openRules : Placer → State → ℕ → Statement → List Rule
+openRules place s w t =
+    rule 5 (counted t)
+    ∷ rule 6 (named s t)
+    ∷ rule 7 (roomed s t)
+    ∷ rule 8 (warped s w t)
+    ∷ rule 9 (sized s t)
+    ∷ rule 10 (permitted s t)
+    ∷ rule 11 (placed place s t)
+    ∷ rule 12 (reads s t)
+    ∷ rule 13 (listed s t)
+    ∷ rule 14 (inside s t)
+    ∷ rule 15 (cleared s t)
+    ∷ []
+
+-- after exit: reason 5, and then 15 for any line
+unfoldable pub closedRules : Statement → List Rule
+closedRules t = rule 5 (counted t) ∷ rule 15 false ∷ []
+
+unfoldable pub rules : Placer → State → ℕ → Statement → List Rule
+rules place s w t = cond (s .exited) (closedRules t) (openRules place s w t)

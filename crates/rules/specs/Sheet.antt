@@ -1,0 +1,221 @@
+-- A sheet as its lines were read: what its lines do, the figures by line, and the whole answer. Assumes nothing.
+use Prim.Native.Nat.{ℕ, zero, suc, _+_, _-_, max}
+use mathlib.Core.Bool.{Bool, true, false, not, cond}
+use mathlib.Core.List.{List, [], _∷_, _++_}
+use mathlib.Core.Option.{Option, none, some}
+use lib.Dec.{ltb, eqb}
+use lib.ListN.{length}
+use lib.Seq.{sets}
+use Rattle.laws.specs.Rules.{Rule, rule, firstBroken}
+use Rattle.tokens.specs.declared.Name.{Name}
+use Rattle.statement.specs.declared.Reading.{Reading}
+use Rattle.statement.specs.declared.Reading.the-variants.{Got, Refused}
+use Rattle.statement.specs.declared.Statement.{Statement}
+use Rattle.statement.specs.declared.Statement.the-variants.{Mov32, Mov64, Alloc, Dealloc, Relinquish, Load, Store, WaitLoad, WaitStore, FenceBefore, FenceAfter, Multiply, Exit}
+use Rattle.rules.specs.declared.Answer.{Answer}
+use Rattle.rules.specs.Counting.{least}
+use Rattle.rules.specs.State.{State, opened, Allocation, Placer, lowest, without, bind}
+use Rattle.rules.specs.Reasons.{rules}
+
+-- ---- lines
+-- a line after line 1: its layout is wrong; no form matches; a number is too large; or a statement, with its warp
+pub data Line : Type 0 where
+  badLayout : Line
+  noForm : Line
+  tooLarge : Line
+  statement : (warp : ℕ) → Statement → Line
+
+-- the line of a text that was read beside a warp: reasons 3 and 4 are the reader's
+abbrev pub lineOf : ℕ → Reading → Line
+lineOf w (Got t) = statement w t
+lineOf w (Refused reason at) = cond (eqb reason 4) tooLarge noForm
+
+-- line 1 is right or not; the lines after it, counted from 0 (so `line 0` is line 2 of the sheet), and how many they are
+pub record Sheet : Type 0 where
+  pub header : Bool
+  pub line : ℕ → Line
+  pub count : ℕ
+
+-- the rules of a line: a line that gives no statement breaks 2, 3 or 4; the warp of one that does is 0 to 3 (2)
+abbrev pub lineRules : Placer → State → Line → List Rule
+lineRules place s badLayout = rule 2 false ∷ []
+lineRules place s noForm = rule 3 false ∷ []
+lineRules place s tooLarge = rule 4 false ∷ []
+lineRules place s (statement w t) = rule 2 (ltb w 4) ∷ rules place s w t
+
+-- ---- what an accepted line does
+-- the first alloc or relinquish fixes the warp
+abbrev pub fixed : Option ℕ → ℕ → Option ℕ
+fixed none w = some w
+fixed (some v) w = some v
+
+-- alloc adds an allocation where a start was found
+abbrev pub added : Name → ℕ → Option ℕ → List Allocation → List Allocation
+added n columns none l = l
+added n columns (some start) l = record { name = n; start = start; columns = columns } ∷ l
+
+abbrev pub moved : State → Name → ℕ → ℕ → State
+moved s n width v = record { live = s .live; values = bind (record { name = n; width = width; number = v }) (s .values); warp = s .warp; relinquished = s .relinquished; exited = s .exited }
+
+unfoldable pub effect : Placer → State → ℕ → Statement → State
+effect place s w (Mov32 n v) = moved s n 32 v
+effect place s w (Mov64 n v) = moved s n 64 v
+effect place s w (Alloc n v) = record { live = added n v (place (s .live) v) (s .live); values = s .values; warp = fixed (s .warp) w; relinquished = s .relinquished; exited = s .exited }
+effect place s w (Dealloc n v) = record { live = without n (s .live); values = s .values; warp = s .warp; relinquished = s .relinquished; exited = s .exited }
+effect place s w Relinquish = record { live = s .live; values = s .values; warp = fixed (s .warp) w; relinquished = true; exited = s .exited }
+effect place s w (Load a) = s
+effect place s w (Store a) = s
+effect place s w WaitLoad = s
+effect place s w WaitStore = s
+effect place s w FenceBefore = s
+effect place s w FenceAfter = s
+effect place s w (Multiply m) = s
+effect place s w Exit = record { live = s .live; values = s .values; warp = s .warp; relinquished = s .relinquished; exited = true }
+
+abbrev pub lineEffect : Placer → State → Line → State
+lineEffect place s badLayout = s
+lineEffect place s noForm = s
+lineEffect place s tooLarge = s
+lineEffect place s (statement w t) = effect place s w t
+
+-- the start that a request is given
+abbrev pub startList : Option ℕ → List ℕ
+startList none = []
+startList (some start) = start ∷ []
+
+unfoldable pub given : Placer → State → Line → List ℕ
+given place s badLayout = []
+given place s noForm = []
+given place s tooLarge = []
+given place s (statement w (Mov32 n v)) = []
+given place s (statement w (Mov64 n v)) = []
+given place s (statement w (Alloc n v)) = startList (place (s .live) v)
+given place s (statement w (Dealloc n v)) = []
+given place s (statement w Relinquish) = []
+given place s (statement w (Load a)) = []
+given place s (statement w (Store a)) = []
+given place s (statement w WaitLoad) = []
+given place s (statement w WaitStore) = []
+given place s (statement w FenceBefore) = []
+given place s (statement w FenceAfter) = []
+given place s (statement w (Multiply m)) = []
+given place s (statement w Exit) = []
+
+-- columns asked for and given back by a line
+unfoldable pub requested : Line → ℕ
+requested badLayout = 0
+requested noForm = 0
+requested tooLarge = 0
+requested (statement w (Mov32 n v)) = 0
+requested (statement w (Mov64 n v)) = 0
+requested (statement w (Alloc n v)) = v
+requested (statement w (Dealloc n v)) = 0
+requested (statement w Relinquish) = 0
+requested (statement w (Load a)) = 0
+requested (statement w (Store a)) = 0
+requested (statement w WaitLoad) = 0
+requested (statement w WaitStore) = 0
+requested (statement w FenceBefore) = 0
+requested (statement w FenceAfter) = 0
+requested (statement w (Multiply m)) = 0
+requested (statement w Exit) = 0
+
+unfoldable pub released : Line → ℕ
+released badLayout = 0
+released noForm = 0
+released tooLarge = 0
+released (statement w (Mov32 n v)) = 0
+released (statement w (Mov64 n v)) = 0
+released (statement w (Alloc n v)) = 0
+released (statement w (Dealloc n v)) = v
+released (statement w Relinquish) = 0
+released (statement w (Load a)) = 0
+released (statement w (Store a)) = 0
+released (statement w WaitLoad) = 0
+released (statement w WaitStore) = 0
+released (statement w FenceBefore) = 0
+released (statement w FenceAfter) = 0
+released (statement w (Multiply m)) = 0
+released (statement w Exit) = 0
+
+-- ---- by line: after the first k lines below line 1, if each is accepted
+-- the sum of a figure over the first k lines
+unfoldable pub sum : (Line → ℕ) → (ℕ → Line) → ℕ → ℕ
+sum f line zero = 0
+sum f line (suc k) = sum f line k + f (line k)
+
+-- columns held: those asked for less those given back
+unfoldable pub heldAfter : (ℕ → Line) → ℕ → ℕ
+heldAfter line k = sum requested line k - sum released line k
+
+-- the most held after any of the first k lines
+unfoldable pub peakUpTo : (ℕ → Line) → ℕ → ℕ
+peakUpTo line zero = 0
+peakUpTo line (suc k) = max (peakUpTo line k) (heldAfter line (suc k))
+
+-- a placing for each line
+abbrev pub Placing : Type 0
+Placing = ℕ → Placer
+
+-- ours is the same for all
+abbrev pub ours : Placing
+ours k = lowest
+
+unfoldable pub stateBy : Placing → (ℕ → Line) → ℕ → State
+stateBy placing line zero = opened
+stateBy placing line (suc k) = lineEffect (placing k) (stateBy placing line k) (line k)
+
+-- the starts of the requests in order
+unfoldable pub startsBy : Placing → (ℕ → Line) → ℕ → List ℕ
+startsBy placing line zero = []
+startsBy placing line (suc k) = startsBy placing line k ++ given (placing k) (stateBy placing line k) (line k)
+
+-- the rules of line k, and the reason for which it is refused, or 0
+abbrev pub rulesBy : Placing → (ℕ → Line) → ℕ → List Rule
+rulesBy placing line k = lineRules (placing k) (stateBy placing line k) (line k)
+
+unfoldable pub reasonBy : Placing → (ℕ → Line) → ℕ → ℕ
+reasonBy placing line k = firstBroken (rulesBy placing line k)
+
+-- ---- the answer
+-- the first line that is refused, or the number of lines
+unfoldable pub stopBy : Placing → (ℕ → Line) → ℕ → ℕ
+stopBy placing line count = least (λ k. not (eqb (reasonBy placing line k) 0)) count
+
+abbrev pub answer : ℕ → ℕ → ℕ → ℕ → Answer
+answer reason line held peak = record { reason = reason; line = line; held = held; peak = peak }
+
+-- no line is refused: exit is missing (15); or the lent list has fewer places than requests (16); or passed
+unfoldable pub closing : Bool → (requests room line held peak : ℕ) → Answer
+closing exited requests room line held peak =
+    cond exited (cond (ltb room requests) (answer 16 line 0 peak) (answer 0 line 0 peak)) (answer 15 line held peak)
+
+-- by the first refused line
+unfoldable pub answerAt : Placing → (ℕ → Line) → (count room stop : ℕ) → Answer
+answerAt placing line count room stop =
+    cond (ltb stop count) (answer (reasonBy placing line stop) (stop + 2) (heldAfter line stop) (peakUpTo line stop))
+    (closing (stateBy placing line count .exited) (length (startsBy placing line count)) room (count + 1) (heldAfter line count) (peakUpTo line count))
+
+-- the answer under a placing, with that many places lent
+unfoldable pub answerBy : Placing → Sheet → ℕ → Answer
+answerBy placing sheet room =
+    cond (sheet .header)
+    (answerAt placing (sheet .line) (sheet .count) room (stopBy placing (sheet .line) (sheet .count)))
+    (answer 2 1 0 0)
+
+-- ---- under our placing
+abbrev pub stateAfter : (ℕ → Line) → ℕ → State
+stateAfter = stateBy ours
+
+abbrev pub startsUpTo : (ℕ → Line) → ℕ → List ℕ
+startsUpTo = startsBy ours
+
+abbrev pub answerOf : Sheet → ℕ → Answer
+answerOf = answerBy ours
+
+abbrev pub startsOf : Sheet → List ℕ
+startsOf sheet = startsBy ours (sheet .line) (sheet .count)
+
+-- the lent list afterwards: on a pass the starts over its first places, and on any refusal as it was
+unfoldable pub placesAfter : Sheet → List ℕ → List ℕ
+placesAfter sheet old = cond (eqb (answerOf sheet (length old) .reason) 0) (sets old 0 (startsOf sheet)) old

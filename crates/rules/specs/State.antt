@@ -1,0 +1,101 @@
+-- What the rules remember of a sheet from line to line (document 01, 'Booking'), and the placing of a request. Assumes nothing.
+use Prim.Native.Nat.{ℕ, _+_, _*_}
+use mathlib.Core.Bool.{Bool, true, false, not, _&&_, _||_, cond}
+use mathlib.Core.List.{List, [], _∷_}
+use mathlib.Core.Option.{Option, none, some}
+use lib.Dec.{leb, ltb}
+use Rattle.tokens.specs.declared.Name.{Name}
+use Rattle.tokens.specs.Names.{sameName}
+use Rattle.rules.specs.Counting.{every, least}
+
+-- ---- allocations
+-- a live allocation (document 01: a holding)
+pub record Allocation : Type 0 where
+  pub name : Name
+  pub start : ℕ
+  pub columns : ℕ
+
+-- an allocation of that name is live
+unfoldable pub isLive : Name → List Allocation → Bool
+isLive n [] = false
+isLive n (a ∷ l) = sameName (a .name) n || isLive n l
+
+-- its columns; 0 where there is none
+unfoldable pub columnsOf : Name → List Allocation → ℕ
+columnsOf n [] = 0
+columnsOf n (a ∷ l) = cond (sameName (a .name) n) (a .columns) (columnsOf n l)
+
+-- without the allocation of that name
+unfoldable pub without : Name → List Allocation → List Allocation
+without n [] = []
+without n (a ∷ l) = cond (sameName (a .name) n) l (a ∷ without n l)
+
+-- the columns of all of them
+unfoldable pub total : List Allocation → ℕ
+total [] = 0
+total (a ∷ l) = a .columns + total l
+
+-- ---- placing
+-- the column is one of the allocation's
+unfoldable pub covers : Allocation → ℕ → Bool
+covers a c = leb (a .start) c && ltb c (a .start + a .columns)
+
+-- the column is in no live allocation
+unfoldable pub isFree : List Allocation → ℕ → Bool
+isFree [] c = true
+isFree (a ∷ l) c = not (covers a c) && isFree l c
+
+-- that many columns are free from a start on, all of them below 512
+unfoldable pub freeFrom : List Allocation → ℕ → ℕ → Bool
+freeFrom l columns start = leb (start + columns) 512 && every (isFree l) start columns
+
+-- a placing gives a request for columns its start, if there is one
+abbrev pub Placer : Type 0
+Placer = List Allocation → ℕ → Option ℕ
+
+-- the lowest number of 32s after which that many columns are free; 16 where there is none
+unfoldable pub slot : List Allocation → ℕ → ℕ
+slot l columns = least (λ i. freeFrom l columns (i * 32)) 16
+
+-- our placing: the lowest start, a multiple of 32, from which that many columns are free
+unfoldable pub lowest : Placer
+lowest l columns = cond (ltb (slot l columns) 16) (some (slot l columns * 32)) none
+
+-- ---- values
+-- a name bound by `mov`, at a width of 32 or 64
+pub record Binding : Type 0 where
+  pub name : Name
+  pub width : ℕ
+  pub number : ℕ
+
+unfoldable pub isBound : Name → List Binding → Bool
+isBound n [] = false
+isBound n (b ∷ l) = sameName (b .name) n || isBound n l
+
+-- the width of a name's value; 0 where it has none
+unfoldable pub widthOf : Name → List Binding → ℕ
+widthOf n [] = 0
+widthOf n (b ∷ l) = cond (sameName (b .name) n) (b .width) (widthOf n l)
+
+-- the number of a name's value; 0 where it has none
+unfoldable pub numberOf : Name → List Binding → ℕ
+numberOf n [] = 0
+numberOf n (b ∷ l) = cond (sameName (b .name) n) (b .number) (numberOf n l)
+
+-- a name bound again keeps its place in the table; a new one comes last
+unfoldable pub bind : Binding → List Binding → List Binding
+bind b [] = b ∷ []
+bind b (c ∷ l) = cond (sameName (c .name) (b .name)) (b ∷ l) (c ∷ bind b l)
+
+-- ---- the state
+pub record State : Type 0 where
+  pub live : List Allocation
+  pub values : List Binding
+  -- the warp that the first accepted alloc or relinquish fixed
+  pub warp : Option ℕ
+  pub relinquished : Bool
+  pub exited : Bool
+
+-- before the first statement
+abbrev pub opened : State
+opened = record { live = []; values = []; warp = none; relinquished = false; exited = false }

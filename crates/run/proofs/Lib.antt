@@ -1,0 +1,6 @@
+pub mod Sound
+pub mod Agree
+pub mod AnyStarts
+pub mod OurStarts
+pub mod Demand3Proved
+pub mod Example

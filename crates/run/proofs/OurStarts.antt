@@ -1,0 +1,415 @@
+-- Demand 3 under our own placing: the run has the allocations' very starts, so each start may be used and is the lowest that may; the run reaches
+-- its exit, and its peak is ours. Assumes nothing.
+use Prim.Native.Nat.{ℕ, zero, suc, _+_, _*_, _/_, _%_, _≤_, _<_}
+use mathlib.Core.Path.{_≡_, refl, sym, ap, _∙_, subst}
+use mathlib.Core.Bool.{Bool, true, false, not, _&&_, _||_, cond}
+use mathlib.Core.List.{List, [], _∷_, _++_, append-assoc, append-nil}
+use mathlib.Core.Option.{Option, none, some}
+use mathlib.Core.Logic.{_⊎_}
+use native.Mathlib.Omega.{arith}
+use lib.Count.{ones}
+use lib.Dec.{leb, ltb, eqb}
+use lib.ListN.{length, length-append, drop}
+use lib.Seq.{sets, sets-eq}
+use borrow.Author.Tests.{ltb-true, lt-ltb, leb-true, leb-false, le-leb, eqb-true, eq-eqb}
+use Rattle.laws.specs.Tests.{isSome}
+use Rattle.laws.proofs.TestLaws.{each}
+use Rattle.tokens.specs.declared.Name.{Name}
+use Rattle.tokens.specs.Names.{sameName}
+use Rattle.request.specs.Request.{legal}
+use Rattle.statement.specs.declared.Statement.{Statement}
+use Rattle.statement.specs.declared.Statement.the-variants.{Mov32, Mov64, Alloc, Dealloc, Relinquish, Load, Store, WaitLoad, WaitStore, FenceBefore, FenceAfter, Multiply, Exit}
+use Rattle.rules.specs.Counting.{every, least}
+use Rattle.rules.specs.State as s
+use Rattle.rules.specs.State.{State, Allocation, covers, isFree, freeFrom, slot, lowest}
+use Rattle.rules.specs.Reasons as reasons
+use Rattle.rules.specs.Sheet.{Line, badLayout, noForm, tooLarge, statement, Sheet, ours, lineRules, lineEffect, added, effect, given, startList, stateBy, startsBy, rulesBy, heldAfter, peakUpTo, answerBy, startsOf, placesAfter}
+use Rattle.rules.specs.Claims.{AllKept}
+use Rattle.rules.proofs.CountingLaws.{and-l, and-r, bool, clash, every-at, every-all, least-hit, least-below}
+use Rattle.rules.proofs.RuleLaws.{Accepted, accepted}
+use Rattle.rules.proofs.Figures.{held-total}
+use Rattle.rules.proofs.RulesProved.{Clear, zero-kept, no-more, passed-figures}
+use Rattle.rules.proofs.FiguresProved.{figures-exact}
+use Rattle.run.specs.Run.{Holding, Run, Phase, going, stoppedAt, exited, ended, within, held, heldColumns, usable, startAt, mayUse, has, hasName, without, orZero, able, done, go, after, peakOf}
+use Rattle.run.specs.Demand3.{turnOf, turnsOf, Requests, Asks, Placed}
+use Rattle.run.proofs.Sound.{sound, counted, usable-at}
+use Rattle.run.proofs.Agree.{Alike, Agree, Follows, freeFor, total-alike, dealloc-both}
+use Rattle.run.proofs.AnyStarts.{Is, goes, stopped, out, over, phase, done-goes, go-by, beside, agrees, able-at, any-starts}
+
+-- ---- the same allocations, starts and all
+abbrev Same : List Allocation → List Holding → Type 0
+Same [] [] = Unit {0}
+Same [] (h ∷ b) = ⊥
+Same (g ∷ a) [] = ⊥
+Same (g ∷ a) (h ∷ b) = (g .name ≡ h .name) × (g .start ≡ h .start) × (g .columns ≡ h .length) × Same a b
+
+same-alike : (a : List Allocation) (b : List Holding) → Same a b → Alike a b
+same-alike [] [] e = tt
+same-alike [] (h ∷ b) e = absurd e
+same-alike (g ∷ a) [] e = absurd e
+same-alike (g ∷ a) (h ∷ b) e = (e .0, e .2, same-alike a b (e .3))
+
+-- a column is free by the rules where it is not held in the run
+not-or : (a b : Bool) → not (a || b) ≡ not a && not b
+not-or true b = refl
+not-or false b = refl
+
+same-free : (a : List Allocation) (b : List Holding) (c : ℕ) → Same a b → isFree a c ≡ not (held b c)
+unfolding isFree held covers within
+same-free [] [] c e = refl
+same-free [] (h ∷ b) c e = absurd e
+same-free (g ∷ a) [] c e = absurd e
+same-free (g ∷ a) (h ∷ b) c e =
+    rw (e .1, e .2, same-free a b c (e .3)) (sym (not-or (leb (h .start) c && ltb c (h .start + h .length)) (held b c)))
+
+same-without : (n : Name) (a : List Allocation) (b : List Holding) → Same a b → Same (s.without n a) (without (hasName n) b)
+unfolding s.without without hasName
+same-without n [] [] e = tt
+same-without n [] (h ∷ b) e = absurd e
+same-without n (g ∷ a) [] e = absurd e
+same-without n (g ∷ a) (h ∷ b) e = at (sameName (g .name) n) (sameName (h .name) n) (ap (λ m. sameName m n) (e .0)) (same-without n a b (e .3))
+  where
+    at : (t u : Bool) → t ≡ u → Same (s.without n a) (without (hasName n) b) → Same (cond t a (g ∷ s.without n a)) (cond u b (h ∷ without (hasName n) b))
+    at true true q ih = e .3
+    at true false q ih = absurd (clash refl q)
+    at false true q ih = absurd (clash refl (sym q))
+    at false false q ih = (e .0, e .1, e .2, ih)
+
+same-added : (n : Name) (v : ℕ) (o : Option ℕ) (a : List Allocation) (b : List Holding)
+    → isSome o ≡ true → Same a b → Same (added n v o a) (record { name = n; start = orZero o; length = v } ∷ b)
+same-added n v none a b e g = absurd (clash e refl)
+same-added n v (some x) a b e g = (refl, refl, refl, g)
+
+-- ---- the placing
+and-both : (a b : Bool) → a ≡ true → b ≡ true → a && b ≡ true
+and-both a b p q = rw (p, q)
+
+-- a free run from a multiple of 32 may be used
+free-usable : (a : List Allocation) (b : List Holding) (x i : ℕ) → Same a b → freeFrom a x (i * 32) ≡ true → usable b x (i * 32) ≡ true
+unfolding freeFrom usable
+free-usable a b x i e f =
+    let top : i * 32 + x ≤ 512 = leb-true (i * 32 + x) 512 (and-l (leb (i * 32 + x) 512) (every (isFree a) (i * 32) x) f) in
+    let all = and-r (leb (i * 32 + x) 512) (every (isFree a) (i * 32) x) f in
+    and-both (eqb (i * 32 % 32) 0) (every (λ c. ltb c 512 && not (held b c)) (i * 32) x) (eq-eqb (i * 32 % 32) 0 (omega arith))
+    (every-all (λ c. ltb c 512 && not (held b c)) (i * 32) x
+    (λ c p q. and-both (ltb c 512) (not (held b c)) (lt-ltb c 512 (omega (arith, top, q))) (sym (same-free a b c e) ∙ every-at (isFree a) (i * 32) x c all p q)))
+
+-- and a start that may be used for some columns is a free run
+usable-free-run : (a : List Allocation) (b : List Holding) (x start : ℕ) → Same a b → 0 < x → usable b x start ≡ true → freeFrom a x start ≡ true
+unfolding freeFrom
+usable-free-run a b zero start e p u = absurd (omega (arith, p))
+usable-free-run a b (suc x) start e p u =
+    let end = usable-at b (suc x) start (start + x) u (omega arith) (omega arith) in
+    let top : start + x < 512 = ltb-true (start + x) 512 (and-l (ltb (start + x) 512) (not (held b (start + x))) end) in
+    and-both (leb (start + suc x) 512) (every (isFree a) start (suc x)) (le-leb (start + suc x) 512 (omega (arith, top)))
+    (every-all (isFree a) start (suc x) (λ c q r. same-free a b c e ∙ and-r (ltb c 512) (not (held b c)) (usable-at b (suc x) start c u q r)))
+
+aligned : (b : List Holding) (x start : ℕ) → usable b x start ≡ true → start ≡ start / 32 * 32
+unfolding usable
+aligned b x start u = omega (arith, eqb-true (start % 32) 0 (and-l (eqb (start % 32) 0) (every (λ c. ltb c 512 && not (held b c)) start x) u))
+
+-- the lowest start may be used
+pub lowest-may : (a : List Allocation) (b : List Holding) (x : ℕ) → Same a b → isSome (lowest a x) ≡ true → mayUse b x (lowest a x) ≡ true
+unfolding lowest mayUse slot
+lowest-may a b x e = at (bool (ltb (slot a x) 16))
+  where
+    hit : (t : Bool) → ltb (least (λ i. freeFrom a x (i * 32)) 16) 16 ≡ t → isSome (cond t (some (least (λ i. freeFrom a x (i * 32)) 16 * 32)) none) ≡ true
+        → mayUse b x (cond t (some (least (λ i. freeFrom a x (i * 32)) 16 * 32)) none) ≡ true
+    hit true f g = free-usable a b x (least (λ i. freeFrom a x (i * 32)) 16) e (least-hit (λ i. freeFrom a x (i * 32)) 16 (ltb-true (least (λ i. freeFrom a x (i * 32)) 16) 16 f))
+    hit false f g = absurd (clash g refl)
+
+    at : (ltb (slot a x) 16 ≡ true) ⊎ (ltb (slot a x) 16 ≡ false) → isSome (lowest a x) ≡ true → mayUse b x (lowest a x) ≡ true
+    at z g = hit (ltb (least (λ i. freeFrom a x (i * 32)) 16) 16) refl g
+
+-- and none below it
+pub lowest-least : (a : List Allocation) (b : List Holding) (x start : ℕ) → Same a b → 0 < x → isSome (lowest a x) ≡ true → usable b x start ≡ true
+    → (v : ℕ) × ((lowest a x ≡ some v) × (v ≤ start))
+unfolding lowest slot
+lowest-least a b x start e p g u = at (ltb (least (λ i. freeFrom a x (i * 32)) 16) 16) refl g
+  where
+    below : start / 32 < least (λ i. freeFrom a x (i * 32)) 16 → ⊥
+    below h = clash (subst (λ j. freeFrom a x j ≡ true) (aligned b x start u) (usable-free-run a b x start e p u)) (least-below (λ i. freeFrom a x (i * 32)) 16 (start / 32) h)
+
+    at : (t : Bool) → ltb (least (λ i. freeFrom a x (i * 32)) 16) 16 ≡ t → isSome (cond t (some (least (λ i. freeFrom a x (i * 32)) 16 * 32)) none) ≡ true
+        → (v : ℕ) × ((cond t (some (least (λ i. freeFrom a x (i * 32)) 16 * 32)) none ≡ some v) × (v ≤ start))
+    at true f g = (least (λ i. freeFrom a x (i * 32)) 16 * 32, (refl, omega (arith, below, aligned b x start u)))
+    at false f g = absurd (clash g refl)
+
+-- ---- the list of starts
+start-seam : (l : List ℕ) (x : ℕ) (rest : List ℕ) → startAt ((l ++ (x ∷ [])) ++ rest) (length l) ≡ some x
+unfolding startAt
+start-seam [] x rest = refl
+start-seam (y ∷ l) x rest = start-seam l x rest
+
+module _ (line : ℕ → Line) where
+  -- the starts up to a line are the first of all
+  grows : (n k : ℕ) → k ≤ n → (rest : List ℕ) × (startsBy ours line n ≡ startsBy ours line k ++ rest)
+  unfolding startsBy
+  grows zero k h = let z : 0 ≡ k = omega (arith, h) in ([], subst (λ j. [] ≡ startsBy ours line j ++ []) z refl)
+  grows (suc n) k h = at (leb k n) refl (grows n k)
+    where
+      at : (t : Bool) → leb k n ≡ t → (k ≤ n → (rest : List ℕ) × (startsBy ours line n ≡ startsBy ours line k ++ rest)) → (rest : List ℕ) × (startsBy ours line (suc n) ≡ startsBy ours line k ++ rest)
+      at true e ih =
+          let r = ih (leb-true k n e) in
+          (r .0 ++ given lowest (stateBy ours line n) (line n), rw (r .1) (append-assoc (startsBy ours line k) (r .0) (given lowest (stateBy ours line n) (line n))))
+      at false e ih =
+          let z : suc n ≡ k = omega (arith, h, leb-false k n e) in
+          ([], subst (λ j. startsBy ours line (suc n) ≡ startsBy ours line j ++ []) z (sym (append-nil (startsBy ours line (suc n)))))
+
+-- the start that a list has for a request is the one that the placing gives
+abbrev Given : List ℕ → ℕ → State → Statement → Type 0
+Given starts q st (Mov32 n v) = Unit {0}
+Given starts q st (Mov64 n v) = Unit {0}
+Given starts q st (Alloc n v) = startAt starts q ≡ lowest (st .live) v
+Given starts q st (Dealloc n v) = Unit {0}
+Given starts q st Relinquish = Unit {0}
+Given starts q st (Load a) = Unit {0}
+Given starts q st (Store a) = Unit {0}
+Given starts q st WaitLoad = Unit {0}
+Given starts q st WaitStore = Unit {0}
+Given starts q st FenceBefore = Unit {0}
+Given starts q st FenceAfter = Unit {0}
+Given starts q st (Multiply m) = Unit {0}
+Given starts q st Exit = Unit {0}
+
+given-start : (starts l rest : List ℕ) (o : Option ℕ) → isSome o ≡ true → starts ≡ (l ++ startList o) ++ rest → startAt starts (length l) ≡ o
+given-start starts l rest none e f = absurd (clash e refl)
+given-start starts l rest (some x) e f = ap (λ z. startAt z (length l)) f ∙ start-seam l x rest
+
+given-by : (starts l rest : List ℕ) (st : State) (w : ℕ) (t : Statement) → Accepted lowest st w t
+    → starts ≡ (l ++ given lowest st (statement w t)) ++ rest → Given starts (length l) st t
+unfolding given reasons.placed
+given-by starts l rest st w (Mov32 n v) a e = tt
+given-by starts l rest st w (Mov64 n v) a e = tt
+given-by starts l rest st w (Alloc n v) a e = given-start starts l rest (lowest (st .live) v) (a .places) e
+given-by starts l rest st w (Dealloc n v) a e = tt
+given-by starts l rest st w Relinquish a e = tt
+given-by starts l rest st w (Load m) a e = tt
+given-by starts l rest st w (Store m) a e = tt
+given-by starts l rest st w WaitLoad a e = tt
+given-by starts l rest st w WaitStore a e = tt
+given-by starts l rest st w FenceBefore a e = tt
+given-by starts l rest st w FenceAfter a e = tt
+given-by starts l rest st w (Multiply m) a e = tt
+given-by starts l rest st w Exit a e = tt
+
+-- ---- one line of our run
+own-free : (starts : List ℕ) (st : State) (r : Run) (w : ℕ) (t : Statement) → Accepted lowest st w t → Same (st .live) (r .live) → Given starts (r .requests) st t
+    → freeFor (r .live) t (startAt starts (r .requests)) ≡ true
+unfolding freeFor reasons.placed
+own-free starts st r w (Mov32 n v) a e g = refl
+own-free starts st r w (Mov64 n v) a e g = refl
+own-free starts st r w (Alloc n v) a e g = ap (λ o. mayUse (r .live) v o) g ∙ lowest-may (st .live) (r .live) v e (a .places)
+own-free starts st r w (Dealloc n v) a e g = refl
+own-free starts st r w Relinquish a e g = refl
+own-free starts st r w (Load m) a e g = refl
+own-free starts st r w (Store m) a e g = refl
+own-free starts st r w WaitLoad a e g = refl
+own-free starts st r w WaitStore a e g = refl
+own-free starts st r w FenceBefore a e g = refl
+own-free starts st r w FenceAfter a e g = refl
+own-free starts st r w (Multiply m) a e g = refl
+own-free starts st r w Exit a e g = refl
+
+one-start : (o : Option ℕ) → isSome o ≡ true → length (startList o) ≡ 1
+one-start none e = absurd (clash e refl)
+one-start (some x) e = refl
+
+own-done : (starts : List ℕ) (st : State) (r : Run) (w : ℕ) (t : Statement) → Accepted lowest st w t → Agree st r → Same (st .live) (r .live) → Given starts (r .requests) st t
+    → Same (effect lowest st w t .live) (done starts r t .live) × (done starts r t .requests ≡ r .requests + length (given lowest st (statement w t)))
+unfolding done effect given reasons.placed
+own-done starts st r w (Mov32 n v) a m e g = (e, omega arith)
+own-done starts st r w (Mov64 n v) a m e g = (e, omega arith)
+own-done starts st r w (Alloc n v) a m e g = (
+  subst (λ o. Same (added n v (lowest (st .live) v) (st .live)) (record { name = n; start = orZero o; length = v } ∷ r .live)) (sym g)
+      (same-added n v (lowest (st .live) v) (st .live) (r .live) (a .places) e),
+  omega (arith, one-start (lowest (st .live) v) (a .places)),
+)
+own-done starts st r w (Dealloc n v) a m e g = (
+  subst (λ l. Same (s.without n (st .live)) l) (sym (dealloc-both lowest st r w n v a m .1)) (same-without n (st .live) (r .live) e),
+  omega arith,
+)
+own-done starts st r w Relinquish a m e g = (e, omega arith)
+own-done starts st r w (Load x) a m e g = (e, omega arith)
+own-done starts st r w (Store x) a m e g = (e, omega arith)
+own-done starts st r w WaitLoad a m e g = (e, omega arith)
+own-done starts st r w WaitStore a m e g = (e, omega arith)
+own-done starts st r w FenceBefore a m e g = (e, omega arith)
+own-done starts st r w FenceAfter a m e g = (e, omega arith)
+own-done starts st r w (Multiply x) a m e g = (e, omega arith)
+own-done starts st r w Exit a m e g = (e, omega arith)
+
+-- what holds of our run in each phase
+abbrev Own : Phase → State → Run → ℕ → Type 0
+Own going st r q = Same (st .live) (r .live) × (r .requests ≡ q)
+Own (stoppedAt l) st r q = ⊥
+Own exited st r q = Same (st .live) (r .live) × (r .requests ≡ q)
+Own ended st r q = Same (st .live) (r .live) × (r .requests ≡ q)
+
+own-phase : (p : Phase) (st : State) (r : Run) (q : ℕ) → ((l : ℕ) → p ≡ stoppedAt l → ⊥) → Same (st .live) (r .live) → r .requests ≡ q → Own p st r q
+own-phase going st r q n e f = (e, f)
+own-phase (stoppedAt l) st r q n e f = n l refl
+own-phase exited st r q n e f = (e, f)
+own-phase ended st r q n e f = (e, f)
+
+own-same : (p : Phase) (st : State) (r : Run) (q : ℕ) → Own p st r q → Same (st .live) (r .live) × (r .requests ≡ q)
+own-same going st r q o = o
+own-same (stoppedAt l) st r q o = absurd o
+own-same exited st r q o = o
+own-same ended st r q o = o
+
+own-step : (starts l rest : List ℕ) (st : State) (r : Run) (number : ℕ) (x : Line)
+    → AllKept (lineRules lowest st x) → r .phase ≡ going → Agree st r
+    → able starts r (turnOf x .statement) ≡ freeFor (r .live) (turnOf x .statement) (startAt starts (r .requests))
+    → Same (st .live) (r .live) → r .requests ≡ length l → starts ≡ (l ++ given lowest st x) ++ rest
+    → Own (go (r .phase) starts r number (turnOf x) .phase) (lineEffect lowest st x) (go (r .phase) starts r number (turnOf x)) (length (l ++ given lowest st x))
+own-step starts l rest st r number badLayout h q m b e f g = absurd (clash (h .0) refl)
+own-step starts l rest st r number noForm h q m b e f g = absurd (clash (h .0) refl)
+own-step starts l rest st r number tooLarge h q m b e f g = absurd (clash (h .0) refl)
+own-step starts l rest st r number (statement w t) h q m b e f g =
+    let a = accepted lowest st w t (h .1) in
+    let u : Given starts (r .requests) st t = subst (λ j. Given starts j st t) (sym f) (given-by starts l rest st w t a g) in
+    let o = own-done starts st r w t a m e u in
+    go-by starts r number (turnOf (statement w t)) q (λ z. Own (z .phase) (effect lowest st w t) z (length (l ++ given lowest st (statement w t))))
+    (λ d. own-phase (done starts r t .phase) (effect lowest st w t) (done starts r t) (length (l ++ given lowest st (statement w t))) (λ j. done-goes starts r t j q) (o .0)
+    (o .1 ∙ omega (arith, f, length-append l (given lowest st (statement w t)))))
+    (λ d. absurd (clash (b ∙ own-free starts st r w t a e u) d))
+
+legal-least : (x : ℕ) → legal x ≡ true → 32 ≤ x
+legal-least x e = leb-true 32 x (each (leb 32 x ∷ leb x 512 ∷ eqb (ones x) 1 ∷ []) e .0)
+
+-- a request that is accepted asks for some columns, and the placing has a start for it
+asked : (st : State) (w : ℕ) (t : Statement) (x : ℕ) → Accepted lowest st w t → Requests t x → (0 < x) × (isSome (lowest (st .live) x) ≡ true)
+unfolding reasons.sized reasons.placed
+asked st w (Alloc n v) x a e = subst (λ y. (0 < y) × (isSome (lowest (st .live) y) ≡ true)) (sym e) (omega (arith, legal-least v (a .sizes)), a .places)
+asked st w (Mov32 n v) x a e = absurd e
+asked st w (Mov64 n v) x a e = absurd e
+asked st w (Dealloc n v) x a e = absurd e
+asked st w Relinquish x a e = absurd e
+asked st w (Load m) x a e = absurd e
+asked st w (Store m) x a e = absurd e
+asked st w WaitLoad x a e = absurd e
+asked st w WaitStore x a e = absurd e
+asked st w FenceBefore x a e = absurd e
+asked st w FenceAfter x a e = absurd e
+asked st w (Multiply m) x a e = absurd e
+asked st w Exit x a e = absurd e
+
+asked-line : (st : State) (x : Line) (v : ℕ) → AllKept (lineRules lowest st x) → Requests (turnOf x .statement) v → (0 < v) × (isSome (lowest (st .live) v) ≡ true)
+asked-line st badLayout v h e = absurd e
+asked-line st noForm v h e = absurd e
+asked-line st tooLarge v h e = absurd e
+asked-line st (statement w t) v h e = asked st w t v (accepted lowest st w t (h .1)) e
+
+given-request : (starts l rest : List ℕ) (st : State) (w : ℕ) (t : Statement) (v : ℕ) → Accepted lowest st w t → Requests t v
+    → starts ≡ (l ++ given lowest st (statement w t)) ++ rest → startAt starts (length l) ≡ lowest (st .live) v
+given-request starts l rest st w (Alloc n v) x a e g = given-by starts l rest st w (Alloc n v) a g ∙ ap (λ y. lowest (st .live) y) (sym e)
+given-request starts l rest st w (Mov32 n v) x a e g = absurd e
+given-request starts l rest st w (Mov64 n v) x a e g = absurd e
+given-request starts l rest st w (Dealloc n v) x a e g = absurd e
+given-request starts l rest st w Relinquish x a e g = absurd e
+given-request starts l rest st w (Load m) x a e g = absurd e
+given-request starts l rest st w (Store m) x a e g = absurd e
+given-request starts l rest st w WaitLoad x a e g = absurd e
+given-request starts l rest st w WaitStore x a e g = absurd e
+given-request starts l rest st w FenceBefore x a e g = absurd e
+given-request starts l rest st w FenceAfter x a e g = absurd e
+given-request starts l rest st w (Multiply m) x a e g = absurd e
+given-request starts l rest st w Exit x a e g = absurd e
+
+given-line : (starts l rest : List ℕ) (st : State) (x : Line) (v : ℕ) → AllKept (lineRules lowest st x) → Requests (turnOf x .statement) v
+    → starts ≡ (l ++ given lowest st x) ++ rest → startAt starts (length l) ≡ lowest (st .live) v
+given-line starts l rest st badLayout v h e g = absurd e
+given-line starts l rest st noForm v h e g = absurd e
+given-line starts l rest st tooLarge v h e g = absurd e
+given-line starts l rest st (statement w t) v h e g = given-request starts l rest st w t v (accepted lowest st w t (h .1)) e g
+
+-- ---- our run of a passed sheet
+module _ (sheet : Sheet) (c : Clear ours sheet) where
+  abbrev list : List ℕ
+  list = startsOf sheet
+
+  abbrev state : ℕ → State
+  state k = stateBy ours (sheet .line) k
+
+  abbrev our : ℕ → Run
+  our k = after list (turnsOf sheet) k
+
+  abbrev upTo : ℕ → List ℕ
+  upTo k = startsBy ours (sheet .line) k
+
+  kept : (k : ℕ) → k < sheet .count → AllKept (rulesBy ours (sheet .line) k)
+  kept k h = zero-kept ours (sheet .line) k (c .zeros k h)
+
+  parts : (k : ℕ) → k < sheet .count → (rest : List ℕ) × (list ≡ (upTo k ++ given lowest (state k) (sheet .line k)) ++ rest)
+  unfolding startsBy
+  parts k h = grows (sheet .line) (sheet .count) (suc k) h
+
+  own : (k : ℕ) → k ≤ sheet .count → Own (our k .phase) (state k) (our k) (length (upTo k))
+  unfolding after stateBy startsBy
+  own zero h = (tt, refl)
+  own (suc k) h = at (phase (our k .phase)) (own k (omega (arith, h)))
+    where
+      at : Is (our k .phase) → Own (our k .phase) (state k) (our k) (length (upTo k))
+          → Own (go (our k .phase) list (our k) (k + 2) (turnsOf sheet k) .phase) (lineEffect lowest (state k) (sheet .line k)) (go (our k .phase) list (our k) (k + 2) (turnsOf sheet k)) (length (upTo k ++ given lowest (state k) (sheet .line k)))
+      at (goes q) o =
+          let e = own-same (our k .phase) (state k) (our k) (length (upTo k)) o in
+          let p = parts k (omega (arith, h)) in
+          own-step list (upTo k) (p .0) (state k) (our k) (k + 2) (sheet .line k) (kept k (omega (arith, h))) q (agrees ours sheet c list k (omega (arith, h)) q)
+          (able-at ours sheet c list k ((omega (arith, h)), q)) (e .0) (e .1) (p .1)
+      at (stopped l q) o = absurd (subst (λ p. Own p (state k) (our k) (length (upTo k))) q o)
+      at (out q) o =
+          let f : Follows exited (state k) (our k) = subst (λ p. Follows p (state k) (our k)) q (beside ours sheet c list k (omega (arith, h))) in
+          absurd (no-more lowest (state k) (sheet .line k) (kept k (omega (arith, h))) (f .0))
+      at (over q) o = absurd (subst (λ p. Follows p (state k) (our k)) q (beside ours sheet c list k (omega (arith, h))))
+
+  same-at : (k : ℕ) → k ≤ sheet .count → Same (state k .live) (our k .live) × (our k .requests ≡ length (upTo k))
+  same-at k h = own-same (our k .phase) (state k) (our k) (length (upTo k)) (own k h)
+
+  -- the start of each request is the one that the placing gives
+  start-is : (k x : ℕ) → Asks sheet list k x → startAt list (our k .requests) ≡ lowest (state k .live) x
+  start-is k x a =
+      let p = parts k (a .0 .0) in
+      subst (λ j. startAt list j ≡ lowest (state k .live) x) (sym (same-at k (omega (arith, a .0 .0)) .1))
+      (given-line list (upTo k) (p .0) (state k) (sheet .line k) x (kept k (a .0 .0)) (a .1) (p .1))
+
+  meets : (k x : ℕ) → Asks sheet list k x → mayUse (our k .live) x (startAt list (our k .requests)) ≡ true
+  meets k x a =
+      ap (λ o. mayUse (our k .live) x o) (start-is k x a)
+      ∙ lowest-may (state k .live) (our k .live) x (same-at k (omega (arith, a .0 .0)) .0) (asked-line (state k) (sheet .line k) x (kept k (a .0 .0)) (a .1) .1)
+
+  least-start : (k x start : ℕ) → Asks sheet list k x → usable (our k .live) x start ≡ true → (v : ℕ) × ((startAt list (our k .requests) ≡ some v) × (v ≤ start))
+  least-start k x start a u =
+      let q = asked-line (state k) (sheet .line k) x (kept k (a .0 .0)) (a .1) in
+      let l = lowest-least (state k .live) (our k .live) x start (same-at k (omega (arith, a .0 .0)) .0) (q .0) (q .1) u in
+      (l .0, (start-is k x a ∙ l .1 .0, l .1 .1))
+
+  held-is : (k : ℕ) → k ≤ sheet .count → heldColumns (our k .live) ≡ heldAfter (sheet .line) k
+  held-is k h =
+      let d = sound list (turnsOf sheet) k in
+      counted (our k .live) (d .low) (d .apart)
+      ∙ sym (total-alike (state k .live) (our k .live) (same-alike (state k .live) (our k .live) (same-at k h .0)))
+      ∙ sym (held-total ours (sheet .line) k (λ j p. kept j (omega (arith, h, p))))
+
+  peak-is : (k : ℕ) → k ≤ sheet .count → peakOf list (turnsOf sheet) k ≡ peakUpTo (sheet .line) k
+  unfolding peakOf peakUpTo
+  peak-is zero h = refl
+  peak-is (suc k) h = rw (peak-is k (omega (arith, h)), held-is (suc k) h)
+
+  written : (old : List ℕ) → answerBy ours sheet (length old) .reason ≡ 0 → placesAfter sheet old ≡ list ++ drop (length list) old
+  unfolding placesAfter
+  written old e =
+      ap (λ b. cond b (sets old 0 list) old) (eq-eqb (answerBy ours sheet (length old) .reason) 0 e)
+      ∙ sets-eq list old 0 (omega (arith, figures-exact ours sheet (length old) .roomy e))
+      ∙ ap (λ k. list ++ drop k old) (let z : 0 + length list ≡ length list = omega arith in z)
+
+  pub our-starts : Placed sheet list
+  our-starts =
+      record {
+        meets = meets;
+        exits = any-starts ours sheet c list .otherwise (λ k f. clash (meets k (f .columns) (f .asks)) (f .unmet));
+        lowest = least-start;
+        all = sym (same-at (sheet .count) (omega arith) .1);
+        written = written;
+        peak = λ room. passed-figures ours sheet room c .2 ∙ sym (peak-is (sheet .count) (omega arith));
+      }

@@ -1,0 +1,256 @@
+-- Document 01, 'The run': what statements do to an empty memory of 512 columns under a list of starts. It shares with the rules the typed
+-- statement and the table of cells alone (and plain counting). Assumes nothing.
+use Prim.Native.Nat.{ℕ, zero, suc, _+_, _*_, _/_, _%_, _^_, max}
+use mathlib.Core.Bool.{Bool, true, false, not, _&&_, _||_, cond}
+use mathlib.Core.List.{List, [], _∷_, _++_}
+use mathlib.Core.Option.{Option, none, some}
+use lib.Dec.{leb, ltb, eqb}
+use Rattle.tokens.specs.declared.Name.{Name}
+use Rattle.tokens.specs.Names.{sameName}
+use Rattle.statement.specs.declared.Address.{Address}
+use Rattle.statement.specs.declared.Operand.{Operand}
+use Rattle.statement.specs.declared.Operand.the-variants as operand
+use Rattle.statement.specs.declared.Metadata.{Metadata}
+use Rattle.statement.specs.declared.Metadata.the-variants.{Dense, Sparse}
+use Rattle.statement.specs.declared.Statement.{Statement}
+use Rattle.statement.specs.declared.Statement.the-variants.{Mov32, Mov64, Alloc, Dealloc, Relinquish, Load, Store, WaitLoad, WaitStore, FenceBefore, FenceAfter, Multiply, Exit}
+use Rattle.statement.specs.Cells.{lanesOf, columnsOf}
+use Rattle.rules.specs.Counting.{count, every}
+
+-- ---- what it takes
+-- a statement with its warp; turn k is line k + 2 of the sheet
+pub record Turn : Type 0 where
+  pub warp : ℕ
+  pub statement : Statement
+
+-- ---- what it keeps
+-- a live holding
+pub record Holding : Type 0 where
+  pub name : Name
+  pub start : ℕ
+  pub length : ℕ
+
+-- a number moved to a name
+pub record Note : Type 0 where
+  pub name : Name
+  pub number : ℕ
+
+-- it goes on; it stopped at that line of the sheet; it reached its exit; the lines ended without one
+pub data Phase : Type 0 where
+  going : Phase
+  stoppedAt : ℕ → Phase
+  exited : Phase
+  ended : Phase
+
+-- the holdings; the numbers, the last moved first; columns asked for and given back so far, the requests met, and the phase
+pub record Run : Type 0 where
+  pub live : List Holding
+  pub notes : List Note
+  pub asked : ℕ
+  pub returned : ℕ
+  pub requests : ℕ
+  pub phase : Phase
+
+-- all empty at first
+abbrev pub empty : Run
+empty = record { live = []; notes = []; asked = 0; returned = 0; requests = 0; phase = going }
+
+-- ---- columns
+-- the column is one of the holding's
+unfoldable pub within : Holding → ℕ → Bool
+within h c = leb (h .start) c && ltb c (h .start + h .length)
+
+-- a column in a live holding is held, any other free
+unfoldable pub held : List Holding → ℕ → Bool
+held [] c = false
+held (h ∷ l) c = within h c || held l c
+
+-- the columns held, counted one by one
+unfoldable pub heldColumns : List Holding → ℕ
+heldColumns l = count (held l) 512
+
+-- a start may be used: a multiple of 32, and the columns asked for, from there on, are below 512 and free
+unfoldable pub usable : List Holding → ℕ → ℕ → Bool
+usable l columns start = eqb (start % 32) 0 && every (λ c. ltb c 512 && not (held l c)) start columns
+
+-- the start that a list has for the request of that index, if it is so long
+unfoldable pub startAt : List ℕ → ℕ → Option ℕ
+startAt [] k = none
+startAt (s ∷ l) zero = some s
+startAt (s ∷ l) (suc k) = startAt l k
+
+-- a request without a start cannot be done
+unfoldable pub mayUse : List Holding → ℕ → Option ℕ → Bool
+mayUse l columns none = false
+mayUse l columns (some start) = usable l columns start
+
+-- ---- holdings by name
+-- some holding passes a test
+unfoldable pub has : (Holding → Bool) → List Holding → Bool
+has p [] = false
+has p (h ∷ l) = p h || has p l
+
+-- without the first that passes
+unfoldable pub without : (Holding → Bool) → List Holding → List Holding
+without p [] = []
+without p (h ∷ l) = cond (p h) l (h ∷ without p l)
+
+unfoldable pub hasName : Name → Holding → Bool
+hasName n h = sameName (h .name) n
+
+unfoldable pub hasBoth : Name → ℕ → Holding → Bool
+hasBoth n columns h = sameName (h .name) n && eqb (h .length) columns
+
+-- the number last moved to a name
+unfoldable pub numberOf : Name → List Note → Option ℕ
+numberOf n [] = none
+numberOf n (v ∷ l) = cond (sameName (v .name) n) (some (v .number)) (numberOf n l)
+
+-- ---- accesses
+-- a booked access: its name, the first lane and how many, the first column from the start of the name's holding and how many
+pub record Region : Type 0 where
+  pub name : Name
+  pub lane : ℕ
+  pub lanes : ℕ
+  pub column : ℕ
+  pub columns : ℕ
+
+-- that many lanes and columns from an address on: the quotient of its offset by 65,536 is the lane, the remainder the column
+abbrev pub region : Address → ℕ → ℕ → Region
+region a lanes columns = record { name = a .base; lane = a .offset / 65536; lanes = lanes; column = a .offset % 65536; columns = columns }
+
+-- N stands in bits 17 to 22 of the number under idesc, divided by 8
+unfoldable pub nOf : ℕ → ℕ
+nOf number = number / 2 ^ 17 % 64 * 8
+
+abbrev pub orZero : Option ℕ → ℕ
+orZero none = 0
+orZero (some v) = v
+
+abbrev pub operandRegions : Operand → List Region
+operandRegions (operand.Descriptor n) = []
+operandRegions (operand.Address a) = region a 128 8 ∷ []
+
+abbrev pub metadataRegions : Metadata → List Region
+metadataRegions Dense = []
+metadataRegions (Sparse a) = region a 128 2 ∷ []
+
+-- what a statement books by the numbers moved so far: a ld or st its own cells; an mma all 128 lanes, and N columns at d, 8 at a, 2 at the metadata
+unfoldable pub bookedBy : List Note → Statement → List Region
+bookedBy v (Mov32 n x) = []
+bookedBy v (Mov64 n x) = []
+bookedBy v (Alloc n x) = []
+bookedBy v (Dealloc n x) = []
+bookedBy v Relinquish = []
+bookedBy v (Load a) = region (a .address) (lanesOf (a .shape)) (columnsOf (a .shape) (a .num)) ∷ []
+bookedBy v (Store a) = region (a .address) (lanesOf (a .shape)) (columnsOf (a .shape) (a .num)) ∷ []
+bookedBy v WaitLoad = []
+bookedBy v WaitStore = []
+bookedBy v FenceBefore = []
+bookedBy v FenceAfter = []
+bookedBy v (Multiply m) = region (m .d) 128 (nOf (orZero (numberOf (m .idesc) v))) ∷ (operandRegions (m .a) ++ metadataRegions (m .metadata))
+bookedBy v Exit = []
+
+-- the access lies below lane 128, and in the holding, which has its name
+unfoldable pub lies : Region → Holding → Bool
+lies r h = sameName (h .name) (r .name) && (leb (r .lane + r .lanes) 128 && leb (h .start + r .column + r .columns) (h .start + h .length))
+
+unfoldable pub allLie : List Region → List Holding → Bool
+allLie [] l = true
+allLie (r ∷ rs) l = has (lies r) l && allLie rs l
+
+abbrev pub isThere : Option ℕ → Bool
+isThere none = false
+isThere (some v) = true
+
+-- the number that a statement needs was moved: that under idesc
+unfoldable pub known : List Note → Statement → Bool
+known v (Mov32 n x) = true
+known v (Mov64 n x) = true
+known v (Alloc n x) = true
+known v (Dealloc n x) = true
+known v Relinquish = true
+known v (Load a) = true
+known v (Store a) = true
+known v WaitLoad = true
+known v WaitStore = true
+known v FenceBefore = true
+known v FenceAfter = true
+known v (Multiply m) = isThere (numberOf (m .idesc) v)
+known v Exit = true
+
+-- ---- a line
+-- whether a statement can be done: an alloc of a name that is not live, at a start that may be used; a dealloc of a holding of that name and
+-- length; an exit where nothing is held; and every booked access lies in the holding that it names
+unfoldable pub able : List ℕ → Run → Statement → Bool
+able starts r (Mov32 n x) = true
+able starts r (Mov64 n x) = true
+able starts r (Alloc n x) = not (has (hasName n) (r .live)) && mayUse (r .live) x (startAt starts (r .requests))
+able starts r (Dealloc n x) = has (hasBoth n x) (r .live)
+able starts r Relinquish = true
+able starts r (Load a) = allLie (bookedBy (r .notes) (Load a)) (r .live)
+able starts r (Store a) = allLie (bookedBy (r .notes) (Store a)) (r .live)
+able starts r WaitLoad = true
+able starts r WaitStore = true
+able starts r FenceBefore = true
+able starts r FenceAfter = true
+able starts r (Multiply m) = known (r .notes) (Multiply m) && allLie (bookedBy (r .notes) (Multiply m)) (r .live)
+able starts r Exit = eqb (heldColumns (r .live)) 0
+
+abbrev pub noted : Run → Name → ℕ → Run
+noted r n x = record { live = r .live; notes = record { name = n; number = x } ∷ r .notes; asked = r .asked; returned = r .returned; requests = r .requests; phase = going }
+
+-- a statement done
+unfoldable pub done : List ℕ → Run → Statement → Run
+done starts r (Mov32 n x) = noted r n x
+done starts r (Mov64 n x) = noted r n x
+done starts r (Alloc n x) =
+    record {
+      live = record { name = n; start = orZero (startAt starts (r .requests)); length = x } ∷ r .live;
+      notes = r .notes;
+      asked = r .asked + x;
+      returned = r .returned;
+      requests = suc (r .requests);
+      phase = going;
+    }
+done starts r (Dealloc n x) = record { live = without (hasBoth n x) (r .live); notes = r .notes; asked = r .asked; returned = r .returned + x; requests = r .requests; phase = going }
+done starts r Relinquish = r
+done starts r (Load a) = r
+done starts r (Store a) = r
+done starts r WaitLoad = r
+done starts r WaitStore = r
+done starts r FenceBefore = r
+done starts r FenceAfter = r
+done starts r (Multiply m) = r
+done starts r Exit = record { live = r .live; notes = r .notes; asked = r .asked; returned = r .returned; requests = r .requests; phase = exited }
+
+abbrev pub inPhase : Phase → Run → Run
+inPhase p r = record { live = r .live; notes = r .notes; asked = r .asked; returned = r .returned; requests = r .requests; phase = p }
+
+-- a line that cannot be done stops the run and changes nothing; a run that is not going stays as it is
+unfoldable pub go : Phase → List ℕ → Run → ℕ → Turn → Run
+go going starts r line x = cond (able starts r (x .statement)) (done starts r (x .statement)) (inPhase (stoppedAt line) r)
+go (stoppedAt l) starts r line x = r
+go exited starts r line x = r
+go ended starts r line x = r
+
+-- ---- the run
+-- after the first k turns
+unfoldable pub after : List ℕ → (ℕ → Turn) → ℕ → Run
+after starts turns zero = empty
+after starts turns (suc k) = go (after starts turns k .phase) starts (after starts turns k) (k + 2) (turns k)
+
+-- how a run ends: one that is still going after the last line ended without exit
+unfoldable pub finish : Phase → Phase
+finish going = ended
+finish (stoppedAt l) = stoppedAt l
+finish exited = exited
+finish ended = ended
+
+unfoldable pub outcome : List ℕ → (ℕ → Turn) → ℕ → Phase
+outcome starts turns size = finish (after starts turns size .phase)
+
+-- the most held after any of the first k turns
+unfoldable pub peakOf : List ℕ → (ℕ → Turn) → ℕ → ℕ
+peakOf starts turns zero = 0
+peakOf starts turns (suc k) = max (peakOf starts turns k) (heldColumns (after starts turns (suc k) .live))
