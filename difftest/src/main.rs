@@ -1,5 +1,6 @@
 //! Compares the proved library with the reference: `difftest words`, `difftest statements`.
 
+mod readings;
 mod statements;
 mod words;
 

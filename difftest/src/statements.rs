@@ -279,6 +279,7 @@ fn limits(c: &mut Comparison) {
 pub fn run() -> bool {
     let mut c = Comparison::new();
     let mut r = Random::new(2);
+    crate::readings::run(&mut c.counts);
     limits(&mut c);
     for turn in 0..16_000u64 {
         for form in 0..13 {
@@ -301,6 +302,11 @@ pub fn run() -> bool {
         c.text(&noise);
     }
     let mut wanted = vec![
+        ("readings", 0, 20),
+        ("readings", 3, 50),
+        ("readings", 4, 6),
+        ("readings", 5, 3),
+        ("readings, written", 0, 20),
         ("reason", 0, 200_000),
         ("reason", 3, 200_000),
         ("reason", 4, 20_000),

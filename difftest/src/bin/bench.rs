@@ -5,8 +5,9 @@
 use staplehorn_difftest::proved::c;
 use staplehorn_difftest::random::Random;
 use staplehorn_reference::descriptor::{self as reference, Instruction, Kind, Shared};
+use staplehorn_reference::statement;
 
-const CALLS: usize = 20_000;
+const CALLS: usize = 2_000;
 
 /// Half of the words read, as in the comparison; the others are random.
 fn words() -> Vec<u32> {
@@ -56,6 +57,27 @@ fn shared_fields() -> Vec<[u64; 6]> {
         .collect()
 }
 
+/// Typical statements, by name.
+fn text(name: &str) -> Option<Vec<u8>> {
+    let list = |n: usize| (0..n).map(|i| format!("%r{i}")).collect::<Vec<_>>().join(", ");
+    let text = match name {
+        "mov" => "mov.b32 idesc, 0x08100010;".into(),
+        "mov64" => "mov.b64 adesc, 0x0000400800100000;".into(),
+        "alloc" => "tcgen05.alloc.cta_group::1.sync.aligned.shared::cta.b32 [taddr], 128;".into(),
+        "dealloc" => "tcgen05.dealloc.cta_group::1.sync.aligned.b32 taddr, 128;".into(),
+        "ld4" => format!("tcgen05.ld.sync.aligned.32x32b.x4.b32 {{{}}}, [taddr+2097152];", list(4)),
+        "st32" => format!("tcgen05.st.sync.aligned.32x32b.x32.b32 [taddr], {{{}}};", list(32)),
+        "ld128" => format!("tcgen05.ld.sync.aligned.32x32b.x128.b32 {{{}}}, [taddr];", list(128)),
+        "mma" => "tcgen05.mma.cta_group::1.kind::f16 [taddr], adesc, bdesc, idesc, p;".into(),
+        "mma.ws.sp" => "tcgen05.mma.ws.sp.cta_group::1.kind::f8f6f4 [taddr], [taddr+64], bdesc, [taddr+96], idesc, p;".into(),
+        "wait" => "tcgen05.wait::ld.sync.aligned;".into(),
+        "exit" => "exit;".into(),
+        "refused" => "tcgen05.ld.sync.aligned.32x32b.x4.b32 {%r0, %r1, %r2, %r3}, [taddr+2097152]".into(),
+        _ => return None,
+    };
+    Some(String::into_bytes(text))
+}
+
 /// The reference behind the signatures of include/staplehorn.h.
 mod behind {
     use super::*;
@@ -85,6 +107,24 @@ mod behind {
     #[inline(never)]
     pub unsafe extern "C" fn instruction_judge(kind: u32, ws: u32, sp: u32, word: u32) -> u32 {
         opcode(kind, ws, sp).map_or(12, |(kind, ws, sp)| reference::judge_word(kind, ws, sp, word))
+    }
+
+    #[inline(never)]
+    pub unsafe extern "C" fn statement_reason(text: *const u8, length: usize) -> u32 {
+        match statement::read(std::slice::from_raw_parts(text, length)) {
+            Ok(s) => statement::registers_reason(&s),
+            Err(reason) => reason,
+        }
+    }
+
+    #[inline(never)]
+    pub unsafe extern "C" fn statement_canonical(text: *const u8, length: usize, room: *mut u8, size: usize, written: *mut usize) -> u32 {
+        let (reason, n) = match statement::canonical(std::slice::from_raw_parts(text, length), std::slice::from_raw_parts_mut(room, size)) {
+            Ok(n) => (0, n),
+            Err(reason) => (reason, 0),
+        };
+        *written = n;
+        reason
     }
 
     #[inline(never)]
@@ -159,7 +199,24 @@ fn main() {
                 mixed(s, reason, word, 0)
             }))
         }
-        _ => usage(),
+        _ => match function.split_once(':') {
+            Some(("reason", name)) => {
+                let t = text(name).unwrap_or_else(|| usage());
+                let f = if proved { c::staplehorn_statement_reason } else { behind::statement_reason };
+                Box::new(move || (0..CALLS).fold(0, |s, _| mixed(s, unsafe { f(t.as_ptr(), t.len()) }, t.len() as u64, 0)))
+            }
+            Some(("canonical", name)) => {
+                let t = text(name).unwrap_or_else(|| usage());
+                let mut room = vec![0; 4096];
+                let f = if proved { c::staplehorn_statement_canonical } else { behind::statement_canonical };
+                Box::new(move || (0..CALLS).fold(0, |s, _| {
+                    let mut n = 0;
+                    let reason = unsafe { f(t.as_ptr(), t.len(), room.as_mut_ptr(), room.len(), &mut n) };
+                    mixed(s, reason, n as u64, room[n / 2].into())
+                }))
+            }
+            _ => usage(),
+        },
     };
     let sum = measured(&mut *work);
     // a third argument asks for the time of a call as well, the best of that many turns
@@ -176,6 +233,6 @@ fn time(work: &mut dyn FnMut() -> u64) -> f64 {
 }
 
 fn usage() -> ! {
-    eprintln!("usage: bench instruction_decode|instruction_encode|instruction_judge|shared_decode|shared_encode proved|reference");
+    eprintln!("usage: bench FUNCTION proved|reference [TURNS]; FUNCTION is instruction_decode, instruction_encode, instruction_judge, shared_decode, shared_encode, reason:NAME or canonical:NAME");
     std::process::exit(2);
 }
