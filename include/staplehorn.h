@@ -88,7 +88,7 @@ uint32_t staplehorn_statement_reason(const uint8_t *text, size_t text_length);
 /* The canonical text of a statement: one space after the opcode and after each comma, decimals, no `+0` and no
    `.shared::cta`. Its length goes to *length and its bytes to the first places of room; the places past it are left as
    they are. 3 or 4 if the text does not read, 19 if the room is too short: then *length is 0 and room is left as it is.
-   2,560 bytes are room for any statement. */
+   2,560 bytes are room for any statement. A text of reason 5 reads, so it is written. */
 uint32_t staplehorn_statement_canonical(const uint8_t *text, size_t text_length, uint8_t *room, size_t room_length,
                                         size_t *length);
 

@@ -5,14 +5,14 @@ use staplehorn_difftest::proved;
 use staplehorn_reference::statement as reference;
 
 /// A text, its reason, and its canonical text where it reads.
-type Row = (String, u32, &'static str);
+type Row = (Vec<u8>, u32, &'static str);
 
-fn mov(number: &str) -> String {
-    format!("mov.b32 x, {number};")
+fn mov(number: &str) -> Vec<u8> {
+    format!("mov.b32 x, {number};").into()
 }
 
-fn load(list: &str, address: &str) -> String {
-    format!("tcgen05.ld.sync.aligned.32x32b.x1.b32 {list}, {address};")
+fn load(list: &str, address: &str) -> Vec<u8> {
+    format!("tcgen05.ld.sync.aligned.32x32b.x1.b32 {list}, {address};").into()
 }
 
 fn rows() -> Vec<Row> {
@@ -44,13 +44,14 @@ fn rows() -> Vec<Row> {
     // what is gone after reading
     good("tcgen05.alloc.cta_group::1.sync.aligned.shared::cta.b32 [t], 0x20;", "tcgen05.alloc.cta_group::1.sync.aligned.b32 [t], 32;");
     good("tcgen05.ld.sync.aligned.32x32b.x1.b32 {r}, [t+0];", "tcgen05.ld.sync.aligned.32x32b.x1.b32 {r}, [t];");
-    t.push((format!("mov.b32 x, 0x{}1;", "0".repeat(900)), 0, "mov.b32 x, 1;"));
+    t.push((mov(&format!("0x{}1", "0".repeat(900))), 0, "mov.b32 x, 1;"));
     // a wrong count of registers reads and is written
     t.push(("tcgen05.ld.sync.aligned.32x32b.x4.b32 {r}, [t];".into(), 5, "tcgen05.ld.sync.aligned.32x32b.x4.b32 {r}, [t];"));
-    let mut refused = |text: String, reason: u32| t.push((text, reason, ""));
+    let mut refused = |text: Vec<u8>, reason: u32| t.push((text, reason, ""));
     for n in ["128", "64"] {
         let names = vec!["r"; 128].join(", ");
-        refused(format!("tcgen05.ld.sync.aligned.16x256b.x{n}.b32 {{{names}}}, [t];"), 5);
+        refused(format!("tcgen05.ld.sync.aligned.16x256b.x{n}.b32 {{{names}}}, [t];").into(), 5);
+        refused(format!("tcgen05.st.sync.aligned.16x128b.x128.b32 [t], {{{names}}};").into(), 5);
     }
     refused(mov(&"9".repeat(900)), 4);
     refused(mov("4294967296"), 4);
@@ -59,7 +60,7 @@ fn rows() -> Vec<Row> {
     refused("tcgen05.dealloc.cta_group::1.sync.aligned.b32 t, 4294967296;".into(), 4);
     refused(load("{r}", "[t+4294967296]"), 4);
     let three = [
-        "mov.b32_x,1;", "mov.b32 x, 64abc;", "mov.b32 x, 0x1g;", "exit\t;", "exit\r;", "exit\x0c;", "exit\u{a0};", "exit\n;", "exit;\0", "exit\x7f;",
+        "mov.b32_x,1;", "mov.b32 x, 64abc;", "mov.b32 x, 0x1g;", "exit\t;", "exit\r;", "exit\x0c;", "exit\n;", "exit;\0", "exit\x7f;",
         "mov.b32 x, 4294967296", "mov.b32 x, 4294967296;;", "mov.b32 %%, 1;", "mov.b32 _%, 1;", "mov.b32 a%, 1;", "mov.b32 _, 1;", "mov.b32 $, 1;",
         "mov.b32 %, 1;", "mov.b32 abcdefghijklmnopq, 1;", "EXIT;", "mov.b32 x, 064;", "mov.b32 x, 00;", "mov.b32 x, 01;", "mov.b32 x, 0x;",
         "mov.b32 x, 64U;", "mov.b32 x, 0b1;", "mov.b32 x, -1;", "mov.b32 x, +1;", "tcgen05.alloc.cta_group::1.sync.aligned.b32 [t+0], 32;",
@@ -75,18 +76,20 @@ fn rows() -> Vec<Row> {
     for text in three {
         refused(text.into(), 3);
     }
+    refused(b"exit\xa0;".to_vec(), 3);
+    refused(b"tcgen05.ld.sync.aligned.16x32bx2.b32 {r}, [t];".to_vec(), 3);
     refused(load("{rrrrrrrrrrrrrrrrr}", "[t]"), 3);
     refused(load("{}", "[t]"), 3);
-    refused(format!("tcgen05.ld.sync.aligned.32x32b.x128.b32 {{{}}}, [t];", vec!["r"; 129].join(",")), 3);
-    refused(format!("mov.b32 x,{}4294967296;", " ".repeat(4096)), 3);
+    refused(format!("tcgen05.ld.sync.aligned.32x32b.x128.b32 {{{}}}, [t];", vec!["r"; 129].join(",")).into(), 3);
+    refused(format!("mov.b32 x,{}4294967296;", " ".repeat(4096)).into(), 3);
     t
 }
 
 /// Asks both sides for each row's answer.
 pub fn run(counts: &mut Counts) {
     for (text, reason, canonical) in rows() {
-        let bytes = text.as_bytes();
-        let shown = || format!("{text:.120}");
+        let bytes = text.as_slice();
+        let shown = || format!("{:.120}", String::from_utf8_lossy(bytes));
         let theirs = match reference::read(bytes) {
             Ok(s) => reference::registers_reason(&s),
             Err(reason) => reason,

@@ -40,6 +40,7 @@ impl Comparison {
     }
 
     fn text(&mut self, text: &[u8]) {
+        self.counts.seen("texts", 0);
         let read = reference::read(text);
         let reason = match &read {
             Ok(s) => reference::registers_reason(s),
@@ -281,7 +282,7 @@ pub fn run() -> bool {
     let mut r = Random::new(2);
     crate::readings::run(&mut c.counts);
     limits(&mut c);
-    for turn in 0..16_000u64 {
+    for turn in 0..20_000u64 {
         for form in 0..13 {
             let over = r.below(6) == 0;
             let tokens = statement(&mut r, form, over);
@@ -302,6 +303,7 @@ pub fn run() -> bool {
         c.text(&noise);
     }
     let mut wanted = vec![
+        ("texts", 0, 1_000_000),
         ("readings", 0, 20),
         ("readings", 3, 50),
         ("readings", 4, 6),

@@ -7,6 +7,7 @@ use mathlib.Core.Bool.{Bool, true, false}
 use lib.ListN.{length, take, drop}
 use Rattle.tokens.specs.declared.Name.{Name}
 use Rattle.tokens.specs.Bytes.{wordByte, runLen, tokenOf, afterToken}
+use Rattle.tokens.specs.Names.{isName, packed}
 use Rattle.tokens.specs.Numbers.{isNumber}
 use Rattle.statement.specs.declared.Statement.{Statement}
 use Rattle.statement.specs.declared.Opcode.{Opcode}
@@ -105,3 +106,5 @@ pub record Theorems : Type 0 where
   pub three : (text : List ℕ) (place : ℕ) → length text ≤ 4096 → readOf text ≡ Refused 3 place → Place text place
   pub four : (text : List ℕ) (place : ℕ) → readOf text ≡ Refused 4 place → Over text place
   pub one : (fits : Statement → Bool) (text : List ℕ) → One fits text
+  -- Names that are held as equal numbers have the same bytes: so two statements are equal exactly when forms, numbers and the bytes of names are.
+  pub names : (v w : List ℕ) → isName v ≡ true → isName w ≡ true → packed v ≡ packed w → v ≡ w
