@@ -1,23 +1,17 @@
 -- Reading and writing instruction descriptors undo each other: the format meets the general laws (laws, proofs/FormatLaws.antt). Assumes nothing.
-use Prim.Native.Nat.{ℕ, _*_, _≤_, _<_, _^_}
+use Prim.Native.Nat.{ℕ, _<_, _^_}
 use mathlib.Core.Path.{_≡_, refl, ap, sym, _∙_, subst}
-use mathlib.Core.Bool.{Bool, true, false, _&&_, cond}
-use mathlib.Core.List.{List, [], _∷_}
-use mathlib.Core.Option.{Option, none, some, Option·some-injective, Option·none-ne-some}
+use mathlib.Core.Bool.{Bool, true, false}
+use mathlib.Core.List.{List}
+use mathlib.Core.Option.{Option, none, some}
 use native.Mathlib.Omega.{arith}
-use lib.Dec.{eqb, leb}
-use borrow.Author.Tests.{eqb-true, eqb-false}
-use Rattle.laws.specs.Tests.{all, find}
-use Rattle.laws.specs.Layout.{bits, says, ranges, pack}
-use Rattle.laws.proofs.TestLaws.{and-split, find-passes, Each, each, chosen}
-use Rattle.laws.proofs.LayoutLaws.{Inside, within}
+use Rattle.laws.specs.Tests.{all}
+use Rattle.laws.specs.Layout.{ranges, pack}
 use Rattle.laws.proofs.FormatLaws.{Reading, Writing, reading, writing, read-word, word-read}
 use Rattle.instruction.specs.Instruction.{layout, fields, values, fieldsIn, numbers, named, rules, found, made, noDescriptor, noWord, good, fieldsRead, decoded, encoded, encodedNumbers}
 use Rattle.instruction.proofs.InstructionLaws.{numbers-none, numbers-out, numbers-some}
 use Rattle.instruction.specs.Claims.{InstructionExact}
 use Rattle.instruction.specs.declared.Kind.{Kind}
-use Rattle.instruction.specs.declared.Dtype.{Dtype}
-use Rattle.instruction.specs.declared.Element.{Element}
 use Rattle.instruction.specs.declared.Instruction.{Instruction}
 use Rattle.instruction.specs.declared.InstructionRead.{InstructionRead}
 use Rattle.instruction.specs.declared.InstructionWord.{InstructionWord}

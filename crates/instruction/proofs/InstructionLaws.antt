@@ -1,6 +1,6 @@
 -- Laws of the instruction descriptor's definitions, in the words of the code. Assumes nothing.
 use Prim.Native.Nat.{ℕ}
-use mathlib.Core.Path.{_≡_, refl, ap, sym, _∙_}
+use mathlib.Core.Path.{_≡_, ap, _∙_}
 use mathlib.Core.Bool.{Bool, true, false, _&&_, cond}
 use mathlib.Core.List.{List}
 use mathlib.Core.Option.{Option, none, some}
@@ -13,7 +13,6 @@ use Rattle.instruction.specs.declared.Kind.{Kind}
 use Rattle.instruction.specs.declared.Dtype.{Dtype}
 use Rattle.instruction.specs.declared.Element.{Element}
 use Rattle.instruction.specs.declared.Instruction.{Instruction}
-use Rattle.instruction.specs.declared.InstructionWord.{InstructionWord}
 
 -- what is named goes by the three types
 pub by-types : (l : List ℕ) {x x' : Option Dtype} {y y' z z' : Option Element} → x ≡ x' → y ≡ y' → z ≡ z' → named3 l x y z ≡ named3 l x' y' z'

@@ -1,27 +1,22 @@
 -- Descriptors and their numbers: a descriptor that keeps the rules is named by its own numbers, since a type of the kind is the one that its code
 -- names; and numbers in range are those of the descriptor that they name, since a code names a type that has it. Assumes nothing.
-use Prim.Native.Nat.{ℕ, _*_, _≤_, _<_, _^_}
+use Prim.Native.Nat.{ℕ, _*_, _≤_}
 use mathlib.Core.Path.{_≡_, refl, ap, sym, _∙_, subst}
 use mathlib.Core.Bool.{Bool, true, false, _&&_, cond}
-use mathlib.Core.List.{List, [], _∷_}
+use mathlib.Core.List.{List}
 use mathlib.Core.Option.{Option, none, some, Option·some-injective, Option·none-ne-some}
 use native.Mathlib.Omega.{arith}
-use lib.Dec.{eqb, leb}
+use lib.Dec.{eqb}
 use borrow.Author.Tests.{eqb-true, eqb-false}
-use Rattle.laws.specs.Tests.{all, find}
-use Rattle.laws.specs.Layout.{bits, says, ranges, pack}
-use Rattle.laws.proofs.TestLaws.{and-split, find-passes, Each, each, chosen}
+use Rattle.laws.specs.Tests.{all}
+use Rattle.laws.specs.Layout.{bits, ranges}
+use Rattle.laws.proofs.TestLaws.{and-split, find-passes, Each, each}
 use Rattle.laws.proofs.LayoutLaws.{Inside, within}
-use Rattle.laws.proofs.FormatLaws.{Reading, Writing, reading, writing, read-word, word-read}
-use Rattle.instruction.specs.Instruction.{layout, kindNumber, kindOf, code, ofKind, elements, dtypeCode, dtypes, dtypeOf, elementOf, bit, values, numbers, filled, named3, named, rules, found, made, noDescriptor, noWord, decoded, encoded, encodedNumbers}
-use Rattle.instruction.proofs.InstructionLaws.{numbers-none, numbers-out, numbers-some}
-use Rattle.instruction.specs.Claims.{InstructionExact}
+use Rattle.instruction.specs.Instruction.{layout, kindNumber, kindOf, code, ofKind, elements, dtypeCode, dtypes, dtypeOf, elementOf, bit, values, numbers, filled, named3, named, rules}
 use Rattle.instruction.specs.declared.Kind.{Kind}
 use Rattle.instruction.specs.declared.Dtype.{Dtype}
 use Rattle.instruction.specs.declared.Element.{Element}
 use Rattle.instruction.specs.declared.Instruction.{Instruction}
-use Rattle.instruction.specs.declared.InstructionRead.{InstructionRead}
-use Rattle.instruction.specs.declared.InstructionWord.{InstructionWord}
 use Rattle.instruction.specs.declared.Fields.{Fields}
 
 -- the kind of a number

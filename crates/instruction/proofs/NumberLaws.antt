@@ -6,7 +6,7 @@ use mathlib.Core.List.{List, [], _∷_}
 use mathlib.Core.Option.{Option, none, some, Option·getD}
 use lib.Dec.{eqb}
 use lib.ListN.{getD}
-use Rattle.laws.specs.Tests.{all, find, isSome}
+use Rattle.laws.specs.Tests.{all, isSome}
 use Rattle.laws.specs.Layout.{says, stands, ranges, pack}
 use Rattle.laws.specs.Rules.{firstBroken}
 use Rattle.laws.proofs.TestLaws.{never, and-split, find-passes, never-all}
@@ -88,6 +88,14 @@ read-fields kind ws sp w f b e t =
 pub read-refused : (kind : Kind) (ws sp : Bool) (w : ℕ) (f : Fields) → values f ≡ says layout w
     → (all (stands layout w) && keeps kind ws sp (named kind (values f))) ≡ false → decoded kind ws sp w ≡ noDescriptor
 read-refused kind ws sp w f e t = reading kind ws sp w (values f) false e t
+
+-- a word that is not read has no descriptor
+pub unread : (kind : Kind) (ws sp : Bool) (w : ℕ) → (decoded kind ws sp w .reason ≡ 0 → ⊥) → decoded kind ws sp w ≡ noDescriptor
+unread kind ws sp w n = by-test (all (stands layout w) && keeps kind ws sp (named kind (says layout w))) (by-name kind ws sp w (named kind (says layout w)) refl)
+  where
+    by-test : (t : Bool) → decoded kind ws sp w ≡ cond t (found (Option·getD (named kind (says layout w)) zero)) noDescriptor → decoded kind ws sp w ≡ noDescriptor
+    by-test true e = absurd (n (ap (λ (a : InstructionRead). a .reason) e))
+    by-test false e = e
 
 -- the word of numbers goes by their ranges and the tests on numbers
 word-named : (kind : Kind) (ws sp : Bool) (f : Fields) (b : Bool) (x : Option Instruction)

@@ -537,13 +537,15 @@ pub fn decode_fields(kind: Kind, ws: bool, sp: bool, word: u32) -> FieldsRead
     ensures { λ r. ⌜ r ≡ fieldsRead (decoded kind ws sp word) ⌝ }
 {
     let f = split(word);
-    if fixed_stand(word) & admits(kind, ws, sp, f) {
-        FieldsRead {
-            reason: 0,
-            fields: f,
-        }
-    } else {
-        refused_fields()
+    if !fixed_stand(word) {
+        return refused_fields();
+    }
+    if !admits(kind, ws, sp, f) {
+        return refused_fields();
+    }
+    FieldsRead {
+        reason: 0,
+        fields: f,
     }
 }
 
@@ -651,12 +653,13 @@ pub fn listed(kind: Kind, ws: bool, sp: bool, d: Instruction) -> u32
 pub fn listed_fields(kind: Kind, ws: bool, sp: bool, f: Fields) -> u32
     ensures { λ r. ⌜ r ≡ fieldsReason kind ws sp f ⌝ }
 {
-    let w = encode_fields(kind, ws, sp, f);
-    if w.reason == 0 {
-        listing_reason(kind, ws, f)
-    } else {
-        12
+    if !in_range(f) {
+        return 12;
     }
+    if !admits(kind, ws, sp, f) {
+        return 12;
+    }
+    listing_reason(kind, ws, f)
 }
 
 // K of a dense opcode.
@@ -694,10 +697,10 @@ pub fn k(kind: Kind, sp: bool) -> u32
 pub fn judge(kind: Kind, ws: bool, sp: bool, word: u32) -> u32
     ensures { λ r. ⌜ r ≡ wordReason kind ws sp word ⌝ }
 {
-    let a = decode_fields(kind, ws, sp, word);
-    let f = a.fields;
-    if a.reason == 0 {
-        return listing_reason(kind, ws, f);
+    let f = split(word);
+    let reads = fixed_stand(word) & admits(kind, ws, sp, f);
+    if !reads {
+        return 12;
     }
-    a.reason
+    listing_reason(kind, ws, f)
 }

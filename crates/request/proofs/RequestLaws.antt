@@ -1,7 +1,7 @@
 -- A legal request is a power of two from 32 to 512: exactly one bit set means a power of two. By halving. Assumes nothing.
-use Prim.Native.Nat.{ℕ, zero, suc, _+_, _*_, _/_, _%_, _^_, _≤_}
-use mathlib.Core.Path.{_≡_, refl, ap, sym, _∙_, subst}
-use mathlib.Core.Bool.{Bool, true, _&&_}
+use Prim.Native.Nat.{ℕ, suc, _+_, _*_, _/_, _%_, _^_}
+use mathlib.Core.Path.{_≡_, refl, ap, _∙_}
+use mathlib.Core.Bool.{true}
 use mathlib.Core.List.{[], _∷_}
 use mathlib.Core.Logic.{⊎-elim}
 use native.Mathlib.Nat.{pow-suc, eq-zero-or-pos}
@@ -11,8 +11,7 @@ use lib.Count.{ones, onesIn, ones-step, ones-cat}
 use lib.Dec.{eqb, leb}
 use lib.Pow.{pow-pos}
 use borrow.Author.Tests.{leb-true, eqb-true, le-leb, eq-eqb}
-use Rattle.laws.proofs.TestLaws.{Each, each, all-of}
-use Rattle.request.specs.Request.{legal, PowerInRange}
+use Rattle.laws.proofs.TestLaws.{each, all-of}
 use Rattle.request.specs.Claims.{RequestExact}
 
 no-ones : (n : ℕ) → ones n ≡ 0 → n ≡ 0

@@ -1,6 +1,9 @@
 // The shared memory descriptor: 64 bits. Addresses and offsets are in bytes.
+ghost use Prim.Native.Nat.{_%_};
 ghost use mathlib.Core.Path.{_≡_};
+ghost use mathlib.Core.Bool.{_&&_, cond};
 ghost use mathlib.Core.Option.{some};
+ghost use lib.Dec.{eqb, leb};
 ghost use Rattle.laws.specs.Tests.{all};
 ghost use Rattle.laws.specs.Layout.{pack, says, stands, ranges};
 ghost use Rattle.laws.proofs.LayoutLaws.{Inside};
@@ -51,19 +54,29 @@ fn fixed_stand(word: u64) -> bool
         & ((word >> 53) % 256 == 0)
 }
 
+// An address or offset is a multiple of 16 and has room in its field.
+fn storable(x: u64) -> bool
+    ensures { λ r. ⌜ r ≡ (eqb (x % 16) 0 && leb x 262128) ⌝ }
+{
+    (x % 16 == 0) & (x < 262144)
+}
+
 // Each number has room in its field, and an address or offset is a multiple of 16.
 fn in_range(d: Shared) -> bool
     ensures { λ r. ⌜ r ≡ all (ranges layout (numbers d)) ⌝ }
 {
-    (d.start % 16 == 0)
-        & (d.start <= 262128)
-        & (d.leading % 16 == 0)
-        & (d.leading <= 262128)
-        & (d.stride % 16 == 0)
-        & (d.stride <= 262128)
-        & (d.base <= 7)
+    storable(d.start)
+        & storable(d.leading)
+        & storable(d.stride)
         & (d.mode <= 1)
-        & (d.swizzle <= 7)
+        & ((d.base <= 7) & (d.swizzle <= 7))
+}
+
+// The swizzles that may stand with a base offset, as bits: 1, 2, 4 and 6, and 0 where there is no offset.
+fn swizzles(base: u64) -> u64
+    ensures { λ r. ⌜ r ≡ cond (eqb base 0) 87 86 ⌝ }
+{
+    if base == 0 { 87 } else { 86 }
 }
 
 // The swizzle is one of the five, and there is no base offset without one.
@@ -71,7 +84,10 @@ fn follows(d: Shared) -> bool
     ensures { λ r. ⌜ r ≡ all (rules d) ⌝ }
 {
     let s = d.swizzle;
-    ((s == 0) | (s == 1) | (s == 2) | (s == 4) | (s == 6)) & ((s != 0) | (d.base == 0))
+    if s > 7 {
+        return false;
+    }
+    (swizzles(d.base) >> s) % 2 == 1
 }
 
 // The word of numbers that are in range.
@@ -106,17 +122,20 @@ fn nothing() -> Shared
 pub fn decode(word: u64) -> SharedRead
     ensures { λ r. ⌜ r ≡ decoded word ⌝ }
 {
+    let refused = SharedRead {
+        reason: 12,
+        descriptor: nothing(),
+    };
+    if !fixed_stand(word) {
+        return refused;
+    }
     let d = split(word);
-    if fixed_stand(word) & follows(d) {
-        SharedRead {
-            reason: 0,
-            descriptor: d,
-        }
-    } else {
-        SharedRead {
-            reason: 12,
-            descriptor: nothing(),
-        }
+    if !follows(d) {
+        return refused;
+    }
+    SharedRead {
+        reason: 0,
+        descriptor: d,
     }
 }
 
@@ -124,15 +143,18 @@ pub fn decode(word: u64) -> SharedRead
 pub fn encode(d: Shared) -> SharedWord
     ensures { λ r. ⌜ r ≡ encoded d ⌝ }
 {
-    if in_range(d) & follows(d) {
-        SharedWord {
-            reason: 0,
-            word: join(d),
-        }
-    } else {
-        SharedWord {
-            reason: 12,
-            word: 0,
-        }
+    let refused = SharedWord {
+        reason: 12,
+        word: 0,
+    };
+    if !in_range(d) {
+        return refused;
+    }
+    if !follows(d) {
+        return refused;
+    }
+    SharedWord {
+        reason: 0,
+        word: join(d),
     }
 }

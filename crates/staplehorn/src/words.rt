@@ -151,8 +151,12 @@ pub extern "C" fn staplehorn_instruction_decode(
     ensures fields { λ _. ⌜ now (fields .exit) ≡ I.numbers (decodedFor (opcodeOf kind ws sp) word .descriptor) ⌝ }
 {
     let r = decode_word(kind, ws, sp, word);
-    let f = r.fields;
-    *fields = array_of(f);
+    if r.reason == 0 {
+        let f = r.fields;
+        *fields = array_of(f);
+        return 0;
+    }
+    *fields = [0; 13];
     r.reason
 }
 

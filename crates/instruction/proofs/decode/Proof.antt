@@ -1,6 +1,6 @@
 -- `instruction::decode` meets its contract: what the word says names a descriptor or none, and the code makes the two tests of reading
 -- at once. Assumes nothing.
-use mathlib.Core.Path.{_≡_, refl, sym, _∙_, ap, ap₂}
+use mathlib.Core.Path.{_≡_, sym, _∙_, ap, ap₂}
 use mathlib.Core.Bool.{Bool, _&&_, cond}
 use borrow.Author.Needs.{needs}
 use Rattle.laws.specs.Layout.{says}

@@ -1,6 +1,7 @@
 -- `instruction::decode_fields` meets its contract: what the word says is kept or not, by `read-fields` and `read-refused`. Assumes nothing.
-use mathlib.Core.Path.{_≡_, refl, sym, _∙_, ap, ap₂}
+use mathlib.Core.Path.{refl, sym, _∙_, ap, ap₂}
 use mathlib.Core.Bool.{_&&_}
+use borrow.Author.Tests.{not-true, not-false}
 use Rattle.instruction.specs.Instruction.{fieldsRead}
 use Rattle.instruction.proofs.NumberLaws.{read-fields, read-refused}
 use borrow.Author.Needs.{needs}
@@ -19,11 +20,17 @@ admits-requires c κs = search needs
 refused-fields-requires : tie.Need-refused-fields-requires
 refused-fields-requires c κs = search needs
 
+refused-fields-requires-2 : tie.Need-refused-fields-requires-2
+refused-fields-requires-2 c κs = search needs
+
 returns : tie.Need-returns
-returns c = sym (read-fields _ _ _ _ (c .before .before .before .split .result) (c .before .before .before .before .fits .word .fits) (c .before .before .before .split .ensures) (ap₂ _&&_ (sym (c .before .before .fixed-stand .ensures)) (sym (c .before .admits .ensures)) ∙ c .if1 .taken))
+returns c = c .refused-fields .ensures ∙ sym (ap fieldsRead (read-refused _ _ _ _ (c .before .before .before .split .result) (c .before .before .before .split .ensures) (ap₂ _&&_ (sym (c .before .before .fixed-stand .ensures) ∙ not-true _ (c .before .if1 .taken)) refl)))
 
 returns-2 : tie.Need-returns-2
-returns-2 c = c .refused-fields .ensures ∙ sym (ap fieldsRead (read-refused _ _ _ _ (c .before .before .before .before .split .result) (c .before .before .before .before .split .ensures) (ap₂ _&&_ (sym (c .before .before .before .fixed-stand .ensures)) (sym (c .before .before .admits .ensures)) ∙ c .before .if1 .left)))
+returns-2 c = c .refused-fields2 .ensures ∙ sym (ap fieldsRead (read-refused _ _ _ _ (c .before .before .before .before .before .split .result) (c .before .before .before .before .before .split .ensures) (ap₂ _&&_ (sym (c .before .before .before .before .fixed-stand .ensures) ∙ not-false _ (c .before .before .before .if1 .left)) (sym (c .before .before .admits .ensures) ∙ not-true _ (c .before .if2 .taken)))))
+
+returns-3 : tie.Need-returns-3
+returns-3 c = sym (read-fields _ _ _ _ (c .before .before .before .before .split .result) (c .before .before .before .before .before .fits .word .fits) (c .before .before .before .before .split .ensures) (ap₂ _&&_ (sym (c .before .before .before .fixed-stand .ensures) ∙ not-false _ (c .before .before .if1 .left)) (sym (c .before .admits .ensures) ∙ not-false _ (c .if2 .left))))
 
 pub decode-fields-spec : {M : Type 1} → statement M
 decode-fields-spec =
@@ -31,7 +38,9 @@ decode-fields-spec =
     (tie.spec
     split-requires
     fixed-stand-requires
-    admits-requires
     refused-fields-requires
     returns
-    returns-2)
+    admits-requires
+    refused-fields-requires-2
+    returns-2
+    returns-3)

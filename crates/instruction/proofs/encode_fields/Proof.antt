@@ -1,5 +1,5 @@
 -- `instruction::encode_fields` meets its contract: the numbers are in range and kept, or not, by `word-numbers`. Assumes nothing.
-use mathlib.Core.Path.{_≡_, refl, sym, _∙_, ap}
+use mathlib.Core.Path.{refl, sym, _∙_, ap}
 use mathlib.Core.Bool.{true, false}
 use borrow.Author.Tests.{not-true, not-false}
 use Rattle.laws.proofs.LayoutLaws.{within}

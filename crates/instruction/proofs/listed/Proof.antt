@@ -1,6 +1,5 @@
 -- `instruction::listed` meets its contract: the descriptor has a word or none, and then the listing decides. Assumes nothing.
 use Rattle.instruction.specs.Instruction.{fields}
-use mathlib.Core.Path.{refl}
 use borrow.Author.Tests.{eq-eqb, ne-eqb}
 use Rattle.instruction.proofs.NumberLaws.{listed-made, listed-none}
 use borrow.Author.Needs.{needs}

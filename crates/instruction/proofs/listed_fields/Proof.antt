@@ -1,23 +1,37 @@
--- `instruction::listed_fields` meets its contract: the numbers have a word or none, and then the listing decides. Assumes nothing.
-use mathlib.Core.Path.{refl}
-use borrow.Author.Tests.{eq-eqb, ne-eqb}
-use Rattle.instruction.proofs.NumberLaws.{listed-made, listed-none}
+-- `instruction::listed_fields` meets its contract: the numbers have a word or none, by `word-numbers`, and then the listing decides. Assumes nothing.
+use mathlib.Core.Path.{refl, sym, _∙_}
+use mathlib.Core.Bool.{true, false}
+use borrow.Author.Tests.{not-true, not-false}
+use Rattle.instruction.proofs.NumberLaws.{word-numbers, listed-made, listed-none}
 use borrow.Author.Needs.{needs}
 use Rattle.instruction.proofs.listed_fields.Statement.{statement}
 use Rattle.instruction.proofs.listed_fields.Tie as tie
 
-encode-fields-requires : tie.Need-encode-fields-requires
-encode-fields-requires c κs = search needs
+in-range-requires : tie.Need-in-range-requires
+in-range-requires c κs = search needs
+
+admits-requires : tie.Need-admits-requires
+admits-requires c κs = search needs
 
 listing-reason-requires : tie.Need-listing-reason-requires
 listing-reason-requires c κs = search needs
 
 returns : tie.Need-returns
-returns c = listed-made (c .before .before .before .before .args .kind) (c .before .before .before .before .args .ws) {f = c .before .before .before .before .args .f} (c .before .before .before .encode-fields .ensures) (eq-eqb _ _ (c .before .if1 .taken)) (c .listing-reason .ensures) refl
+returns c = listed-none (c .before .before .args .kind) (c .before .before .args .ws) (c .before .before .args .f) (sym (word-numbers _ _ _ (c .before .before .args .f) false _ (sym (c .before .in-range .ensures) ∙ not-true _ (c .if1 .taken)) refl)) refl
 
 returns-2 : tie.Need-returns-2
-returns-2 c = listed-none (c .before .before .before .args .kind) (c .before .before .before .args .ws) (c .before .before .before .args .f) (c .before .before .encode-fields .ensures) (ne-eqb _ _ (c .if1 .left))
+returns-2 c = listed-none (c .before .before .before .before .args .kind) (c .before .before .before .before .args .ws) (c .before .before .before .before .args .f) (sym (word-numbers _ _ _ (c .before .before .before .before .args .f) true false (sym (c .before .before .before .in-range .ensures) ∙ not-false _ (c .before .before .if1 .left)) (sym (c .before .admits .ensures) ∙ not-true _ (c .if2 .taken)))) refl
+
+returns-3 : tie.Need-returns-3
+returns-3 c = listed-made (c .before .before .before .before .before .args .kind) (c .before .before .before .before .before .args .ws) {f = c .before .before .before .before .before .args .f} (sym (word-numbers _ _ _ (c .before .before .before .before .before .args .f) true true (sym (c .before .before .before .before .in-range .ensures) ∙ not-false _ (c .before .before .before .if1 .left)) (sym (c .before .before .admits .ensures) ∙ not-false _ (c .before .if2 .left)))) refl (c .listing-reason .ensures) refl
 
 pub listed-fields-spec : {M : Type 1} → statement M
 listed-fields-spec =
-    tie.close (tie.spec encode-fields-requires listing-reason-requires returns returns-2)
+    tie.close
+    (tie.spec
+    in-range-requires
+    returns
+    admits-requires
+    returns-2
+    listing-reason-requires
+    returns-3)

@@ -1,6 +1,5 @@
 -- `instruction::named_by` meets its contract: each code names a type or none, and the three answers decide. Assumes nothing.
-use mathlib.Core.Path.{_≡_, refl, sym, ap, _∙_}
-use mathlib.Core.Option.{none, some}
+use mathlib.Core.Path.{refl, sym, ap, _∙_}
 use Rattle.instruction.specs.Instruction.{values, dtypeSeen, elementSeen}
 use Rattle.instruction.proofs.InstructionLaws.{by-types}
 use borrow.Author.Needs.{needs}

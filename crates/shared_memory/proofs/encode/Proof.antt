@@ -1,43 +1,33 @@
--- `shared_memory::encode` meets its contract: the code makes the two tests of writing at once. Assumes nothing.
-use mathlib.Core.Path.{_≡_, sym, _∙_, ap, ap₂}
-use mathlib.Core.Bool.{Bool, _&&_, cond}
+-- `shared_memory::encode` meets its contract: the code makes the two tests of writing one after the other, by `writing`. Assumes nothing.
+use mathlib.Core.Path.{refl, sym, _∙_}
+use mathlib.Core.Bool.{true, false}
+use borrow.Author.Tests.{not-true, not-false}
 use borrow.Author.Needs.{needs}
-use Rattle.laws.specs.Tests.{all}
-use Rattle.laws.specs.Layout.{ranges, pack}
-use Rattle.laws.proofs.TestLaws.{and-split}
 use Rattle.laws.proofs.LayoutLaws.{within}
-use Rattle.laws.proofs.FormatLaws.{word-both}
-use Rattle.shared_memory.specs.Shared.{layout, numbers, rules, encoded, made, noWord}
-use Rattle.shared_memory.specs.declared.Shared.{Shared}
+use Rattle.shared_memory.specs.Shared.{layout, numbers}
+use Rattle.shared_memory.proofs.SharedLaws.{writing}
 use Rattle.shared_memory.proofs.encode.Statement.{statement}
 use Rattle.shared_memory.proofs.encode.Tie as tie
 
 in-range-requires : tie.Need-in-range-requires
 in-range-requires c κs = search needs
 
+returns : tie.Need-returns
+returns c = sym (writing _ false _ (sym (not-true _ (c .if1 .taken)) ∙ c .before .in-range .ensures) refl)
+
 follows-requires : tie.Need-follows-requires
 follows-requires c κs = search needs
 
--- writing goes by the test that the code makes
-writing : (c : tie.After-follows)
-    → encoded (c .before .before .args .d)
-    ≡ cond (c .before .in-range .result && c .follows .result) (made (pack layout (numbers (c .before .before .args .d)))) noWord
-unfolding encoded
-writing c =
-    word-both layout numbers (λ d. all (rules d)) made noWord (c .before .before .args .d)
-    ∙ ap (λ (b : Bool). cond b (made (pack layout (numbers (c .before .before .args .d)))) noWord)
-    (ap₂ _&&_ (sym (c .before .in-range .ensures)) (sym (c .follows .ensures)))
+returns-2 : tie.Need-returns-2
+returns-2 c = sym (writing _ true false (sym (not-false _ (c .before .before .if1 .left)) ∙ c .before .before .before .in-range .ensures) (sym (not-true _ (c .if2 .taken)) ∙ c .before .follows .ensures))
 
 join-requires : tie.Need-join-requires
-join-requires c κs =
-    within layout (numbers (c .before .before .before .args .d))
-    (sym (c .before .before .in-range .ensures) ∙ and-split (c .before .before .in-range .result) (c .before .follows .result) (c .if1 .taken) .0)
+join-requires c κs = within layout (numbers (c .before .before .before .before .args .d)) (sym (c .before .before .before .in-range .ensures) ∙ not-false _ (c .before .before .if1 .left))
 
-returns : tie.Need-returns
-returns c = rw (writing (c .before .before), c .before .if1 .taken, c .join .ensures)
-
-returns-2 : tie.Need-returns-2
-returns-2 c = rw (writing (c .before), c .if1 .left)
+returns-3 : tie.Need-returns-3
+returns-3 c = rw (c .join .ensures) (sym (writing _ true true (sym (not-false _ (c .before .before .before .if1 .left)) ∙ c .before .before .before .before .in-range .ensures) (sym (not-false _ (c .before .if2 .left)) ∙ c .before .before .follows .ensures)))
 
 pub encode-spec : {M : Type 1} → statement M
-encode-spec = tie.close (tie.spec in-range-requires follows-requires join-requires returns returns-2)
+encode-spec =
+    tie.close
+    (tie.spec in-range-requires returns follows-requires returns-2 join-requires returns-3)

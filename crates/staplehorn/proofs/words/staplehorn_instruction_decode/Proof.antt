@@ -1,10 +1,22 @@
--- `staplehorn::words::staplehorn_instruction_decode` meets its contract: the answer is taken apart. Assumes nothing.
-use mathlib.Core.Path.{_≡_, _∙_, ap}
-use Rattle.instruction.specs.Instruction.{values}
+-- `staplehorn::words::staplehorn_instruction_decode` meets its contract: the answer is taken apart, and a refused one has only zeros, by `unread`.
+-- Assumes nothing.
+use Prim.Native.Nat.{ℕ}
+use mathlib.Core.Path.{_≡_, refl, sym, _∙_, ap}
+use mathlib.Core.Option.{Option, none, some}
+use Rattle.instruction.proofs.NumberLaws.{unread}
+use Rattle.instruction.specs.Instruction.{values, numbers, noDescriptor}
 use Rattle.instruction.specs.declared.FieldsRead.{FieldsRead}
+use Rattle.instruction.specs.declared.InstructionRead.{InstructionRead}
+use Rattle.staplehorn.specs.declared.words.Opcode.{Opcode}
+use Rattle.staplehorn.specs.Words.{decodedFor, opcodeOf}
 use borrow.Author.Needs.{needs}
 use Rattle.staplehorn.proofs.words.staplehorn_instruction_decode.Statement.{statement}
 use Rattle.staplehorn.proofs.words.staplehorn_instruction_decode.Tie as tie
+
+-- a refused answer has no descriptor
+refused : (o : Option Opcode) (w : ℕ) → (decodedFor o w .reason ≡ 0 → ⊥) → decodedFor o w ≡ noDescriptor
+refused none w n = refl
+refused (some o) w n = unread (o .kind) (o .ws) (o .sp) w n
 
 decode-word-requires : tie.Need-decode-word-requires
 decode-word-requires c κs = search needs
@@ -13,8 +25,11 @@ array-of-requires : tie.Need-array-of-requires
 array-of-requires c κs = search needs
 
 returns : tie.Need-returns
-returns c = (ap (λ (a : FieldsRead). a .reason) (c .before .before .decode-word .ensures), c .array-of .ensures ∙ ap (λ (a : FieldsRead). values (a .fields)) (c .before .before .decode-word .ensures))
+returns c = (sym (c .before .before .if1 .taken) ∙ ap (λ (a : FieldsRead). a .reason) (c .before .before .before .before .decode-word .ensures), c .array-of .ensures ∙ ap (λ (a : FieldsRead). values (a .fields)) (c .before .before .before .before .decode-word .ensures))
+
+returns-2 : tie.Need-returns-2
+returns-2 c = (ap (λ (a : FieldsRead). a .reason) (c .before .before .before .decode-word .ensures), sym (ap (λ (a : InstructionRead). numbers (a .descriptor)) (refused (opcodeOf (c .before .before .before .before .args .kind) (c .before .before .before .before .args .ws) (c .before .before .before .before .args .sp)) (c .before .before .before .before .args .word) (λ e. c .before .if1 .left (ap (λ (a : FieldsRead). a .reason) (c .before .before .before .decode-word .ensures) ∙ e)))))
 
 pub staplehorn-instruction-decode-spec : {M : Type 1} → statement M
 staplehorn-instruction-decode-spec =
-    tie.close (tie.spec decode-word-requires array-of-requires returns)
+    tie.close (tie.spec decode-word-requires array-of-requires returns returns-2)
