@@ -17,7 +17,7 @@ abbrev pub empty : Bindings
 empty = record { hi = replicate 128 0; lo = replicate 128 0; numbers = replicate 128 0; widths = replicate 128 0 }
 
 -- ---- the entry of a name
--- where the search for a name starts, and the entries in its order: any numbers would do that lead to every entry, and these keep searches short
+-- where the search for a name starts, and the entries in its order: any numbers would do that lead to every entry; with these the names of kernels seldom meet
 unfoldable pub homeOf : Name → ℕ
 homeOf name = name .hi % 121 + name .lo % 121
 

@@ -66,20 +66,6 @@ pub fn word_at(s: &[u8], at: usize) -> bool
     is_word(s[at])
 }
 
-// Where a run of opcode bytes ends.
-pub fn opcode_end(s: &[u8], at: usize) -> usize
-    ensures { λ r. ⌜ r ≡ at + runLen opcodeByte (drop at (now (s .entry))) ⌝ }
-{
-    let mut i = at;
-    while i < s.len() {
-        if !is_opcode(s[i]) {
-            return i;
-        }
-        i += 1;
-    }
-    i
-}
-
 // Where a run of blanks ends.
 pub fn blanks_end(s: &[u8], at: usize) -> usize
     ensures { λ r. ⌜ r ≡ at + runLen blank (drop at (now (s .entry))) ⌝ }

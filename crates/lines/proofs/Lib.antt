@@ -1,3 +1,4 @@
 pub mod SheetLaws
 pub mod SheetTheorems
 pub mod Examples
+pub mod ReaderTheorems

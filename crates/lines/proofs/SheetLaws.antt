@@ -14,7 +14,7 @@ use borrow.Author.Tests.{lt-ltb, le-ltb, eq-eqb, ne-eqb, ltb-true, ltb-false, eq
 use Rattle.laws.proofs.TestLaws.{never, and-split}
 use Rattle.tokens.specs.Bytes.{pick, all, runLen}
 use Rattle.lines.specs.declared.Line.{Line}
-use Rattle.lines.specs.Sheet.{upto, textOf, endedOf, rest, after, bit, countFrom, lineCount, lfs, header, sameBytes, headed, warpByte, warpOf, plain, laidOut, contentOf, noLine, lineAt, contentSeen}
+use Rattle.lines.specs.Sheet.{upto, textOf, endedOf, rest, after, bit, countFrom, lineCount, lfs, header, sameBytes, headed, warpByte, warpOf, plain, laidOut, contentOf, noLine, lineAt, nextAt, contentSeen}
 
 and-false : (a : Bool) → (a && false) ≡ false
 and-false true = refl
@@ -502,6 +502,16 @@ module _ (s : List ℕ) (at : ℕ) where
   -- the line by its places is the line by its bytes
   pub line-seen : contentSeen s (lineAt s at) ≡ contentOf (drop at s)
   line-seen = seen-by (lineAt s at .ok) refl
+
+  module _ (r : Line) (e : r ≡ lineAt s at) where
+    -- after a line that is ok the next one starts where it says; after any other, at the same place
+    pub next-ok : r .ok ≡ true → r .next ≡ nextAt s at
+    unfolding nextAt
+    next-ok h = let k : lineAt s at .ok ≡ true = ap (λ (l : Line). l .ok) (sym e) ∙ h in rw k (ap (λ (l : Line). l .next) e)
+
+    pub next-same : r .ok ≡ false → at ≡ nextAt s at
+    unfolding nextAt
+    next-same h = let k : lineAt s at .ok ≡ false = ap (λ (l : Line). l .ok) (sym e) ∙ h in rw k
 
 -- ---- after the header
 

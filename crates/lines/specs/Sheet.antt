@@ -117,6 +117,10 @@ lineAt s at =
     let l = drop at s in
     pick (laidOut l) (record { ok = true; warp = warpOf (getD l 0 0); start = at + 2; end = at + upto l; next = at + upto l + 1 }) noLine
 
+-- where the line after the one at a place starts; after a layout fault, the same place
+unfoldable pub nextAt : List ℕ → ℕ → ℕ
+nextAt s at = pick (lineAt s at .ok) (lineAt s at .next) at
+
 -- what a line found by places is
 unfoldable pub contentSeen : List ℕ → Line → Content
 contentSeen s r = pick (r .ok) (laid (r .warp) (take (r .end - r .start) (drop (r .start) s))) fault

@@ -4,7 +4,7 @@ ghost use mathlib.Core.Bool.{true};
 ghost use Prim.Native.Nat.{_+_, _<_, _≤_, _^_};
 ghost use lib.ListN.{length, getD, take, drop};
 ghost use Rattle.tokens.specs.Bytes.{pick, all, runLen};
-ghost use Rattle.lines.specs.Sheet.{bit, upto, lfs, lineCount, oversize, headed, warpByte, warpOf, plain, laidOut, lineAt};
+ghost use Rattle.lines.specs.Sheet.{bit, upto, lfs, lineCount, oversize, headed, warpByte, warpOf, plain, laidOut, lineAt, nextAt};
 
 // A line after the first: its warp, where its statement starts and ends, and where the next line starts. Not ok: its
 // layout is wrong, and all numbers are 0.
@@ -178,7 +178,7 @@ fn plain_end(s: &[u8], at: usize) -> usize
 }
 
 // How many bytes the first line has before its LF if it is laid out, else 0. Between the tab and the LF each byte is
-// looked at once.
+// looked at once, in the last block of 16 at most twice.
 fn laid_length(l: &[u8]) -> usize
     ensures { λ r. ⌜ r ≡ pick (laidOut (now (l .entry))) (upto (now (l .entry))) 0 ⌝ }
 {
@@ -229,7 +229,16 @@ fn find_line(s: &[u8], at: usize) -> Line
     }
 }
 
-// A sheet and a place in it. Few functions are over it, each proved by a walk; the work is in `find_line`.
+// Where the line after the one at a place starts: the same place where the layout of that one is wrong.
+fn next_start(s: &[u8], at: usize) -> usize
+    ensures { λ r. ⌜ r ≡ nextAt (now (s .entry)) at ⌝ }
+{
+    let line = find_line(s, at);
+    if line.ok { line.next } else { at }
+}
+
+// A sheet and a place in it. Few functions are over it, each proved by a walk; the work is in `find_line`
+// and `next_start`.
 pub struct LineReader<'a> {
     pub src: &'a [u8],
     pub at: usize,
@@ -246,6 +255,15 @@ pub fn next<'a>(r: LineReader<'a>) -> Line
     ensures { λ l. ⌜ l ≡ lineAt (now (r .entry .src)) (r .entry .at) ⌝ }
 {
     find_line(r.src, r.at)
+}
+
+// The reader after its line: of the same sheet, at the place where the next line starts; at the same place where the
+// line's layout is wrong.
+pub fn advance<'a>(r: LineReader<'a>) -> LineReader<'a>
+    ensures { λ n. ⌜ (n .src ≡ r .entry .src) × (n .at ≡ nextAt (now (r .entry .src)) (r .entry .at)) ⌝ }
+{
+    let at = next_start(r.src, r.at);
+    LineReader { src: r.src, at }
 }
 
 // The line that starts at a place, by a reader: who calls this needs no walk.

@@ -12,7 +12,7 @@ use Rattle.statement.specs.declared.Statement.{Statement}
 use Rattle.rules.specs.State.{State, Placer}
 use Rattle.rules.specs.Reasons.{counted, named, roomed, warped, sized, permitted, placed, reads, listed, inside, cleared, openRules, closedRules, rules}
 use Rattle.rules.specs.Sheet.{Line, badLayout, noForm, tooLarge, statement, lineRules}
-use Rattle.rules.specs.Claims.{AllKept, FirstIs, ascends}
+use Rattle.rules.specs.Claims.{AllKept, FirstIs, ascends, InOrder}
 use Rattle.rules.proofs.CountingLaws.{and-l, and-r, clash}
 
 -- the numbers are from 1 to m
@@ -96,9 +96,17 @@ line-numbered place s tooLarge = by-test 15 (rule 4 false ∷ []) refl
 line-numbered place s (statement w t) = (omega arith, (omega arith, rules-numbered place s w t))
 
 -- the published order of a line is that of the numbers
-pub in-order : (place : Placer) (s : State) (w : ℕ) (t : Statement) → (ascends 4 (openRules place s w t) ≡ true) × (ascends 4 (closedRules t) ≡ true)
+order-by : (exited : Bool) (place : Placer) (s : State) (w : ℕ) (t : Statement) → ascends 2 (cond exited (closedRules t) (openRules place s w t)) ≡ true
 unfolding openRules closedRules
-in-order place s w t = (refl, refl)
+order-by true place s w t = refl
+order-by false place s w t = refl
+
+pub in-order : (place : Placer) (s : State) (x : Line) → InOrder place s x
+unfolding rules
+in-order place s badLayout = refl
+in-order place s noForm = refl
+in-order place s tooLarge = refl
+in-order place s (statement w t) = order-by (s .exited) place s w t
 
 -- ---- a statement that keeps every rule
 pub record Accepted (place : Placer) (s : State) (w : ℕ) (t : Statement) : Type 0 where

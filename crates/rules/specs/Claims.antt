@@ -10,9 +10,9 @@ use lib.Dec.{leb, ltb, eqb}
 use lib.ListN.{length}
 use Rattle.laws.specs.Rules.{Rule, rule}
 use Rattle.tokens.specs.declared.Name.{Name}
-use Rattle.rules.specs.State.{State, Allocation, isLive, isBound, isFree, lowest, total}
+use Rattle.rules.specs.State.{State, Placer, Allocation, isLive, isBound, isFree, lowest, total}
 use Rattle.rules.specs.Reasons.{isExit}
-use Rattle.rules.specs.Sheet.{Line, badLayout, noForm, tooLarge, statement, Sheet, Placing, stateBy, startsBy, rulesBy, stopBy, answerBy}
+use Rattle.rules.specs.Sheet.{Line, badLayout, noForm, tooLarge, statement, lineRules, Sheet, Placing, stateBy, startsBy, rulesBy, stopBy, answerBy}
 
 -- ---- lists of rules
 -- every rule is kept
@@ -31,6 +31,10 @@ pub record FirstIs (number : ℕ) (rs : List Rule) : Type 0 where
 abbrev pub ascends : ℕ → List Rule → Bool
 ascends m [] = true
 ascends m (rule number kept ∷ rs) = cond (ltb m number) (ascends number rs) false
+
+-- the rules of a line stand in the order of their numbers, so the first that is broken has the lowest number
+abbrev pub InOrder : Placer → State → Line → Type 0
+InOrder place s x = ascends 1 (lineRules place s x) ≡ true
 
 -- ---- the placing
 -- each of that many columns from a start on is below 512 and in no live allocation

@@ -261,7 +261,7 @@ inside s FenceAfter = true
 inside s (Multiply m) = all (allEnd s m)
 inside s Exit = true
 
--- ---- reason 15: exit with columns held
+-- ---- reason 15: exit with columns held (that the columns of the live allocations are those asked for less those given back is `figures-exact`)
 abbrev pub isExit : Statement → Bool
 isExit (Mov32 n v) = false
 isExit (Mov64 n v) = false

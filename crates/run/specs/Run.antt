@@ -1,5 +1,5 @@
 -- Document 01, 'The run': what statements do to an empty memory of 512 columns under a list of starts. It shares with the rules the typed
--- statement and the table of cells alone (and plain counting). Assumes nothing.
+-- statement, when names are the same and the table of cells alone (and plain counting). Assumes nothing.
 use Prim.Native.Nat.{ℕ, zero, suc, _+_, _*_, _/_, _%_, _^_, max}
 use mathlib.Core.Bool.{Bool, true, false, not, _&&_, _||_, cond}
 use mathlib.Core.List.{List, [], _∷_, _++_}

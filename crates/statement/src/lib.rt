@@ -131,9 +131,3 @@ pub struct CountRead {
     pub value: usize,
     pub next: Cursor,
 }
-
-// What has been written so far, in a buffer beside it: how many bytes, and whether all could be.
-pub struct Output {
-    pub at: usize,
-    pub ok: bool,
-}
