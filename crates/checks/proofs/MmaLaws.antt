@@ -1,0 +1,193 @@
+-- The tests of an mma are those of its rules: names by the slots and the table, descriptors by their numbers. Assumes nothing.
+use Prim.Native.Nat.{ℕ, _+_, _/_, _%_, _^_, _<_}
+use native.Mathlib.Omega.{arith}
+use mathlib.Core.Path.{_≡_, refl, sym, ap, _∙_}
+use mathlib.Core.Bool.{Bool, true, false, not, _&&_, cond}
+use mathlib.Core.List.{List, [], _∷_}
+use lib.Dec.{leb, eqb}
+use borrow.Author.Tests.{eqb-true}
+use Rattle.laws.specs.Tests.{all}
+use Rattle.laws.specs.Rules.{firstBroken}
+use Rattle.tokens.specs.declared.Name.{Name}
+use Rattle.instruction.specs.declared.FieldsRead.{FieldsRead}
+use Rattle.instruction.specs.declared.InstructionRead.{InstructionRead}
+use Rattle.instruction.specs.Instruction as instruction
+use Rattle.shared_memory.specs.declared.SharedRead.{SharedRead}
+use Rattle.shared_memory.specs.Shared as shared
+use Rattle.statement.specs.declared.Address.{Address}
+use Rattle.statement.specs.declared.Mma.{Mma}
+use Rattle.statement.specs.declared.Statement.the-variants.{Multiply}
+use Rattle.statement.specs.Canonical.{sparse}
+use Rattle.rules.specs.State.{State, lowest, isLive, columnsOf, widthOf, numberOf}
+use Rattle.rules.specs.Reasons.{laneOf, columnOf, sharedReads, mmaEnds, operandNamed, metadataNamed, operandReads, operandEnds, metadataEnds, mmaNamed, mmaReads, allEnd, instructionOf, openRules, counted, named, roomed, warped, sized, permitted, placed, reads, listed, inside, cleared}
+use Rattle.rules.proofs.CountingLaws.{clash}
+use Rattle.ledger.specs.declared.Span.{Span}
+use Rattle.ledger.specs.Booking.{findIn}
+use Rattle.ledger.specs.Shows.{Slots}
+use Rattle.bindings.specs.declared.Value.{Value}
+use Rattle.bindings.specs.Table.{valueIn}
+use Rattle.bindings.specs.Shows as bindings
+use Rattle.checks.specs.declared.Asked.{Asked}
+use Rattle.checks.specs.Tables.{Tables, table}
+use Rattle.checks.specs.Checks.{asked, Operands}
+use Rattle.checks.proofs.AccessLaws.{found-columns, found-live}
+
+-- ---- the tests of an operand
+asked-path : (a b c d e f : Bool) → a ≡ d → b ≡ e → c ≡ f → asked a b c ≡ asked d e f
+asked-path a b c d e f p q r = cc
+
+pub address-asked : (s : State) (hi lo columns : List ℕ) (h : Slots hi lo columns (s .live)) (a : Address) (needed : ℕ)
+    (span : Span) → span ≡ findIn hi lo columns (a .base)
+    → (end : Bool) → end ≡ eqb (laneOf a) 0 && leb (columnOf a + needed) (span .columns)
+    → asked (not (eqb (span .columns) 0)) true end ≡ asked (isLive (a .base) (s .live)) true (mmaEnds s a needed)
+address-asked s hi lo columns h a needed span p end q =
+    asked-path (not (eqb (span .columns) 0)) true end (isLive (a .base) (s .live)) true (mmaEnds s a needed)
+    (ap (λ (x : Span). not (eqb (x .columns) 0)) p ∙ found-live hi lo columns (s .live) h (a .base))
+    refl
+    (q ∙ ap (λ (x : Span). eqb (laneOf a) 0 && leb (columnOf a + needed) (x .columns)) p
+    ∙ ap (λ (x : ℕ). eqb (laneOf a) 0 && leb (columnOf a + needed) x) (found-columns hi lo columns (s .live) h (a .base)))
+
+pub descriptor-asked : (s : State) (hi lo numbers widths : List ℕ) (h : bindings.Shows (table hi lo numbers widths) (s .values)) (n : Name)
+    (v : Value) → v ≡ valueIn hi lo numbers widths n
+    → (d : SharedRead) → d ≡ shared.decoded (v .number)
+    → asked (eqb (v .width) 64) (eqb (d .reason) 0) true ≡ asked (eqb (widthOf n (s .values)) 64) (sharedReads s n) true
+descriptor-asked s hi lo numbers widths h n v p d q =
+    asked-path (eqb (v .width) 64) (eqb (d .reason) 0) true (eqb (widthOf n (s .values)) 64) (sharedReads s n) true
+    (ap (λ (x : Value). eqb (x .width) 64) (p ∙ h .value n))
+    (ap (λ (x : SharedRead). eqb (x .reason) 0) q ∙ ap (λ (x : Value). eqb (shared.decoded (x .number) .reason) 0) (p ∙ h .value n))
+    refl
+
+-- ---- the rules of an mma
+abbrev ordered : Bool → Bool → Bool → Bool → ℕ
+ordered name read list end = cond name (cond read (cond list (cond end 0 14) 13) 12) 6
+
+mma-rules : (s : State) (w : ℕ) (m : Mma)
+    → firstBroken (openRules lowest s w (Multiply m)) ≡ ordered (named s (Multiply m)) (reads s (Multiply m)) (listed s (Multiply m)) (inside s (Multiply m))
+unfolding openRules counted roomed warped sized permitted placed cleared
+mma-rules s w m = refl
+
+both : (a b c d : Bool) → a ≡ c → b ≡ d → a && b ≡ c && d
+both a b c d p q = cc
+
+last : (a b : Bool) → a && b ≡ true → b ≡ true
+last true b e = e
+last false b e = absurd (clash e refl)
+
+-- what was found in the tables is what the state has
+pub operands : (s : State) (hi lo columns valueHi valueLo numbers widths : List ℕ) (h : Tables hi lo columns valueHi valueLo numbers widths s) (m : Mma)
+    (d : Span) → d ≡ findIn hi lo columns (m .d .base)
+    → (a : Asked) → a ≡ asked (operandNamed s (m .a)) (operandReads s (m .a)) (operandEnds s (m .a))
+    → (b : Asked) → b ≡ asked (eqb (widthOf (m .b) (s .values)) 64) (sharedReads s (m .b)) true
+    → (e : Asked) → e ≡ asked (metadataNamed s (m .metadata)) true (metadataEnds s (m .metadata))
+    → (v : Value) → v ≡ valueIn valueHi valueLo numbers widths (m .idesc) → Operands m (d .columns) a b e v s
+operands s hi lo columns valueHi valueLo numbers widths h m d pd a pa b pb e pe v pv = record {
+  live = ap (λ (x : Span). not (eqb (x .columns) 0)) pd ∙ found-live hi lo columns (s .live) (h .slots) (m .d .base);
+  size = ap (λ (x : Span). x .columns) pd ∙ found-columns hi lo columns (s .live) (h .slots) (m .d .base);
+  operand = pa;
+  descriptor = pb;
+  metadata = pe;
+  width = width-is;
+  number = number-is;
+  narrow = λ t. let u : widthOf (m .idesc) (s .values) ≡ 32 = sym width-is ∙ t in omega (arith, number-is, h .narrow (m .idesc) u);
+}
+  where
+    width-is : v .width ≡ widthOf (m .idesc) (s .values)
+    width-is = ap (λ (x : Value). x .width) (pv ∙ h .values .value (m .idesc))
+
+    number-is : v .number ≡ numberOf (m .idesc) (s .values)
+    number-is = ap (λ (x : Value). x .number) (pv ∙ h .values .value (m .idesc))
+
+module _ (s : State) (w : ℕ) (m : Mma) (columns : ℕ) (a b e : Asked) (v : Value) (o : Operands m columns a b e v s) where
+  -- reason 6
+  abbrev names : Bool
+  names = (((not (eqb columns 0) && a .named) && b .named) && e .named) && eqb (v .width) 32
+
+  named-is : names ≡ named s (Multiply m)
+  unfolding named
+  named-is =
+      both _ _ _ _
+      (both _ _ _ _
+      (both _ _ _ _
+      (both _ _ _ _ (o .live) (ap (λ (x : Asked). x .named) (o .operand)))
+      (ap (λ (x : Asked). x .named) (o .descriptor)))
+      (ap (λ (x : Asked). x .named) (o .metadata)))
+      (ap (λ (x : ℕ). eqb x 32) (o .width))
+
+  pub mma-6 : names ≡ false → 6 ≡ firstBroken (openRules lowest s w (Multiply m))
+  mma-6 t =
+      ap (λ (x : Bool). ordered x (reads s (Multiply m)) (listed s (Multiply m)) (inside s (Multiply m))) (sym t ∙ named-is) ∙ sym (mma-rules s w m)
+
+  -- reason 12: a 32-bit value is the word
+  module _ (n : names ≡ true) (word : ℕ) (pw : word ≡ v .number % 2 ^ 32) (sp : Bool) (ps : sp ≡ sparse (m .metadata))
+      (i : FieldsRead) (pi : i ≡ instruction.fieldsRead (instruction.decoded (m .kind) (m .ws) sp word)) where
+    small : v .number < 2 ^ 32
+    small = o .narrow (eqb-true (v .width) 32 (last (((not (eqb columns 0) && a .named) && b .named) && e .named) (eqb (v .width) 32) n))
+
+    word-is : word ≡ numberOf (m .idesc) (s .values)
+    word-is = omega (arith, pw, small, o .number)
+
+    decoded-is : instruction.decoded (m .kind) (m .ws) sp word ≡ instructionOf s m
+    unfolding instructionOf
+    decoded-is = rw (ps, word-is)
+
+    read-is : i ≡ instruction.fieldsRead (instructionOf s m)
+    read-is = pi ∙ ap instruction.fieldsRead decoded-is
+
+    abbrev descriptors : Bool
+    descriptors = (a .reads && b .reads) && eqb (i .reason) 0
+
+    reads-is : descriptors ≡ reads s (Multiply m)
+    unfolding reads
+    reads-is =
+        both _ _ _ _
+        (both _ _ _ _ (ap (λ (x : Asked). x .reads) (o .operand)) (ap (λ (x : Asked). x .reads) (o .descriptor)))
+        (ap (λ (x : FieldsRead). eqb (x .reason) 0) read-is)
+
+    after-6 : (x : ℕ) → x ≡ ordered true descriptors (listed s (Multiply m)) (inside s (Multiply m)) → x ≡ firstBroken (openRules lowest s w (Multiply m))
+    after-6 x p =
+        p
+        ∙ ap (λ (y : Bool). ordered y descriptors (listed s (Multiply m)) (inside s (Multiply m))) (sym n ∙ named-is)
+        ∙ ap (λ (y : Bool). ordered (named s (Multiply m)) y (listed s (Multiply m)) (inside s (Multiply m))) reads-is
+        ∙ sym (mma-rules s w m)
+
+    pub mma-12 : descriptors ≡ false → 12 ≡ firstBroken (openRules lowest s w (Multiply m))
+    mma-12 t = after-6 12 (ap (λ (y : Bool). ordered true y (listed s (Multiply m)) (inside s (Multiply m))) (sym t))
+
+    -- reason 13: the word has a reading, so its reason is that of the listing
+    module _ (r : descriptors ≡ true) (j : ℕ) (pj : j ≡ instruction.wordReason (m .kind) (m .ws) sp word) where
+      reason-is : eqb (instructionOf s m .reason) 0 ≡ true
+      reason-is = sym (ap (λ (x : FieldsRead). eqb (x .reason) 0) read-is) ∙ last (a .reads && b .reads) (eqb (i .reason) 0) r
+
+      listed-is : eqb j 0 ≡ listed s (Multiply m)
+      unfolding listed
+      listed-is =
+          ap (λ (x : ℕ). eqb x 0) pj
+          ∙ ap (λ (x : InstructionRead). eqb (instruction.readReason (m .kind) (m .ws) x) 0) decoded-is
+          ∙ ap (λ (x : Bool). eqb (cond x (firstBroken (instruction.listing (m .kind) (m .ws) (instruction.fields (instructionOf s m .descriptor)))) (instructionOf s m .reason)) 0) reason-is
+
+      after-12 : (x : ℕ) → x ≡ ordered true true (eqb j 0) (inside s (Multiply m)) → x ≡ firstBroken (openRules lowest s w (Multiply m))
+      after-12 x p =
+          after-6 x (p
+          ∙ ap (λ (y : Bool). ordered true y (eqb j 0) (inside s (Multiply m))) (sym r)
+          ∙ ap (λ (y : Bool). ordered true descriptors y (inside s (Multiply m))) listed-is)
+
+      pub mma-13 : eqb j 0 ≡ false → 13 ≡ firstBroken (openRules lowest s w (Multiply m))
+      mma-13 t = after-12 13 (ap (λ (y : Bool). ordered true true y (inside s (Multiply m))) (sym t))
+
+      -- reason 14, or none
+      module _ (within : Bool) (q : within ≡ eqb (laneOf (m .d)) 0 && leb (columnOf (m .d) + i .fields .n) columns) where
+        within-is : within ≡ mmaEnds s (m .d) (instructionOf s m .descriptor .n)
+        within-is =
+            q
+            ∙ ap (λ (x : FieldsRead). eqb (laneOf (m .d)) 0 && leb (columnOf (m .d) + x .fields .n) columns) read-is
+            ∙ ap (λ (x : ℕ). eqb (laneOf (m .d)) 0 && leb (columnOf (m .d) + instructionOf s m .descriptor .n) x) (o .size)
+
+        inside-is : (within && a .ends) && e .ends ≡ inside s (Multiply m)
+        unfolding inside
+        inside-is = both _ _ _ _ (both _ _ _ _ within-is (ap (λ (x : Asked). x .ends) (o .operand))) (ap (λ (x : Asked). x .ends) (o .metadata))
+
+        pub mma-end : eqb j 0 ≡ true → (t : Bool) → (within && a .ends) && e .ends ≡ t → cond t 0 14 ≡ firstBroken (openRules lowest s w (Multiply m))
+        mma-end l t p =
+            after-12 (cond t 0 14)
+            (ap (λ (y : Bool). ordered true true true y) (sym p ∙ inside-is)
+            ∙ ap (λ (y : Bool). ordered true true y (inside s (Multiply m))) (sym l))

@@ -1,0 +1,262 @@
+// What a ld, a st or an mma is refused for, by tables that are left where they are.
+ghost use mathlib.Core.Path.{_≡_};
+ghost use mathlib.Core.Bool.{_&&_, _||_};
+ghost use Prim.Native.Nat.{_+_, _*_, _/_, _%_, _^_, _≤_};
+ghost use lib.Dec.{eqb, leb};
+ghost use Rattle.laws.specs.Rules.{firstBroken};
+ghost use Rattle.statement.specs.Canonical.{sparse};
+ghost use Rattle.statement.specs.Cells.{columnsOf};
+ghost use Rattle.rules.specs.Reasons.{closedRules};
+ghost use Rattle.checks.specs.Checks.{AccessJudged, AddressAsked, DescriptorAsked, OperandAsked, MetadataAsked, OperandsJudged, MmaJudged};
+use bindings::Value;
+use statement::Access;
+use statement::Address;
+use statement::Metadata;
+use statement::Mma;
+use statement::Num;
+use statement::Operand;
+use statement::Shape;
+use statement::Statement;
+use tokens::Name;
+
+// What is asked of an operand of an mma: a name of its sort, a descriptor that reads, and columns inside the allocation.
+pub struct Asked {
+    pub named: bool,
+    pub reads: bool,
+    pub ends: bool,
+}
+
+// The lane of an offset is the warp's: 32w, or for a shape of 16 lanes 32w + 16 too.
+fn is_lane(warp: u8, lanes: usize, offset: u32) -> bool
+    ensures { λ r. ⌜ r ≡ eqb (offset / 65536) (32 * warp) || (eqb lanes 16 && eqb (offset / 65536) (32 * warp + 16)) ⌝ }
+{
+    let lane = offset / 65536;
+    let first = 32 * (warp as u32);
+    (lane == first) | ((lanes == 16) & (lane == first + 16))
+}
+
+// Some columns from an offset's column on are among those of an allocation.
+fn ends_within(offset: u32, needed: u32, columns: u32) -> bool
+    ensures { λ r. ⌜ r ≡ leb (offset % 65536 + needed) columns ⌝ }
+{
+    let column = (offset % 65536) as u64;
+    column + (needed as u64) <= (columns as u64)
+}
+
+// The same, and the lane is 0.
+fn mma_within(offset: u32, needed: u32, columns: u32) -> bool
+    ensures { λ r. ⌜ r ≡ eqb (offset / 65536) 0 && leb (offset % 65536 + needed) columns ⌝ }
+{
+    (offset / 65536 == 0) & ends_within(offset, needed, columns)
+}
+
+// The columns of an access.
+fn columns_needed(shape: Shape, num: Num) -> u32
+    ensures { λ r. ⌜ r ≡ columnsOf shape num ⌝ }
+{
+    cells::columns(shape, num) as u32
+}
+
+// The reason of a ld or st: 5, 6, 8 or 14, else 0.
+pub fn access_reason<'a>(
+    hi: &'a [u64; 16],
+    lo: &'a [u64; 16],
+    columns: &'a [u16; 16],
+    warp: u8,
+    a: Access,
+) -> u32
+    ensures { λ r. ⌜ AccessJudged (now (hi .entry)) (now (lo .entry)) (now (columns .entry)) warp a r ⌝ }
+{
+    if cells::is_miscounted(a) {
+        return 5;
+    }
+    let address = a.address;
+    let base = address.base;
+    let span = ledger::find_in(hi, lo, columns, base);
+    if span.columns == 0 {
+        return 6;
+    }
+    let shape = a.shape;
+    let num = a.num;
+    if !is_lane(warp, cells::lanes(shape), address.offset) {
+        return 8;
+    }
+    if ends_within(address.offset, columns_needed(shape, num), span.columns) {
+        0
+    } else {
+        14
+    }
+}
+
+// Reason 5 of any statement, else 15: what a line after exit is refused for.
+pub fn closed_reason(t: Statement) -> u32
+    ensures { λ r. ⌜ r ≡ firstBroken (closedRules t) ⌝ }
+{
+    match t {
+        Statement::Load(a) => if cells::is_miscounted(a) { 5 } else { 15 },
+        Statement::Store(a) => if cells::is_miscounted(a) { 5 } else { 15 },
+        Statement::Mov32(_, _) => 15,
+        Statement::Mov64(_, _) => 15,
+        Statement::Alloc(_, _) => 15,
+        Statement::Dealloc(_, _) => 15,
+        Statement::Relinquish => 15,
+        Statement::WaitLoad => 15,
+        Statement::WaitStore => 15,
+        Statement::FenceBefore => 15,
+        Statement::FenceAfter => 15,
+        Statement::Multiply(_) => 15,
+        Statement::Exit => 15,
+    }
+}
+
+// An address of an mma that needs some columns.
+fn address_asked<'a>(
+    hi: &'a [u64; 16],
+    lo: &'a [u64; 16],
+    columns: &'a [u16; 16],
+    a: Address,
+    needed: u32,
+) -> Asked
+    ensures { λ r. ⌜ AddressAsked (now (hi .entry)) (now (lo .entry)) (now (columns .entry)) a needed r ⌝ }
+{
+    let base = a.base;
+    let span = ledger::find_in(hi, lo, columns, base);
+    Asked {
+        named: span.columns != 0,
+        reads: true,
+        ends: mma_within(a.offset, needed, span.columns),
+    }
+}
+
+// The name of a shared memory descriptor.
+fn descriptor_asked<'a>(
+    hi: &'a [u64; 128],
+    lo: &'a [u64; 128],
+    numbers: &'a [u64; 128],
+    widths: &'a [u8; 128],
+    name: Name,
+) -> Asked
+    ensures { λ r. ⌜ DescriptorAsked (now (hi .entry)) (now (lo .entry)) (now (numbers .entry)) (now (widths .entry)) name r ⌝ }
+{
+    let v = bindings::lookup_in(hi, lo, numbers, widths, name);
+    let d = shared_memory::decode(v.number);
+    Asked {
+        named: v.width == 64,
+        reads: d.reason == 0,
+        ends: true,
+    }
+}
+
+// Operand a.
+fn operand_asked<'a>(
+    hi: &'a [u64; 16],
+    lo: &'a [u64; 16],
+    columns: &'a [u16; 16],
+    value_hi: &'a [u64; 128],
+    value_lo: &'a [u64; 128],
+    numbers: &'a [u64; 128],
+    widths: &'a [u8; 128],
+    a: Operand,
+) -> Asked
+    ensures { λ r. ⌜ OperandAsked (now (hi .entry)) (now (lo .entry)) (now (columns .entry)) (now («value_hi» .entry)) (now («value_lo» .entry)) (now (numbers .entry)) (now (widths .entry)) a r ⌝ }
+{
+    match a {
+        Operand::Descriptor(name) => descriptor_asked(value_hi, value_lo, numbers, widths, name),
+        Operand::Address(address) => address_asked(hi, lo, columns, address, 8),
+    }
+}
+
+// The metadata of a sparse a.
+fn metadata_asked<'a>(
+    hi: &'a [u64; 16],
+    lo: &'a [u64; 16],
+    columns: &'a [u16; 16],
+    metadata: Metadata,
+) -> Asked
+    ensures { λ r. ⌜ MetadataAsked (now (hi .entry)) (now (lo .entry)) (now (columns .entry)) metadata r ⌝ }
+{
+    match metadata {
+        Metadata::Dense => Asked {
+            named: true,
+            reads: true,
+            ends: true,
+        },
+        Metadata::Sparse(address) => address_asked(hi, lo, columns, address, 2),
+    }
+}
+
+fn is_sparse(metadata: Metadata) -> bool
+    ensures { λ r. ⌜ r ≡ sparse metadata ⌝ }
+{
+    match metadata {
+        Metadata::Dense => false,
+        Metadata::Sparse(_) => true,
+    }
+}
+
+// The low 32 bits.
+fn low(number: u64) -> u32
+    ensures { λ r. ⌜ r ≡ number % 2 ^ 32 ⌝ }
+{
+    (number % 4294967296) as u32
+}
+
+// The reason of an mma from the columns of d and what is asked of the operands a and b and of the metadata e; `v` is the
+// value of idesc.
+fn operands_reason(m: Mma, columns: u32, a: Asked, b: Asked, e: Asked, v: Value) -> u32
+    ensures { λ r. ⌜ OperandsJudged m columns a b e v r ⌝ }
+{
+    if !((columns != 0) & a.named & b.named & e.named & (v.width == 32)) {
+        return 6;
+    }
+    let address = m.d;
+    let metadata = m.metadata;
+    let kind = m.kind;
+    let word = low(v.number);
+    let sp = is_sparse(metadata);
+    let i = instruction::decode_fields(kind, m.ws, sp, word);
+    if !(a.reads & b.reads & (i.reason == 0)) {
+        return 12;
+    }
+    if instruction::judge(kind, m.ws, sp, word) != 0 {
+        return 13;
+    }
+    if mma_within(address.offset, i.fields.n, columns) & a.ends & e.ends {
+        0
+    } else {
+        14
+    }
+}
+
+// The reason of an mma: 6, 12, 13 or 14, else 0.
+pub fn mma_reason<'a>(
+    hi: &'a [u64; 16],
+    lo: &'a [u64; 16],
+    columns: &'a [u16; 16],
+    value_hi: &'a [u64; 128],
+    value_lo: &'a [u64; 128],
+    numbers: &'a [u64; 128],
+    widths: &'a [u8; 128],
+    m: Mma,
+) -> u32
+    ensures { λ r. ⌜ MmaJudged (now (hi .entry)) (now (lo .entry)) (now (columns .entry)) (now («value_hi» .entry)) (now («value_lo» .entry)) (now (numbers .entry)) (now (widths .entry)) m r ⌝ }
+{
+    let address = m.d;
+    let operand = m.a;
+    let metadata = m.metadata;
+    let d = ledger::find_in(hi, lo, columns, address.base);
+    let a = operand_asked(
+        hi,
+        lo,
+        columns,
+        value_hi,
+        value_lo,
+        numbers,
+        widths,
+        operand,
+    );
+    let b = descriptor_asked(value_hi, value_lo, numbers, widths, m.b);
+    let e = metadata_asked(hi, lo, columns, metadata);
+    let v = bindings::lookup_in(value_hi, value_lo, numbers, widths, m.idesc);
+    operands_reason(m, d.columns, a, b, e, v)
+}

@@ -1,0 +1,532 @@
+-- What each arm of a statement gives, from any state that is kept: the claims of the ledger and of the table of value names give reasons and next states,
+-- and a refusal changes nothing. Assumes nothing.
+use Prim.Native.Nat.{ℕ, _*_, _^_, _≤_, _<_}
+use mathlib.Core.Path.{_≡_, refl, sym, ap, _∙_, subst}
+use mathlib.Core.Bool.{Bool, true, false, not, cond}
+use mathlib.Core.List.{List, [], _∷_}
+use mathlib.Core.Logic.{_⊎_, inl, inr}
+use native.Mathlib.Omega.{arith}
+use lib.Dec.{eqb}
+use lib.ListN.{set}
+use borrow.Author.Tests.{eq-eqb, ne-eqb, eqb-true, eqb-false}
+use Rattle.laws.specs.Rules.{firstBroken}
+use Rattle.tokens.specs.declared.Name.{Name}
+use Rattle.tokens.specs.Names.{sameName}
+use Rattle.statement.specs.declared.Access.{Access}
+use Rattle.statement.specs.declared.Mma.{Mma}
+use Rattle.statement.specs.declared.Statement.{Statement}
+use Rattle.statement.specs.declared.Statement.the-variants.{Mov32, Mov64, Alloc, Dealloc, Relinquish, Load, Store, WaitLoad, WaitStore, FenceBefore, FenceAfter, Multiply, Exit}
+use Rattle.request.specs.Request.{legal}
+use Rattle.rules.specs.State.{State, Binding, lowest, isLive, isBound, widthOf, numberOf, bind}
+use Rattle.rules.specs.Reasons.{openRules, closedRules, rules, counted, named, roomed, warped, sized, permitted, placed, reads, listed, inside, cleared}
+use Rattle.rules.specs.Sheet.{statement, effect, given, requested, released, moved, startList}
+use Rattle.search.proofs.NameLaws.{same-true}
+use Rattle.ledger.specs.declared.Ledger.{Ledger}
+use Rattle.ledger.specs.declared.Booked.{Booked}
+use Rattle.ledger.specs.declared.Span.{Span}
+use Rattle.ledger.specs.Slots.{total}
+use Rattle.ledger.specs.Booking.{slot, releaseRules, relinquishRules, withoutAllocation, afterRelinquish, allocOf, releaseOf, relinquishOf, findIn, findOf}
+use Rattle.ledger.specs.Shows as ledger
+use Rattle.ledger.proofs.BookingLaws.{legal-range}
+use Rattle.ledger.proofs.ShowLaws as ledger-laws
+use Rattle.bindings.specs.declared.Bindings.{Bindings}
+use Rattle.bindings.specs.declared.Bound.{Bound}
+use Rattle.bindings.specs.declared.Value.{Value}
+use Rattle.bindings.specs.Table.{entryOf, written, bindOf, valueIn}
+use Rattle.bindings.specs.Shows as bindings
+use Rattle.bindings.proofs.EntryLaws.{bind-here, bind-full}
+use Rattle.bindings.proofs.ShowLaws as bindings-laws
+use Rattle.checks.specs.Tables.{table}
+use Rattle.checks.specs.Checks.{AccessJudged, MmaJudged}
+use Rattle.steps.specs.declared.Status.{Status}
+use Rattle.steps.specs.declared.Step.{Step}
+use Rattle.steps.specs.Steps.{Arrays, arrays, Kept, Gives, StatementDone, OpenDone, MovDone, only, ledgerOf, stored, stepOf, exitOf}
+
+-- ---- nothing changes
+-- a refusal
+refused-gives : (a : Arrays) (status : Status) (R reason : ℕ) (next : State) (starts : List ℕ) (asked returned : ℕ) → reason ≡ R → (reason ≡ 0 → ⊥)
+    → Gives R next starts asked returned a status (only status reason) a
+refused-gives a status R reason next starts asked returned e z = record {
+  reasons = e;
+  keeps = λ y. absurd (z y);
+  starting = λ y. absurd (z y);
+  asks = λ y. absurd (z y);
+  returns = λ y. absurd (z y);
+  no-start = λ y. absurd (z y);
+  unchanged = λ y. (refl, refl);
+}
+
+-- a statement that does nothing, accepted or refused
+quiet-gives : (a : Arrays) (status : Status) (s : State) → Kept a status s → (R reason : ℕ) → reason ≡ R → Gives R s [] 0 0 a status (only status reason) a
+quiet-gives a status s k R reason e = record {
+  reasons = e;
+  keeps = λ y. k;
+  starting = λ y. refl;
+  asks = λ y. refl;
+  returns = λ y. refl;
+  no-start = λ y g. refl;
+  unchanged = λ y. (refl, refl);
+}
+
+-- ---- before and after exit
+open-is : (w : ℕ) (t : Statement) (a : Arrays) (status : Status) (r : Step) (after : Arrays) → status .exited ≡ false → OpenDone w t a status r after
+    → StatementDone w t a status r after
+unfolding rules
+open-is w t a status r after e d s k =
+    subst (λ (b : Bool). Gives (firstBroken (cond b (closedRules t) (openRules lowest s w t))) (effect lowest s w t) (given lowest s (statement w t)) (requested (statement w t)) (released (statement w t)) a status r after)
+    (sym e ∙ k .exited) (d s k)
+
+-- an arm of the match
+pub open-done : (w : ℕ) (t arm : Statement) → t ≡ arm → (a : Arrays) (status : Status) (r : Step) (after : Arrays) → status .exited ≡ false
+    → OpenDone w arm a status r after → StatementDone w t a status r after
+open-done w t arm f a status r after e d =
+    subst (λ (x : Statement). StatementDone w x a status r after) (sym f) (open-is w arm a status r after e d)
+
+five-or-fifteen : (b : Bool) → _≡_ {A = ℕ} (cond b 15 5) 0 → ⊥
+five-or-fifteen true e = absurd (omega arith)
+five-or-fifteen false e = absurd (omega arith)
+
+closed-not : (t : Statement) → firstBroken (closedRules t) ≡ 0 → ⊥
+unfolding closedRules
+closed-not t e = five-or-fifteen (counted t) e
+
+closed-only : (w : ℕ) (t : Statement) (a : Arrays) (status : Status) (reason : ℕ) → status .exited ≡ true → reason ≡ firstBroken (closedRules t)
+    → StatementDone w t a status (only status reason) a
+unfolding rules
+closed-only w t a status reason e f s k =
+    subst (λ (b : Bool). Gives (firstBroken (cond b (closedRules t) (openRules lowest s w t))) (effect lowest s w t) (given lowest s (statement w t)) (requested (statement w t)) (released (statement w t)) a status (only status reason) a)
+    (sym e ∙ k .exited)
+    (refused-gives a status (firstBroken (closedRules t)) reason (effect lowest s w t) (given lowest s (statement w t)) (requested (statement w t)) (released (statement w t)) f (λ y. closed-not t (sym f ∙ y)))
+
+pub closed-done : (w : ℕ) (t : Statement) (a : Arrays) (status : Status) (reason : ℕ) (r : Step) → status .exited ≡ true → reason ≡ firstBroken (closedRules t)
+    → r ≡ only status reason → StatementDone w t a status r a
+closed-done w t a status reason r e f p = subst (λ (x : Step). StatementDone w t a status x a) (sym p) (closed-only w t a status reason e f)
+
+-- ---- statements that do nothing
+module _ (w : ℕ) (a : Arrays) (status : Status) (r : Step) where
+  module _ (reason : ℕ) (p : r ≡ only status reason) where
+    pub load-done : (x : Access) → AccessJudged (a .hi) (a .lo) (a .columns) w x reason → OpenDone w (Load x) a status r a
+    unfolding effect given requested released
+    load-done x e = subst (λ (y : Step). OpenDone w (Load x) a status y a) (sym p)
+        (λ s k. quiet-gives a status s k _ reason (e s (k .tables .slots) .0))
+
+    pub store-done : (x : Access) → AccessJudged (a .hi) (a .lo) (a .columns) w x reason → OpenDone w (Store x) a status r a
+    unfolding effect given requested released
+    store-done x e = subst (λ (y : Step). OpenDone w (Store x) a status y a) (sym p)
+        (λ s k. quiet-gives a status s k _ reason (e s (k .tables .slots) .1))
+
+    pub multiply-done : (m : Mma) → MmaJudged (a .hi) (a .lo) (a .columns) (a .valueHi) (a .valueLo) (a .numbers) (a .widths) m reason → OpenDone w (Multiply m) a status r a
+    unfolding effect given requested released
+    multiply-done m e = subst (λ (y : Step). OpenDone w (Multiply m) a status y a) (sym p)
+        (λ s k. quiet-gives a status s k _ reason (e s w (k .tables)))
+
+  module _ (p : r ≡ only status 0) where
+    pub wait-load-done : OpenDone w WaitLoad a status r a
+    unfolding effect given requested released openRules counted named roomed warped sized permitted placed reads listed inside cleared
+    wait-load-done = subst (λ (y : Step). OpenDone w WaitLoad a status y a) (sym p) (λ s k. quiet-gives a status s k 0 0 refl)
+
+    pub wait-store-done : OpenDone w WaitStore a status r a
+    unfolding effect given requested released openRules counted named roomed warped sized permitted placed reads listed inside cleared
+    wait-store-done = subst (λ (y : Step). OpenDone w WaitStore a status y a) (sym p) (λ s k. quiet-gives a status s k 0 0 refl)
+
+    pub fence-before-done : OpenDone w FenceBefore a status r a
+    unfolding effect given requested released openRules counted named roomed warped sized permitted placed reads listed inside cleared
+    fence-before-done = subst (λ (y : Step). OpenDone w FenceBefore a status y a) (sym p) (λ s k. quiet-gives a status s k 0 0 refl)
+
+    pub fence-after-done : OpenDone w FenceAfter a status r a
+    unfolding effect given requested released openRules counted named roomed warped sized permitted placed reads listed inside cleared
+    fence-after-done = subst (λ (y : Step). OpenDone w FenceAfter a status y a) (sym p) (λ s k. quiet-gives a status s k 0 0 refl)
+
+-- ---- exit
+abbrev left : Status → Status
+left status = record { fixed = status .fixed; warp = status .warp; relinquished = status .relinquished; exited = true }
+
+exit-reason : (a : Arrays) (status : Status) (s : State) → Kept a status s → (w : ℕ) (b : Bool) → eqb (total (a .columns) 16) 0 ≡ b
+    → cond b 0 15 ≡ firstBroken (openRules lowest s w Exit)
+unfolding openRules counted named roomed warped sized permitted placed reads listed inside cleared
+exit-reason a status s k w b e = ap (λ (x : Bool). cond x 0 15) (sym e ∙ ap (λ (n : ℕ). eqb n 0) (k .tables .slots .sum))
+
+exit-by : (a : Arrays) (status : Status) (w : ℕ) (b : Bool) → eqb (total (a .columns) 16) 0 ≡ b
+    → OpenDone w Exit a status (cond b (only (left status) 0) (only status 15)) a
+unfolding effect given requested released
+exit-by a status w true e s k = record {
+  reasons = exit-reason a status s k w true e;
+  keeps = λ y. record {
+    tables = record { slots = k .tables .slots; values = k .tables .values; narrow = k .tables .narrow };
+    warp = k .warp;
+    relinquished = k .relinquished;
+    exited = refl;
+  };
+  starting = λ y. refl;
+  asks = λ y. refl;
+  returns = λ y. refl;
+  no-start = λ y g. refl;
+  unchanged = λ y. absurd (y refl);
+}
+exit-by a status w false e s k = refused-gives a status _ 15 _ _ _ _ (exit-reason a status s k w false e) (λ y. absurd (omega (arith, y)))
+
+pub exit-done : (w : ℕ) (a : Arrays) (status : Status) (r : Step) → r ≡ exitOf (total (a .columns) 16) status → OpenDone w Exit a status r a
+exit-done w a status r p =
+    subst (λ (y : Step). OpenDone w Exit a status y a) (sym p) (exit-by a status w (eqb (total (a .columns) 16) 0) refl)
+
+-- the two ways through
+module _ (held total : ℕ) (status : Status) (e : held ≡ total) where
+  pub exit-15 : (held ≡ 0 → ⊥) → (r : Step) → r ≡ only status 15 → r ≡ exitOf total status
+  exit-15 z r p = p ∙ ap (λ (b : Bool). cond {A = Step} b (only (left status) 0) (only status 15)) (sym (ne-eqb total 0 (λ y. z (e ∙ y))))
+
+  pub exit-0 : held ≡ 0 → (r : Step) → r ≡ only (left status) 0 → r ≡ exitOf total status
+  exit-0 z r p = p ∙ ap (λ (b : Bool). cond {A = Step} b (only (left status) 0) (only status 15)) (sym (eq-eqb total 0 (sym e ∙ z)))
+
+-- ---- bookings
+-- what `book` ensures
+abbrev BookDone : Booked → Status → (asked returned : ℕ) → (hi lo columns : List ℕ) → Step → (nextHi nextLo nextColumns : List ℕ) → Type 0
+BookDone b status asked returned hi lo columns r nextHi nextLo nextColumns =
+    (r ≡ stepOf b status asked returned)
+    × ((nextHi ≡ stored b (b .next .hi) hi) × (nextLo ≡ stored b (b .next .lo) lo) × (nextColumns ≡ stored b (b .next .columns) columns))
+
+-- what it answers where nothing is refused
+abbrev made : Booked → Status → (asked returned : ℕ) → Step
+made b status asked returned = record {
+  reason = 0;
+  start = b .start;
+  asked = asked;
+  returned = returned;
+  status = record { fixed = b .next .fixed; warp = b .next .warp; relinquished = b .next .relinquished; exited = status .exited };
+}
+
+-- the two ways through
+module _ (b : Booked) (status : Status) (asked returned : ℕ) (hi lo columns : List ℕ) where
+  pub book-refused : (b .reason ≡ 0 → ⊥) → (r : Step) → r ≡ only status (b .reason) → BookDone b status asked returned hi lo columns r hi lo columns
+  book-refused z r p =
+      let e = ne-eqb (b .reason) 0 z in (
+        p ∙ ap (λ (t : Bool). cond {A = Step} t (made b status asked returned) (only status (b .reason))) (sym e),
+        (
+          ap (λ (t : Bool). cond {A = List ℕ} t (b .next .hi) hi) (sym e),
+          ap (λ (t : Bool). cond {A = List ℕ} t (b .next .lo) lo) (sym e),
+          ap (λ (t : Bool). cond {A = List ℕ} t (b .next .columns) columns) (sym e),
+        ),
+      )
+
+  pub book-made : b .reason ≡ 0 → BookDone b status asked returned hi lo columns (made b status asked returned) (b .next .hi) (b .next .lo) (b .next .columns)
+  book-made z =
+      let e = eq-eqb (b .reason) 0 z in (
+        ap (λ (t : Bool). cond {A = Step} t (made b status asked returned) (only status (b .reason))) (sym e),
+        (
+          ap (λ (t : Bool). cond {A = List ℕ} t (b .next .hi) hi) (sym e),
+          ap (λ (t : Bool). cond {A = List ℕ} t (b .next .lo) lo) (sym e),
+          ap (λ (t : Bool). cond {A = List ℕ} t (b .next .columns) columns) (sym e),
+        ),
+      )
+
+-- a booking that gives no start
+start-if : (l next : Ledger) (reason : ℕ) (t : Bool)
+    → cond {A = Booked} t (record { next = next; reason = 0; start = 0 }) (record { next = l; reason = reason; start = 0 }) .start ≡ 0
+start-if l next reason true = refl
+start-if l next reason false = refl
+
+release-start : (l : Ledger) (n : Name) (w k : ℕ) → releaseOf l n w k .start ≡ 0
+unfolding releaseOf
+release-start l n w k = start-if l (withoutAllocation l (slot l n)) (firstBroken (releaseRules l n w k)) (eqb (firstBroken (releaseRules l n w k)) 0)
+
+relinquish-start : (l : Ledger) (w : ℕ) → relinquishOf l w .start ≡ 0
+unfolding relinquishOf
+relinquish-start l w = start-if l (afterRelinquish l w) (firstBroken (relinquishRules l w)) (eqb (firstBroken (relinquishRules l w)) 0)
+
+-- the arrays once a booking is stored
+abbrev storedIn : Arrays → Booked → Arrays
+storedIn a b =
+    arrays (stored b (b .next .hi) (a .hi)) (stored b (b .next .lo) (a .lo)) (stored b (b .next .columns) (a .columns)) (a .valueHi) (a .valueLo) (a .numbers) (a .widths)
+
+-- the ledger of the arrays and the status
+abbrev kept : Arrays → Status → Ledger
+kept a status = ledgerOf (a .hi) (a .lo) (a .columns) status
+
+module _ (a : Arrays) (status : Status) (s : State) (k : Kept a status s) where
+  shows : ledger.Shows (kept a status) s
+  shows = record { slots = k .tables .slots; warp = k .warp; relinquished = k .relinquished }
+
+  tells : ledger.Tells (kept a status) s
+  tells = ledger-laws.tells (kept a status) s shows
+
+  value-tells : bindings.Tells (table (a .valueHi) (a .valueLo) (a .numbers) (a .widths)) s
+  value-tells = bindings-laws.tells (table (a .valueHi) (a .valueLo) (a .numbers) (a .widths)) s (k .tables .values)
+
+  -- any booking, by what the claim of the ledger says of it
+  module _ (b : Booked) (R : ℕ) (next : State) (starts : List ℕ) (asked returned : ℕ) (e : b .reason ≡ R)
+      (f : b .reason ≡ 0 → ledger.Shows (b .next) next) (g : next .values ≡ s .values) (h : next .exited ≡ s .exited)
+      (i : b .reason ≡ 0 → starts ≡ cond (eqb asked 0) [] (b .start ∷ []))
+      (j : b .reason ≡ 0 → asked ≡ 0 → b .start ≡ 0)
+    where
+      made-gives : b .reason ≡ 0
+          → Gives R next starts asked returned a status (made b status asked returned)
+          (arrays (b .next .hi) (b .next .lo) (b .next .columns) (a .valueHi) (a .valueLo) (a .numbers) (a .widths))
+      made-gives z = record {
+        reasons = sym z ∙ e;
+        keeps = λ y. record {
+          tables = record {
+            slots = f z .slots;
+            values = subst (λ (v : List Binding). bindings.Shows (table (a .valueHi) (a .valueLo) (a .numbers) (a .widths)) v) (sym g) (k .tables .values);
+            narrow = subst (λ (v : List Binding). (n : Name) → widthOf n v ≡ 32 → numberOf n v < 2 ^ 32) (sym g) (k .tables .narrow);
+          };
+          warp = f z .warp;
+          relinquished = f z .relinquished;
+          exited = k .exited ∙ sym h;
+        };
+        asks = λ y. refl;
+        returns = λ y. refl;
+        starting = λ y. i z;
+        no-start = λ y. j z;
+        unchanged = λ y. absurd (y refl);
+      }
+
+      gives-if : (t : Bool) → eqb (b .reason) 0 ≡ t
+          → Gives R next starts asked returned a status (cond {A = Step} t (made b status asked returned) (only status (b .reason)))
+          (arrays (cond t (b .next .hi) (a .hi)) (cond t (b .next .lo) (a .lo)) (cond t (b .next .columns) (a .columns)) (a .valueHi) (a .valueLo) (a .numbers) (a .widths))
+      gives-if true t = made-gives (eqb-true (b .reason) 0 t)
+      gives-if false t = refused-gives a status R (b .reason) next starts asked returned e (eqb-false (b .reason) 0 t)
+
+      booked-gives : Gives R next starts asked returned a status (stepOf b status asked returned) (storedIn a b)
+      booked-gives = gives-if (eqb (b .reason) 0) refl
+
+-- a legal request is not for 0 columns
+sized-if : (b1 b2 b3 b4 b5 b6 b7 b8 b9 b10 b11 : Bool)
+    → _≡_ {A = ℕ} (cond b1 (cond b2 (cond b3 (cond b4 (cond b5 (cond b6 (cond b7 (cond b8 (cond b9 (cond b10 (cond b11 0 15) 14) 13) 12) 11) 10) 9) 8) 7) 6) 5) 0 → b5 ≡ true
+sized-if b1 b2 b3 b4 true b6 b7 b8 b9 b10 b11 e = refl
+sized-if true true true true false b6 b7 b8 b9 b10 b11 e = absurd (omega arith)
+sized-if true true true false false b6 b7 b8 b9 b10 b11 e = absurd (omega arith)
+sized-if true true false b4 false b6 b7 b8 b9 b10 b11 e = absurd (omega arith)
+sized-if true false b3 b4 false b6 b7 b8 b9 b10 b11 e = absurd (omega arith)
+sized-if false b2 b3 b4 false b6 b7 b8 b9 b10 b11 e = absurd (omega arith)
+
+asked-some : (s : State) (w : ℕ) (n : Name) (x : ℕ) → firstBroken (openRules lowest s w (Alloc n x)) ≡ 0 → eqb x 0 ≡ false
+unfolding openRules sized
+asked-some s w n x e =
+    let t : Statement = Alloc n x in
+    let l : legal x ≡ true =
+    sized-if (counted t) (named s t) (roomed s t) (warped s w t) (legal x) (permitted s t) (placed lowest s t) (reads s t) (listed s t) (inside s t) (cleared s t) e in
+    ne-eqb x 0 (λ z. absurd (omega (arith, z, legal-range x l .0)))
+
+-- alloc
+alloc-gives : (a : Arrays) (status : Status) (w : ℕ) (n : Name) (x : ℕ) → valueIn (a .valueHi) (a .valueLo) (a .numbers) (a .widths) n .width ≡ 0
+    → OpenDone w (Alloc n x) a status (stepOf (allocOf (kept a status) n w x) status x 0) (storedIn a (allocOf (kept a status) n w x))
+unfolding effect given requested released
+alloc-gives a status w n x e s k =
+    booked-gives a status s k (allocOf (kept a status) n w x) (firstBroken (openRules lowest s w (Alloc n x))) (effect lowest s w (Alloc n x)) (startList (lowest (s .live) x)) x 0
+    (sym same) (tells a status s k .allocated n w x) refl refl starting no-start
+  where
+    unbound : isBound n (s .values) ≡ false
+    unbound = sym (value-tells a status s k .bound n) ∙ ap (λ (v : ℕ). not (eqb v 0)) e
+
+    same : firstBroken (openRules lowest s w (Alloc n x)) ≡ allocOf (kept a status) n w x .reason
+    same = tells a status s k .alloc n w x ∙ ap (λ (b : Bool). cond b 6 (allocOf (kept a status) n w x .reason)) unbound
+
+    starting : allocOf (kept a status) n w x .reason ≡ 0 → startList (lowest (s .live) x) ≡ cond (eqb x 0) [] (allocOf (kept a status) n w x .start ∷ [])
+    starting z =
+        tells a status s k .started n w x z
+        ∙ ap (λ (b : Bool). cond b [] (allocOf (kept a status) n w x .start ∷ [])) (sym (asked-some s w n x (same ∙ z)))
+
+    no-start : allocOf (kept a status) n w x .reason ≡ 0 → x ≡ 0 → allocOf (kept a status) n w x .start ≡ 0
+    no-start z y = absurd (eqb-false x 0 (asked-some s w n x (same ∙ z)) y)
+
+alloc-taken : (a : Arrays) (status : Status) (w : ℕ) (n : Name) (x : ℕ) → (valueIn (a .valueHi) (a .valueLo) (a .numbers) (a .widths) n .width ≡ 0 → ⊥)
+    → OpenDone w (Alloc n x) a status (only status 6) a
+alloc-taken a status w n x e s k = refused-gives a status _ 6 _ _ _ _ (sym same) (λ y. absurd (omega (arith, y)))
+  where
+    is-bound : isBound n (s .values) ≡ true
+    is-bound = sym (value-tells a status s k .bound n) ∙ ap not (ne-eqb (valueIn (a .valueHi) (a .valueLo) (a .numbers) (a .widths) n .width) 0 e)
+
+    same : firstBroken (openRules lowest s w (Alloc n x)) ≡ 6
+    same = tells a status s k .alloc n w x ∙ ap (λ (b : Bool). cond b 6 (allocOf (kept a status) n w x .reason)) is-bound
+
+release-gives : (a : Arrays) (status : Status) (w : ℕ) (n : Name) (x : ℕ)
+    → OpenDone w (Dealloc n x) a status (stepOf (releaseOf (kept a status) n w x) status 0 x) (storedIn a (releaseOf (kept a status) n w x))
+unfolding effect given requested released
+release-gives a status w n x s k =
+    booked-gives a status s k (releaseOf (kept a status) n w x) (firstBroken (openRules lowest s w (Dealloc n x))) (effect lowest s w (Dealloc n x)) [] 0 x
+    (sym (tells a status s k .release n w x)) (tells a status s k .released n w x) refl refl (λ z. refl) (λ z y. release-start (kept a status) n w x)
+
+relinquish-gives : (a : Arrays) (status : Status) (w : ℕ)
+    → OpenDone w Relinquish a status (stepOf (relinquishOf (kept a status) w) status 0 0) (storedIn a (relinquishOf (kept a status) w))
+unfolding effect given requested released
+relinquish-gives a status w s k =
+    booked-gives a status s k (relinquishOf (kept a status) w) (firstBroken (openRules lowest s w Relinquish)) (effect lowest s w Relinquish) [] 0 0
+    (sym (tells a status s k .relinquish w)) (tells a status s k .relinquished w) refl refl (λ z. refl) (λ z y. relinquish-start (kept a status) w)
+
+-- ---- what the code has: the booking, the answer and the arrays that were stored
+array-path : (a : Arrays) (b : Booked) (hi lo columns : List ℕ)
+    → (hi ≡ stored b (b .next .hi) (a .hi)) × (lo ≡ stored b (b .next .lo) (a .lo)) × (columns ≡ stored b (b .next .columns) (a .columns))
+    → storedIn a b ≡ arrays hi lo columns (a .valueHi) (a .valueLo) (a .numbers) (a .widths)
+array-path a b hi lo columns q = rw (q .0, q .1, q .2)
+
+step-done : (w : ℕ) (t : Statement) (a : Arrays) (status : Status) (b right : Booked) (asked returned : ℕ) → b ≡ right
+    → OpenDone w t a status (stepOf right status asked returned) (storedIn a right)
+    → (r : Step) (hi lo columns : List ℕ) → BookDone b status asked returned (a .hi) (a .lo) (a .columns) r hi lo columns
+    → OpenDone w t a status r (arrays hi lo columns (a .valueHi) (a .valueLo) (a .numbers) (a .widths))
+step-done w t a status b right asked returned e d r hi lo columns q =
+    subst (λ (x : Arrays). OpenDone w t a status r x) (array-path a b hi lo columns (q .1))
+    (subst (λ (x : Step). OpenDone w t a status x (storedIn a b)) (sym (q .0))
+    (subst (λ (x : Booked). OpenDone w t a status (stepOf x status asked returned) (storedIn a x)) (sym e) d))
+
+module _ (w : ℕ) (a : Arrays) (status : Status) (l : Ledger) (f : l ≡ kept a status) (b : Booked) (r : Step) (hi lo columns : List ℕ) where
+  abbrev after : Arrays
+  after = arrays hi lo columns (a .valueHi) (a .valueLo) (a .numbers) (a .widths)
+
+  abbrev So : ℕ → ℕ → Type 0
+  So asked returned = BookDone b status asked returned (a .hi) (a .lo) (a .columns) r hi lo columns
+
+  pub alloc-done : (n : Name) (x : ℕ) (v : Value) → v ≡ valueIn (a .valueHi) (a .valueLo) (a .numbers) (a .widths) n → v .width ≡ 0
+      → b ≡ allocOf l n w x → So x 0 → OpenDone w (Alloc n x) a status r after
+  alloc-done n x v g z e p =
+      step-done w (Alloc n x) a status b (allocOf (kept a status) n w x) x 0 (e ∙ ap (λ (y : Ledger). allocOf y n w x) f)
+      (alloc-gives a status w n x (ap (λ (y : Value). y .width) (sym g) ∙ z)) r hi lo columns p
+
+  pub release-done : (n : Name) (x : ℕ) → b ≡ releaseOf l n w x → So 0 x → OpenDone w (Dealloc n x) a status r after
+  release-done n x e p =
+      step-done w (Dealloc n x) a status b (releaseOf (kept a status) n w x) 0 x (e ∙ ap (λ (y : Ledger). releaseOf y n w x) f)
+      (release-gives a status w n x) r hi lo columns p
+
+  pub relinquish-done : b ≡ relinquishOf l w → So 0 0 → OpenDone w Relinquish a status r after
+  relinquish-done e p =
+      step-done w Relinquish a status b (relinquishOf (kept a status) w) 0 0 (e ∙ ap (λ (y : Ledger). relinquishOf y w) f)
+      (relinquish-gives a status w) r hi lo columns p
+
+pub alloc-6 : (w : ℕ) (a : Arrays) (status : Status) (n : Name) (x : ℕ) (v : Value) → v ≡ valueIn (a .valueHi) (a .valueLo) (a .numbers) (a .widths) n
+    → (v .width ≡ 0 → ⊥) → (r : Step) → r ≡ only status 6 → OpenDone w (Alloc n x) a status r a
+alloc-6 w a status n x v g z r p =
+    subst (λ (y : Step). OpenDone w (Alloc n x) a status y a) (sym p)
+    (alloc-taken a status w n x (λ e. z (ap (λ (y : Value). y .width) g ∙ e)))
+
+-- ---- mov
+-- after a binding a name has what it had, or what was bound
+module _ (b : Binding) (m : Name) where
+  abbrev Has : List Binding → List Binding → Type 0
+  Has next l =
+      ((widthOf m next ≡ widthOf m l) × (numberOf m next ≡ numberOf m l))
+      ⊎ ((widthOf m next ≡ b .width) × (numberOf m next ≡ b .number))
+
+  first : (c : Binding) (l : List Binding) (t : Bool) → sameName (b .name) m ≡ t → (t ≡ false → sameName (c .name) m ≡ false) → Has (b ∷ l) (c ∷ l)
+  unfolding widthOf numberOf
+  first c l true e f = inr (rw e, rw e)
+  first c l false e f = inl (rw (e, f refl), rw (e, f refl))
+
+  later : (c : Binding) (next l : List Binding) (t : Bool) → sameName (c .name) m ≡ t → Has next l → Has (c ∷ next) (c ∷ l)
+  unfolding widthOf numberOf
+  later c next l true e h = inl (rw e, rw e)
+  later c next l false e (inl h) = inl (rw (e, h .0), rw (e, h .1))
+  later c next l false e (inr h) = inr (rw (e, h .0), rw (e, h .1))
+
+  alone : (t : Bool) → sameName (b .name) m ≡ t → Has (b ∷ []) []
+  unfolding widthOf numberOf
+  alone true e = inr (rw e, rw e)
+  alone false e = inl (rw e, rw e)
+
+  has : (l : List Binding) → Has (bind b l) l
+  unfolding bind
+  has [] = alone (sameName (b .name) m) refl
+  has (c ∷ l) = at (sameName (c .name) (b .name)) refl (has l)
+    where
+      at : (t : Bool) → sameName (c .name) (b .name) ≡ t → Has (bind b l) l → Has (cond t (b ∷ l) (c ∷ bind b l)) (c ∷ l)
+      at true e h = first c l (sameName (b .name) m) refl (λ z. ap (λ (x : Name). sameName x m) (same-true (c .name) (b .name) e) ∙ z)
+      at false e h = later c (bind b l) l (sameName (c .name) m) refl h
+
+narrow-if : (b : Binding) (m : Name) (next l : List Binding) → (b .width ≡ 32 → b .number < 2 ^ 32) → (widthOf m l ≡ 32 → numberOf m l < 2 ^ 32)
+    → Has b m next l → widthOf m next ≡ 32 → numberOf m next < 2 ^ 32
+narrow-if b m next l f g (inl h) e = subst (λ (x : ℕ). x < 2 ^ 32) (sym (h .1)) (g (sym (h .0) ∙ e))
+narrow-if b m next l f g (inr h) e = subst (λ (x : ℕ). x < 2 ^ 32) (sym (h .1)) (f (sym (h .0) ∙ e))
+
+narrow-next : (b : Binding) (l : List Binding) → (b .width ≡ 32 → b .number < 2 ^ 32) → ((m : Name) → widthOf m l ≡ 32 → numberOf m l < 2 ^ 32)
+    → (m : Name) → widthOf m (bind b l) ≡ 32 → numberOf m (bind b l) < 2 ^ 32
+narrow-next b l f g m = narrow-if b m (bind b l) l f (g m) (has b m l)
+
+module _ (a : Arrays) (status : Status) (n : Name) (taken : Span) (e : taken ≡ findIn (a .hi) (a .lo) (a .columns) n) where
+  abbrev values : Bindings
+  values = table (a .valueHi) (a .valueLo) (a .numbers) (a .widths)
+
+  is-live : (taken .columns ≡ 0 → ⊥) → (s : State) → Kept a status s → isLive n (s .live) ≡ true
+  is-live z s k =
+      sym (tells a status s k .live n) ∙ ap not (ne-eqb (findOf (kept a status) n .columns) 0 (λ y. z (ap (λ (x : Span). x .columns) e ∙ y)))
+
+  not-live : taken .columns ≡ 0 → (s : State) → Kept a status s → isLive n (s .live) ≡ false
+  not-live z s k =
+      sym (tells a status s k .live n) ∙ ap not (eq-eqb (findOf (kept a status) n .columns) 0 (ap (λ (x : Span). x .columns) (sym e) ∙ z))
+
+  -- the reason, by whether the name is live
+  reason32 : (b : Bool) (w v : ℕ) (s : State) → Kept a status s → isLive n (s .live) ≡ b
+      → firstBroken (openRules lowest s w (Mov32 n v)) ≡ cond b 6 (bindOf values n 32 v .reason)
+  reason32 b w v s k y = value-tells a status s k .bind32 n w v ∙ ap (λ (x : Bool). cond x 6 (bindOf values n 32 v .reason)) y
+
+  reason64 : (b : Bool) (w v : ℕ) (s : State) → Kept a status s → isLive n (s .live) ≡ b
+      → firstBroken (openRules lowest s w (Mov64 n v)) ≡ cond b 6 (bindOf values n 64 v .reason)
+  reason64 b w v s k y = value-tells a status s k .bind64 n w v ∙ ap (λ (x : Bool). cond x 6 (bindOf values n 64 v .reason)) y
+
+  pub mov-6 : (width v : ℕ) → (taken .columns ≡ 0 → ⊥) → (r : Step) → r ≡ only status 6 → MovDone n width v a status r a
+  mov-6 width v z r p = subst (λ (x : Step). MovDone n width v a status x a) (sym p) (record {
+    at32 = λ w f g s k. refused-gives a status _ 6 _ _ _ _ (sym (reason32 true w v s k (is-live z s k))) (λ y. absurd (omega (arith, y)));
+    at64 = λ w f s k. refused-gives a status _ 6 _ _ _ _ (sym (reason64 true w v s k (is-live z s k))) (λ y. absurd (omega (arith, y)));
+  })
+
+  module _ (z : taken .columns ≡ 0) (i : ℕ) (f : i ≡ entryOf (a .valueHi) (a .valueLo) (a .widths) n) where
+    full : (width v : ℕ) → 128 ≤ i → bindOf values n width v .reason ≡ 7
+    full width v h = ap (λ (x : Bound). x .reason) (sym (bind-full values n width v i f h))
+
+    pub mov-7 : (width v : ℕ) → 128 ≤ i → (r : Step) → r ≡ only status 7 → MovDone n width v a status r a
+    mov-7 width v h r p = subst (λ (x : Step). MovDone n width v a status x a) (sym p) (record {
+      at32 = λ w g j s k. refused-gives a status _ 7 _ _ _ _ (sym (reason32 false w v s k (not-live z s k) ∙ full 32 v h)) (λ y. absurd (omega (arith, y)));
+      at64 = λ w g s k. refused-gives a status _ 7 _ _ _ _ (sym (reason64 false w v s k (not-live z s k) ∙ full 64 v h)) (λ y. absurd (omega (arith, y)));
+    })
+
+    module _ (h : i < 128) (v : ℕ) where
+      abbrev next : ℕ → Arrays
+      next width =
+          arrays (a .hi) (a .lo) (a .columns) (set (a .valueHi) i (n .hi)) (set (a .valueLo) i (n .lo)) (set (a .numbers) i v) (set (a .widths) i width)
+
+      here : (width : ℕ) → record { next = written values i n width v; reason = 0 } ≡ bindOf values n width v
+      here width = bind-here values n width v i f h
+
+      accepted : (width : ℕ) → bindOf values n width v .reason ≡ 0
+      accepted width = ap (λ (x : Bound). x .reason) (sym (here width))
+
+      -- what is kept afterwards
+      kept-next : (width : ℕ) (s : State) → Kept a status s → (width ≡ 32 → v < 2 ^ 32)
+          → bindings.Shows (bindOf values n width v .next) (bind (record { name = n; width = width; number = v }) (s .values))
+          → Kept (next width) status (moved s n width v)
+      kept-next width s k g j = record {
+        tables = record {
+          slots = k .tables .slots;
+          values = subst (λ (x : Bound). bindings.Shows (x .next) (bind (record { name = n; width = width; number = v }) (s .values))) (sym (here width)) j;
+          narrow = narrow-next (record { name = n; width = width; number = v }) (s .values) g (k .tables .narrow);
+        };
+        warp = k .warp;
+        relinquished = k .relinquished;
+        exited = k .exited;
+      }
+
+      moved-gives : (width R : ℕ) (s : State) → R ≡ 0 → Kept (next width) status (moved s n width v)
+          → Gives R (moved s n width v) [] 0 0 a status (only status 0) (next width)
+      moved-gives width R s y j = record {
+        reasons = sym y;
+        keeps = λ x. j;
+        starting = λ x. refl;
+        asks = λ x. refl;
+        returns = λ x. refl;
+        no-start = λ x g. refl;
+        unchanged = λ x. absurd (x refl);
+      }
+
+      done32 : v < 2 ^ 32 → (w : ℕ) → OpenDone w (Mov32 n v) a status (only status 0) (next 32)
+      unfolding effect given requested released
+      done32 g w s k =
+          moved-gives 32 (firstBroken (openRules lowest s w (Mov32 n v))) s (reason32 false w v s k (not-live z s k) ∙ accepted 32)
+          (kept-next 32 s k (λ y. g) (value-tells a status s k .bound32 n w v (accepted 32)))
+
+      done64 : (w : ℕ) → OpenDone w (Mov64 n v) a status (only status 0) (next 64)
+      unfolding effect given requested released
+      done64 w s k =
+          moved-gives 64 (firstBroken (openRules lowest s w (Mov64 n v))) s (reason64 false w v s k (not-live z s k) ∙ accepted 64)
+          (kept-next 64 s k (λ y. absurd (omega (arith, y))) (value-tells a status s k .bound64 n w v (accepted 64)))
+
+      pub mov-0 : (width : ℕ) (r : Step) → r ≡ only status 0 → MovDone n width v a status r (next width)
+      mov-0 width r p = subst (λ (x : Step). MovDone n width v a status x (next width)) (sym p) (record {
+        at32 = λ w g j. subst (λ (x : ℕ). OpenDone w (Mov32 n v) a status (only status 0) (next x)) (sym g) (done32 j w);
+        at64 = λ w g. subst (λ (x : ℕ). OpenDone w (Mov64 n v) a status (only status 0) (next x)) (sym g) (done64 w);
+      })

@@ -1,0 +1,195 @@
+-- `steps::statement` meets its contract: after exit a statement is closed, and before it each arm is one law (StepLaws.antt). Assumes nothing.
+use mathlib.Core.Path.{refl}
+use Rattle.steps.proofs.StepLaws.{open-done, closed-done, load-done, store-done, multiply-done, wait-load-done, wait-store-done, fence-before-done, fence-after-done, exit-done}
+use borrow.Author.Needs.{needs}
+use Rattle.steps.proofs.statement.Statement.{statement}
+use Rattle.steps.proofs.statement.Tie as tie
+
+closed-reason-requires : tie.Need-closed-reason-requires
+closed-reason-requires c κs = search needs
+
+quiet-requires : tie.Need-quiet-requires
+quiet-requires c κs = search needs
+
+returns : tie.Need-returns
+returns c = closed-done _ _ _ _ _ _ (c .before .before .if1 .taken) (c .before .closed-reason .ensures) (c .quiet .ensures)
+
+enum-known-t : tie.Need-enum-known-t
+enum-known-t c = search needs
+
+cast-mov : tie.Need-cast-mov
+cast-mov c = search needs
+
+mov-requires : tie.Need-mov-requires
+mov-requires c κs = search needs
+
+enum-known-t-2 : tie.Need-enum-known-t-2
+enum-known-t-2 c = search needs
+
+mov-requires-2 : tie.Need-mov-requires-2
+mov-requires-2 c κs = search needs
+
+enum-known-t-3 : tie.Need-enum-known-t-3
+enum-known-t-3 c = search needs
+
+alloc-requires : tie.Need-alloc-requires
+alloc-requires c κs = search needs
+
+enum-known-t-4 : tie.Need-enum-known-t-4
+enum-known-t-4 c = search needs
+
+release-requires : tie.Need-release-requires
+release-requires c κs = search needs
+
+enum-told : tie.Need-enum-told
+enum-told c = search needs
+
+relinquish-requires : tie.Need-relinquish-requires
+relinquish-requires c κs = search needs
+
+enum-known-t-5 : tie.Need-enum-known-t-5
+enum-known-t-5 c = search needs
+
+access-reason-requires : tie.Need-access-reason-requires
+access-reason-requires c κs = search needs
+
+quiet-requires-2 : tie.Need-quiet-requires-2
+quiet-requires-2 c κs = search needs
+
+enum-known-t-6 : tie.Need-enum-known-t-6
+enum-known-t-6 c = search needs
+
+access-reason-requires-2 : tie.Need-access-reason-requires-2
+access-reason-requires-2 c κs = search needs
+
+quiet-requires-3 : tie.Need-quiet-requires-3
+quiet-requires-3 c κs = search needs
+
+enum-told-2 : tie.Need-enum-told-2
+enum-told-2 c = search needs
+
+quiet-requires-4 : tie.Need-quiet-requires-4
+quiet-requires-4 c κs = search needs
+
+enum-told-3 : tie.Need-enum-told-3
+enum-told-3 c = search needs
+
+quiet-requires-5 : tie.Need-quiet-requires-5
+quiet-requires-5 c κs = search needs
+
+enum-told-4 : tie.Need-enum-told-4
+enum-told-4 c = search needs
+
+quiet-requires-6 : tie.Need-quiet-requires-6
+quiet-requires-6 c κs = search needs
+
+enum-told-5 : tie.Need-enum-told-5
+enum-told-5 c = search needs
+
+quiet-requires-7 : tie.Need-quiet-requires-7
+quiet-requires-7 c κs = search needs
+
+enum-known-t-7 : tie.Need-enum-known-t-7
+enum-known-t-7 c = search needs
+
+mma-reason-requires : tie.Need-mma-reason-requires
+mma-reason-requires c κs = search needs
+
+quiet-requires-8 : tie.Need-quiet-requires-8
+quiet-requires-8 c κs = search needs
+
+enum-told-6 : tie.Need-enum-told-6
+enum-told-6 c = search needs
+
+leave-requires : tie.Need-leave-requires
+leave-requires c κs = search needs
+
+returns-2 : tie.Need-returns-2
+returns-2 c = open-done _ _ _ (c .before .before .before .before .before .before .before .before .before .t .given .1) _ _ _ _ (c .before .before .before .before .before .before .before .before .before .before .before .if1 .left) (c .mov .ensures .at32 _ refl (search needs))
+
+returns-3 : tie.Need-returns-3
+returns-3 c = open-done _ _ _ (c .before .before .before .before .before .before .before .before .before .t2 .given .1) _ _ _ _ (c .before .before .before .before .before .before .before .before .before .before .before .if1 .left) (c .mov2 .ensures .at64 _ refl)
+
+returns-4 : tie.Need-returns-4
+returns-4 c = open-done _ _ _ (c .before .before .before .before .before .before .before .before .before .t3 .given .1) _ _ _ _ (c .before .before .before .before .before .before .before .before .before .before .before .if1 .left) (c .alloc .ensures)
+
+returns-5 : tie.Need-returns-5
+returns-5 c = open-done _ _ _ (c .before .before .before .before .before .t4 .given .1) _ _ _ _ (c .before .before .before .before .before .before .before .if1 .left) (c .release .ensures _ _ _ _)
+
+returns-6 : tie.Need-returns-6
+returns-6 c = open-done _ _ _ (c .before .before .before .before .enum-told .given .1) _ _ _ _ (c .before .before .before .before .before .before .if1 .left) (c .relinquish .ensures _ _ _ _)
+
+returns-7 : tie.Need-returns-7
+returns-7 c = open-done _ _ _ (c .before .before .before .before .before .before .t5 .given .1) _ _ _ _ (c .before .before .before .before .before .before .before .before .if1 .left) (load-done _ _ _ _ _ (c .quiet2 .ensures) _ (c .before .access-reason .ensures))
+
+returns-8 : tie.Need-returns-8
+returns-8 c = open-done _ _ _ (c .before .before .before .before .before .before .t6 .given .1) _ _ _ _ (c .before .before .before .before .before .before .before .before .if1 .left) (store-done _ _ _ _ _ (c .quiet3 .ensures) _ (c .before .access-reason2 .ensures))
+
+returns-9 : tie.Need-returns-9
+returns-9 c = open-done _ _ _ (c .before .enum-told2 .given .1) _ _ _ _ (c .before .before .before .if1 .left) (wait-load-done _ _ _ _ (c .quiet4 .ensures))
+
+returns-10 : tie.Need-returns-10
+returns-10 c = open-done _ _ _ (c .before .enum-told3 .given .1) _ _ _ _ (c .before .before .before .if1 .left) (wait-store-done _ _ _ _ (c .quiet5 .ensures))
+
+returns-11 : tie.Need-returns-11
+returns-11 c = open-done _ _ _ (c .before .enum-told4 .given .1) _ _ _ _ (c .before .before .before .if1 .left) (fence-before-done _ _ _ _ (c .quiet6 .ensures))
+
+returns-12 : tie.Need-returns-12
+returns-12 c = open-done _ _ _ (c .before .enum-told5 .given .1) _ _ _ _ (c .before .before .before .if1 .left) (fence-after-done _ _ _ _ (c .quiet7 .ensures))
+
+returns-13 : tie.Need-returns-13
+returns-13 c = open-done _ _ _ (c .before .before .before .before .before .before .before .before .before .before .t7 .given .1) _ _ _ _ (c .before .before .before .before .before .before .before .before .before .before .before .before .if1 .left) (multiply-done _ _ _ _ _ (c .quiet8 .ensures) _ (c .before .mma-reason .ensures))
+
+returns-14 : tie.Need-returns-14
+returns-14 c = open-done _ _ _ (c .before .before .enum-told6 .given .1) _ _ _ _ (c .before .before .before .before .if1 .left) (exit-done _ _ _ _ (c .leave .ensures))
+
+pub statement-spec : {M : Type 1} → statement M
+statement-spec =
+    tie.close
+    (tie.spec
+    closed-reason-requires
+    quiet-requires
+    returns
+    enum-known-t
+    cast-mov
+    mov-requires
+    enum-known-t-2
+    mov-requires-2
+    enum-known-t-3
+    alloc-requires
+    enum-known-t-4
+    release-requires
+    enum-told
+    relinquish-requires
+    enum-known-t-5
+    access-reason-requires
+    quiet-requires-2
+    enum-known-t-6
+    access-reason-requires-2
+    quiet-requires-3
+    enum-told-2
+    quiet-requires-4
+    enum-told-3
+    quiet-requires-5
+    enum-told-4
+    quiet-requires-6
+    enum-told-5
+    quiet-requires-7
+    enum-known-t-7
+    mma-reason-requires
+    quiet-requires-8
+    enum-told-6
+    leave-requires
+    returns-2
+    returns-3
+    returns-4
+    returns-5
+    returns-6
+    returns-7
+    returns-8
+    returns-9
+    returns-10
+    returns-11
+    returns-12
+    returns-13
+    returns-14)

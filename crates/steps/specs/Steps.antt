@@ -1,0 +1,121 @@
+-- What the judge keeps from line to line, beside a state of the rules; and what one statement gives. Assumes nothing.
+use Prim.Native.Nat.{ℕ, _^_, _<_}
+use mathlib.Core.Path.{_≡_}
+use mathlib.Core.Bool.{true, cond}
+use mathlib.Core.List.{List, [], _∷_}
+use lib.Dec.{eqb}
+use lib.ListN.{length}
+use Rattle.laws.specs.Rules.{Rule, firstBroken}
+use Rattle.tokens.specs.declared.Name.{Name}
+use Rattle.statement.specs.declared.Statement.{Statement}
+use Rattle.statement.specs.declared.Statement.the-variants.{Mov32, Mov64}
+use Rattle.rules.specs.State.{State, lowest}
+use Rattle.rules.specs.Reasons.{openRules, rules}
+use Rattle.rules.specs.Sheet.{Line, statement, given, requested, released, lineRules, lineEffect}
+use Rattle.ledger.specs.declared.Ledger.{Ledger}
+use Rattle.ledger.specs.declared.Booked.{Booked}
+use Rattle.ledger.specs.Shows.{warpOf}
+use Rattle.checks.specs.Tables.{Tables}
+use Rattle.steps.specs.declared.Status.{Status}
+use Rattle.steps.specs.declared.Step.{Step}
+
+-- all arrays: of the ledger, then of the table of value names
+pub record Arrays : Type 0 where
+  pub hi : List ℕ
+  pub lo : List ℕ
+  pub columns : List ℕ
+  pub valueHi : List ℕ
+  pub valueLo : List ℕ
+  pub numbers : List ℕ
+  pub widths : List ℕ
+
+abbrev pub arrays : (hi lo columns valueHi valueLo numbers widths : List ℕ) → Arrays
+arrays hi lo columns valueHi valueLo numbers widths =
+    record { hi = hi; lo = lo; columns = columns; valueHi = valueHi; valueLo = valueLo; numbers = numbers; widths = widths }
+
+-- the arrays of the table have their 128 places
+pub record Sized (a : Arrays) : Type 0 where
+  pub hi-128 : length (a .valueHi) ≡ 128
+  pub lo-128 : length (a .valueLo) ≡ 128
+  pub numbers-128 : length (a .numbers) ≡ 128
+  pub widths-128 : length (a .widths) ≡ 128
+
+-- the ledger that is kept
+abbrev pub ledgerOf : (hi lo columns : List ℕ) → Status → Ledger
+ledgerOf hi lo columns status = record { hi = hi; lo = lo; columns = columns; fixed = status .fixed; warp = status .warp; relinquished = status .relinquished }
+
+-- arrays and status are those of a state
+pub record Kept (a : Arrays) (status : Status) (s : State) : Type 0 where
+  pub tables : Tables (a .hi) (a .lo) (a .columns) (a .valueHi) (a .valueLo) (a .numbers) (a .widths) s
+  pub warp : warpOf (ledgerOf (a .hi) (a .lo) (a .columns) status) ≡ s .warp
+  pub relinquished : status .relinquished ≡ s .relinquished
+  pub exited : status .exited ≡ s .exited
+
+-- a reason and a status, no columns
+abbrev pub only : Status → ℕ → Step
+only status reason = record { reason = reason; start = 0; asked = 0; returned = 0; status = status }
+
+-- what a line gives, by its reason, the state after it, the starts it is given and the columns it asks for and gives back
+pub record Gives (reason : ℕ) (next : State) (starts : List ℕ) (asked returned : ℕ) (before : Arrays) (status : Status) (r : Step) (after : Arrays) : Type 0 where
+  -- the answer has the reason
+  pub reasons : r .reason ≡ reason
+  -- accepted: what is kept is the state after it, and the answer has its columns and its start, which is 0 where it asks for none
+  pub keeps : r .reason ≡ 0 → Kept after (r .status) next
+  pub asks : r .reason ≡ 0 → r .asked ≡ asked
+  pub returns : r .reason ≡ 0 → r .returned ≡ returned
+  pub starting : r .reason ≡ 0 → starts ≡ cond (eqb (r .asked) 0) [] (r .start ∷ [])
+  pub no-start : r .reason ≡ 0 → r .asked ≡ 0 → r .start ≡ 0
+  -- refused: nothing changes, and the answer is the reason and the old status
+  pub unchanged : (r .reason ≡ 0 → ⊥) → (after ≡ before) × (r ≡ only status (r .reason))
+
+-- a line under its rules, from any state that is kept
+abbrev pub Done : (State → List Rule) → Line → Arrays → Status → Step → Arrays → Type 0
+Done under x before status r after =
+    (s : State) → Kept before status s
+    → Gives (firstBroken (under s)) (lineEffect lowest s x) (given lowest s x) (requested x) (released x) before status r after
+
+-- a whole line; a statement of a warp; and a statement before exit
+abbrev pub LineDone : Line → Arrays → Status → Step → Arrays → Type 0
+LineDone x = Done (λ s. lineRules lowest s x) x
+
+abbrev pub StatementDone : ℕ → Statement → Arrays → Status → Step → Arrays → Type 0
+StatementDone w t = Done (λ s. rules lowest s w t) (statement w t)
+
+abbrev pub OpenDone : ℕ → Statement → Arrays → Status → Step → Arrays → Type 0
+OpenDone w t = Done (λ s. openRules lowest s w t) (statement w t)
+
+-- ---- the parts
+-- a statement before exit that touches the arrays of the ledger alone, whatever the table of value names has
+abbrev pub LedgerDone : ℕ → Statement → (hi lo columns : List ℕ) → Status → Step → (hi lo columns : List ℕ) → Type 0
+LedgerDone w t hi lo columns status r nextHi nextLo nextColumns =
+    (valueHi valueLo numbers widths : List ℕ)
+    → OpenDone w t (arrays hi lo columns valueHi valueLo numbers widths) status r (arrays nextHi nextLo nextColumns valueHi valueLo numbers widths)
+
+-- a mov at either width, of any warp; a 32-bit value has 32 bits
+pub record MovDone (name : Name) (width number : ℕ) (before : Arrays) (status : Status) (r : Step) (after : Arrays) : Type 0 where
+  pub at32 : (w : ℕ) → width ≡ 32 → number < 2 ^ 32 → OpenDone w (Mov32 name number) before status r after
+  pub at64 : (w : ℕ) → width ≡ 64 → OpenDone w (Mov64 name number) before status r after
+
+-- what is stored of a booking: nothing where it is refused
+abbrev pub stored : Booked → List ℕ → List ℕ → List ℕ
+stored b next old = cond (eqb (b .reason) 0) next old
+
+-- what is answered once a booking is made
+abbrev pub stepOf : Booked → Status → ℕ → ℕ → Step
+stepOf b status asked returned =
+    cond (eqb (b .reason) 0)
+    (record {
+      reason = 0;
+      start = b .start;
+      asked = asked;
+      returned = returned;
+      status = record { fixed = b .next .fixed; warp = b .next .warp; relinquished = b .next .relinquished; exited = status .exited };
+    })
+    (only status (b .reason))
+
+-- what exit answers, by the columns held
+abbrev pub exitOf : ℕ → Status → Step
+exitOf held status =
+    cond (eqb held 0)
+    (only (record { fixed = status .fixed; warp = status .warp; relinquished = status .relinquished; exited = true }) 0)
+    (only status 15)
