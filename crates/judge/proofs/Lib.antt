@@ -1,0 +1,4 @@
+pub mod LineLaws
+pub mod StepLaws
+pub mod Going
+pub mod Whole

@@ -1,0 +1,103 @@
+-- The line at a place, by each way out of `step`: a layout fault, a statement that did not read, and what the statement gives. Assumes nothing.
+use Prim.Native.Nat.{ℕ, _+_, _-_, _≤_, _<_}
+use mathlib.Core.Path.{_≡_, refl, sym, ap, _∙_, subst}
+use mathlib.Core.Bool.{Bool, true, false, cond}
+use mathlib.Core.List.{List}
+use native.Mathlib.Omega.{arith}
+use lib.Dec.{ltb, eqb}
+use lib.ListN.{length, take, drop}
+use borrow.Author.Tests.{lt-ltb}
+use Rattle.tokens.specs.Bytes.{pick}
+use Rattle.lines.specs.declared.Line as lines
+use Rattle.lines.specs.Sheet.{Content, fault, laid, contentOf, contentSeen, lineAt}
+use Rattle.lines.proofs.SheetLaws.{line-seen, line-inside, line-next}
+use Rattle.lines.proofs.SheetTheorems.{read-written, warp-below}
+use Rattle.laws.specs.Rules.{firstBroken}
+use Rattle.statement.specs.declared.Statement.{Statement}
+use Rattle.statement.specs.declared.Reading.{Reading}
+use Rattle.statement.specs.declared.Reading.the-variants.{Got, Refused}
+use Rattle.statement.specs.Reading.{readOf}
+use Rattle.rules.specs.State.{State, lowest}
+use Rattle.rules.specs.Reasons.{rules}
+use Rattle.rules.specs.Sheet.{Line, badLayout, noForm, tooLarge, statement, lineRules, lineOf, effect, given, requested, released}
+use Rattle.steps.specs.declared.Status.{Status}
+use Rattle.steps.specs.declared.Step.{Step}
+use Rattle.steps.specs.Steps.{Arrays, only, Gives, StatementDone, LineDone}
+use Rattle.judge.specs.Judged.{seen}
+use Rattle.judge.specs.Parts.{refusalOf, lineSeen}
+use Rattle.judge.proofs.LineLaws.{fault-seen, laid-seen}
+
+-- a line that is refused for a reason in any state
+only-done : (x : Line) (why : ℕ) → ((s : State) → firstBroken (lineRules lowest s x) ≡ why) → (why ≡ 0 → ⊥)
+    → (a : Arrays) (status : Status) → LineDone x a status (only status why) a
+only-done x why w z a status s k = record {
+  reasons = sym (w s);
+  keeps = λ y. absurd (z y);
+  asks = λ y. absurd (z y);
+  returns = λ y. absurd (z y);
+  starting = λ y. absurd (z y);
+  no-start = λ y. absurd (z y);
+  unchanged = λ n. (refl, refl);
+}
+
+refused-done : (x : Line) (why : ℕ) → ((s : State) → firstBroken (lineRules lowest s x) ≡ why) → (why ≡ 0 → ⊥)
+    → (a : Arrays) (status : Status) (r : Step) → r ≡ only status why → LineDone x a status r a
+refused-done x why w z a status r e = subst (λ (y : Step). LineDone x a status y a) (sym e) (only-done x why w z a status)
+
+-- a statement that did not read
+unread-done : (b : Bool) (a : Arrays) (status : Status) (r : Step) → r ≡ only status (cond b 4 3) → LineDone (cond b tooLarge noForm) a status r a
+unread-done true a status r e = refused-done tooLarge 4 (λ s. refl) (λ z. omega (arith, z)) a status r e
+unread-done false a status r e = refused-done noForm 3 (λ s. refl) (λ z. omega (arith, z)) a status r e
+
+-- a statement that was read, of a warp below 4
+read-done : (w : ℕ) (t : Statement) (a : Arrays) (status : Status) (r : Step) (b : Arrays) → w < 4 → StatementDone w t a status r b → LineDone (statement w t) a status r b
+read-done w t a status r b h d s k =
+    let q : firstBroken (lineRules lowest s (statement w t)) ≡ firstBroken (rules lowest s w t) = ap (λ (x : Bool). cond x (firstBroken (rules lowest s w t)) 2) (lt-ltb w 4 h) in
+    subst (λ (n : ℕ). Gives n (effect lowest s w t) (given lowest s (statement w t)) (requested (statement w t)) (released (statement w t)) a status r b) (sym q) (d s k)
+
+module _ (s : List ℕ) (at : ℕ) (l : lines.Line) (e : l ≡ lineAt s at) where
+  abbrev text : List ℕ
+  text = take (l .end - l .start) (drop (l .start) s)
+
+  pub next-is : (n : ℕ) → n ≡ l .next → n ≡ lineAt s at .next
+  next-is n f = f ∙ ap (λ (x : lines.Line). x .next) e
+
+  -- its layout is wrong
+  pub fault-done : l .ok ≡ false → (a : Arrays) (status : Status) (r : Step) → r ≡ only status 2 → LineDone (lineSeen s at) a status r a
+  fault-done h a status r f =
+      let q : badLayout ≡ lineSeen s at = ap seen (sym (fault-seen s l h) ∙ ap (contentSeen s) e) in
+      subst (λ (x : Line). LineDone x a status r a) q (refused-done badLayout 2 (λ s. refl) (λ z. omega (arith, z)) a status r f)
+
+  module _ (h : l .ok ≡ true) where
+    ok-there : lineAt s at .ok ≡ true
+    ok-there = ap (λ (x : lines.Line). x .ok) (sym e) ∙ h
+
+    -- its statement is a part of the sheet
+    pub part : (l .start ≤ l .end) × (l .end ≤ length s)
+    part = let a = line-inside s at ok-there in let b = line-next s at ok-there in rw e (a .0, omega (arith, a .2, b))
+
+    content-is : contentSeen s (lineAt s at) ≡ laid (l .warp) text
+    content-is = ap (contentSeen s) (sym e) ∙ laid-seen s l h
+
+    line-is : (reading : Reading) → reading ≡ readOf text → lineOf (l .warp) reading ≡ lineSeen s at
+    line-is reading f = ap (lineOf (l .warp)) f ∙ ap seen (sym content-is)
+
+    warp-small : l .warp < 4
+    warp-small =
+        let w = read-written (drop at s) (l .warp) text (sym (line-seen s at) ∙ content-is) in
+        omega (arith, w .names, warp-below (w .mark) (w .marks))
+
+    module _ (reading : Reading) (f : reading ≡ readOf text) where
+      -- its statement did not read
+      pub unread : (n p : ℕ) → reading ≡ Refused n p → (a : Arrays) (status : Status) (why : ℕ) → why ≡ refusalOf reading → (r : Step) → r ≡ only status why
+          → LineDone (lineSeen s at) a status r a
+      unread n p g a status why k r i =
+          let q : cond (eqb n 4) tooLarge noForm ≡ lineSeen s at = ap (lineOf (l .warp)) (sym g) ∙ line-is reading f in
+          subst (λ (x : Line). LineDone x a status r a) q (unread-done (eqb n 4) a status r (i ∙ ap (only status) (k ∙ ap refusalOf g)))
+
+      -- its statement was read
+      pub was-read : (t : Statement) → reading ≡ Got t → (a : Arrays) (status : Status) (r : Step) (b : Arrays) → StatementDone (l .warp) t a status r b
+          → LineDone (lineSeen s at) a status r b
+      was-read t g a status r b d =
+          let q : statement (l .warp) t ≡ lineSeen s at = ap (lineOf (l .warp)) (sym g) ∙ line-is reading f in
+          subst (λ (x : Line). LineDone x a status r b) q (read-done (l .warp) t a status r b warp-small d)

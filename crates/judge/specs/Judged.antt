@@ -1,0 +1,46 @@
+-- The answer for any bytes (document 01, 'Reasons'): the bytes are a sheet of the rules, and reason 1 comes first. Assumes nothing.
+use Prim.Native.Nat.{ℕ, suc, _-_}
+use mathlib.Core.Path.{_≡_}
+use mathlib.Core.Bool.{cond}
+use mathlib.Core.List.{List}
+use lib.ListN.{length, take}
+use Rattle.statement.specs.Reading.{readOf}
+use Rattle.lines.specs.Sheet.{Content, fault, laid, contentAfter, lineCount, headed, oversize}
+use Rattle.rules.specs.declared.Answer.{Answer}
+use Rattle.rules.specs.Sheet.{Line, badLayout, lineOf, Sheet, answer, answerOf, startsOf, placesAfter}
+use Rattle.rules.specs.Claims.{Passing}
+use Rattle.run.specs.Run.{peakOf}
+use Rattle.run.specs.Demand3.{turnsOf, Demand3}
+
+-- a line by its layout, and its statement as it reads
+abbrev pub seen : Content → Line
+seen fault = badLayout
+seen (laid warp text) = lineOf warp (readOf text)
+
+-- the lines after line 1 of a sheet
+unfoldable pub linesOf : List ℕ → ℕ → Line
+linesOf s k = seen (contentAfter (suc k) s)
+
+abbrev pub sheetOf : List ℕ → Sheet
+sheetOf s = record { header = headed s; line = linesOf s; count = lineCount s - 1 }
+
+-- reason 1 first, then the answer of the rules
+unfoldable pub judgedOf : List ℕ → ℕ → Answer
+judgedOf s room = cond (oversize s) (answer 1 0 0 0) (answerOf (sheetOf s) room)
+
+-- the lent list afterwards
+unfoldable pub startsAfter : List ℕ → List ℕ → List ℕ
+startsAfter s old = cond (oversize s) old (placesAfter (sheetOf s) old)
+
+-- demand 3 of a passed sheet, of the answer and of the list as they come back
+pub record RunOf (s : List ℕ) (r : Answer) (places : List ℕ) : Type 0 where
+  -- demand 3 holds of the sheet
+  pub demand : Demand3 (sheetOf s)
+  -- the peak answered is that of the run from its starts
+  pub peak : r .peak ≡ peakOf (startsOf (sheetOf s)) (turnsOf (sheetOf s)) (sheetOf s .count)
+  -- on reason 0 the first places of the list are its starts
+  pub starts : r .reason ≡ 0 → take (length (startsOf (sheetOf s))) places ≡ startsOf (sheetOf s)
+
+-- that, of every sheet that the answer passes
+abbrev pub RunKept : List ℕ → Answer → List ℕ → Type 0
+RunKept s r places = Passing (r .reason) → RunOf s r places
