@@ -1,0 +1,4 @@
+pub mod RowLaws
+pub mod PassLaws
+pub mod PrintLaws
+pub mod Theorems

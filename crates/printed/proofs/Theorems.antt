@@ -1,0 +1,70 @@
+-- What the definitions of the report come to: the bytes that are written are the report, and each alloc of a sheet that passes has a start of its
+-- own. Assumes nothing.
+use Prim.Native.Nat.{ℕ, zero, suc, _-_, _<_, _≤_}
+use native.Mathlib.Omega.{arith}
+use mathlib.Core.Path.{_≡_, refl}
+use mathlib.Core.List.{List}
+use mathlib.Core.Bool.{true}
+use mathlib.Core.Option.{Option, none, some}
+use lib.ListN.{length, getD, take, length-append}
+use lib.Dec.{leb}
+use borrow.Author.Tests.{le-leb}
+use Rattle.laws.specs.Tests.{isSome}
+use Rattle.laws.proofs.TestLaws.{never}
+use Rattle.statement.specs.declared.Statement.the-variants.{Mov32, Mov64, Alloc, Dealloc, Relinquish, Load, Store, WaitLoad, WaitStore, FenceBefore, FenceAfter, Multiply, Exit}
+use Rattle.lines.specs.Sheet.{lineCount}
+use Rattle.rules.specs.State.{State, lowest}
+use Rattle.rules.specs.Reasons.{placed}
+use Rattle.rules.specs.Sheet.{Line, badLayout, noForm, tooLarge, statement, ours, given, startList, stateBy, startsBy, rulesBy, lineRules, startsOf}
+use Rattle.rules.specs.Claims.{AllKept}
+use Rattle.rules.proofs.RuleLaws.{accepted}
+use Rattle.judge.specs.Judged.{linesOf, sheetOf}
+use Rattle.report.specs.Report.{reportRoom}
+use Rattle.report.proofs.ReportLaws.{put-whole}
+use Rattle.printed.specs.Printed.{rowOf, rowsUpTo, rowsOf, answered, reportOf, printedOf, roomAfter}
+use Rattle.printed.proofs.PassLaws.{report-fits, is-passed}
+
+-- ---- what is written
+
+-- the report stands in the first places
+pub printed-bytes : (s room : List ℕ) → reportRoom ≤ length room → take (printedOf s (length room) .length) (roomAfter s room) ≡ reportOf s
+unfolding printedOf roomAfter
+printed-bytes s room h =
+    let e : leb reportRoom (length room) ≡ true = le-leb reportRoom (length room) h in
+    rw e (put-whole room _ (reportOf s) (length (reportOf s)) refl refl (omega (arith, h, report-fits s)))
+
+-- ---- a start for each alloc
+
+one-start : (o : Option ℕ) → isSome o ≡ true → _≡_ {A = ℕ} 1 (length (startList o))
+one-start none e = never e
+one-start (some x) e = refl
+
+row-start : (s : State) (x : Line) (v : ℕ) → AllKept (lineRules lowest s x) → length (rowOf x v) ≡ length (given lowest s x)
+unfolding rowOf given placed
+row-start s badLayout v k = refl
+row-start s noForm v k = refl
+row-start s tooLarge v k = refl
+row-start s (statement w (Mov32 n c)) v k = refl
+row-start s (statement w (Mov64 n c)) v k = refl
+row-start s (statement w (Alloc n c)) v k = one-start (lowest (s .live) c) (accepted lowest s w (Alloc n c) (k .1) .places)
+row-start s (statement w (Dealloc n c)) v k = refl
+row-start s (statement w Relinquish) v k = refl
+row-start s (statement w (Load a)) v k = refl
+row-start s (statement w (Store a)) v k = refl
+row-start s (statement w WaitLoad) v k = refl
+row-start s (statement w WaitStore) v k = refl
+row-start s (statement w FenceBefore) v k = refl
+row-start s (statement w FenceAfter) v k = refl
+row-start s (statement w (Multiply m)) v k = refl
+row-start s (statement w Exit) v k = refl
+
+rows-starts : (line : ℕ → Line) (starts : List ℕ) (n : ℕ) → ((k : ℕ) → k < n → AllKept (rulesBy ours line k)) → length (rowsUpTo line starts n) ≡ length (startsBy ours line n)
+unfolding rowsUpTo startsBy
+rows-starts line starts zero h = refl
+rows-starts line starts (suc n) h =
+    let v = getD starts (length (rowsUpTo line starts n)) 0 in
+    omega (arith, length-append (rowsUpTo line starts n) (rowOf (line n) v), length-append (startsBy ours line n) (given lowest (stateBy ours line n) (line n)), rows-starts line starts n (λ k i. h k (omega (arith, i))), row-start (stateBy ours line n) (line n) v (h n (omega arith)))
+
+-- a sheet that passes has as many rows as starts
+pub row-for-each : (s : List ℕ) → answered s .reason ≡ 0 → length (rowsOf s) ≡ length (startsOf (sheetOf s))
+row-for-each s h = rows-starts (linesOf s) (startsOf (sheetOf s)) (lineCount s - 1) (is-passed s 4096 h .kept)
