@@ -1,9 +1,10 @@
 /*
- * Staplehorn: tcgen05 descriptor words and statements, read and written by proved functions.
+ * Staplehorn: tcgen05 sheets judged, statements and descriptor words read and written, by proved functions.
  *
- * Every function returns a reason: 0 for good, else the number given beside it. Arrays have the sizes written here. A
- * pointer is aligned and not null, and what one call writes overlaps nothing else that it is lent; no function keeps a
- * pointer. Any numbers and any bytes may be passed.
+ * Every function returns a reason: 0 for good, else the number given beside it; docs/FORMAT.md explains each. Arrays have
+ * the sizes written here. A pointer is aligned and not null, also where its length is 0, and what one call writes overlaps
+ * nothing else that it is lent. No function keeps a pointer, has a state, or takes memory from the heap; 64 KiB of stack
+ * are enough, for staplehorn_report 256 KiB. Any numbers and any bytes may be passed.
  *
  * An opcode is three numbers: kind 0 f16, 1 tf32, 2 f8f6f4, 3 i8; ws and sp, 0 or 1, say whether `.ws` and `.sp`
  * stand. Any other number is refused with 12.
@@ -18,16 +19,41 @@
 extern "C" {
 #endif
 
+/* Sheets. Any bytes are a sheet: over 65,536 of them, or over 4,096 lines, is reason 1. */
+
+/* The answer for a sheet. */
+enum staplehorn_answer_field {
+    STAPLEHORN_REASON, /* 0 passed, else 1 to 16 */
+    STAPLEHORN_LINE,   /* the line of the reason, from 1; the last line on a pass; 0 for reason 1 */
+    STAPLEHORN_HELD,   /* columns held before that line (after it where exit is missing); 0 on a pass and 16 */
+    STAPLEHORN_PEAK,   /* the most columns held after any accepted line */
+    STAPLEHORN_ANSWER_FIELDS
+};
+
+/* Judges a sheet, and returns its reason. All four places of answer are always written. On a pass the first places of
+   starts are the first columns of the allocs, in their order (each a multiple of 32, at most 480), and the places past them
+   are left as they are: to see how many there are, fill the list with another number before. On every refusal, 16 included (fewer places than allocs),
+   all places are left as they are. 4,095 places are enough for any sheet. */
+uint32_t staplehorn_judge(const uint8_t *sheet, size_t sheet_length, uint16_t *starts, size_t starts_length,
+                          uint32_t answer[STAPLEHORN_ANSWER_FIELDS]);
+
+/* What the program foot prints for a sheet: its bytes go to the first places of room, their count to *length, and the
+   places past them are left as they are. Returns the sheet's reason, never 16. Room for less than
+   STAPLEHORN_REPORT_ROOM bytes: 19, *length is 0 and room is left as it is. */
+enum { STAPLEHORN_REPORT_ROOM = 102391 };
+uint32_t staplehorn_report(const uint8_t *sheet, size_t sheet_length, uint8_t *room, size_t room_length,
+                           size_t *length);
+
 /* Words. On a refusal each out-parameter holds zeros. */
 
 /* The fields of an instruction descriptor, in the order of its bits. Types are codes, flags 0 or 1, n and m the real N
    and M. */
 enum staplehorn_instruction_field {
-    STAPLEHORN_SELECTOR,
+    STAPLEHORN_SELECTOR, /* 0 to 3 */
     STAPLEHORN_SPARSE,
     STAPLEHORN_SATURATE,
     STAPLEHORN_DTYPE, /* f16 0, f32 1, s32 2 */
-    STAPLEHORN_ATYPE, /* f16 0, bf16 1; tf32 2; e4m3 0, e5m2 1, e2m3 3, e3m2 4, e2m1 5; u8 0, s8 1 */
+    STAPLEHORN_ATYPE, /* kind f16: f16 0, bf16 1; tf32: 2; f8f6f4: e4m3 0, e5m2 1, e2m3 3, e3m2 4, e2m1 5; i8: u8 0, s8 1 */
     STAPLEHORN_BTYPE,
     STAPLEHORN_NEGATE_A,
     STAPLEHORN_NEGATE_B,
@@ -35,7 +61,7 @@ enum staplehorn_instruction_field {
     STAPLEHORN_TRANSPOSE_B,
     STAPLEHORN_N,
     STAPLEHORN_M,
-    STAPLEHORN_MAX_SHIFT,
+    STAPLEHORN_MAX_SHIFT, /* 0 to 3 */
     STAPLEHORN_INSTRUCTION_FIELDS
 };
 
@@ -44,9 +70,9 @@ enum staplehorn_shared_field {
     STAPLEHORN_START,
     STAPLEHORN_LEADING,
     STAPLEHORN_STRIDE,
-    STAPLEHORN_BASE,
-    STAPLEHORN_MODE,
-    STAPLEHORN_SWIZZLE,
+    STAPLEHORN_BASE,    /* 0 to 7 */
+    STAPLEHORN_MODE,    /* 0 or 1 */
+    STAPLEHORN_SWIZZLE, /* 0, 1, 2, 4 or 6 */
     STAPLEHORN_SHARED_FIELDS
 };
 
@@ -66,7 +92,7 @@ uint32_t staplehorn_instruction_judge(uint32_t kind, uint32_t ws, uint32_t sp, u
 uint32_t staplehorn_instruction_listed(uint32_t kind, uint32_t ws, uint32_t sp,
                                        const uint32_t fields[STAPLEHORN_INSTRUCTION_FIELDS]);
 
-/* K of a kind, dense or sparse; 12 for a wrong number. */
+/* K of a kind, dense or sparse; 12 for a kind over 3 or sp over 1. */
 uint32_t staplehorn_instruction_k(uint32_t kind, uint32_t sp, uint32_t *k);
 
 /* What a shared memory descriptor says: its fields, or 12. */
@@ -88,7 +114,8 @@ uint32_t staplehorn_statement_reason(const uint8_t *text, size_t text_length);
 /* The canonical text of a statement: one space after the opcode and after each comma, decimals, no `+0` and no
    `.shared::cta`. Its length goes to *length and its bytes to the first places of room; the places past it are left as
    they are. 3 or 4 if the text does not read, 19 if the room is too short: then *length is 0 and room is left as it is.
-   2,560 bytes are room for any statement. A text of reason 5 reads, so it is written. */
+   STAPLEHORN_STATEMENT_ROOM bytes are room for any statement. A text of reason 5 reads, so it is written. */
+enum { STAPLEHORN_STATEMENT_ROOM = 2560 };
 uint32_t staplehorn_statement_canonical(const uint8_t *text, size_t text_length, uint8_t *room, size_t room_length,
                                         size_t *length);
 

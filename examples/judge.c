@@ -1,0 +1,27 @@
+/* judge [FILE]: the answer for a sheet, from standard input or a file: reason, line, columns held, peak; on a pass the
+   start of each alloc. Exit status: 0 passed, 1 refused, 2 could not run. */
+#include <inttypes.h>
+#include <stdio.h>
+
+#include "staplehorn.h"
+
+/* One byte more than a sheet may have, so that a longer one is known; and a start for each line that a sheet may have. */
+static uint8_t sheet[65537];
+static uint16_t starts[4096];
+
+int main(int argc, char **argv) {
+    FILE *file = argc > 1 ? fopen(argv[1], "rb") : stdin;
+    if (file == NULL || argc > 2) {
+        fprintf(stderr, "usage: judge [FILE]\n");
+        return 2;
+    }
+    for (size_t i = 0; i < 4096; ++i) starts[i] = UINT16_MAX;
+    size_t length = fread(sheet, 1, sizeof sheet, file);
+    if (ferror(file)) return 2;
+    uint32_t answer[STAPLEHORN_ANSWER_FIELDS];
+    uint32_t reason = staplehorn_judge(sheet, length, starts, 4096, answer);
+    printf("reason %" PRIu32 ", line %" PRIu32 ", held %" PRIu32 ", peak %" PRIu32 "\n", answer[STAPLEHORN_REASON],
+           answer[STAPLEHORN_LINE], answer[STAPLEHORN_HELD], answer[STAPLEHORN_PEAK]);
+    for (size_t i = 0; i < 4096 && starts[i] != UINT16_MAX; ++i) printf("start %" PRIu16 "\n", starts[i]);
+    return reason != 0;
+}

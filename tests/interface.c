@@ -1,0 +1,100 @@
+/* Every function of the header called from C, with answers that are known: a prototype or a field's place that is wrong
+   shows here. Prints how many answers were right; exit status 1 if one is not. */
+#include <stdio.h>
+#include <string.h>
+
+#include "staplehorn.h"
+
+static int right, wrong;
+
+static void is(uint64_t got, uint64_t want, const char *what) {
+    if (got == want) {
+        ++right;
+        return;
+    }
+    ++wrong;
+    printf("%s: %llu instead of %llu\n", what, (unsigned long long)got, (unsigned long long)want);
+}
+
+static void words(void) {
+    uint32_t f[STAPLEHORN_INSTRUCTION_FIELDS], word = 7, k = 7;
+    is(staplehorn_instruction_decode(0, 0, 0, 0x08100010, f), 0, "decode");
+    is(f[STAPLEHORN_DTYPE], 1, "dtype");
+    is(f[STAPLEHORN_N], 64, "N");
+    is(f[STAPLEHORN_M], 128, "M");
+    is(staplehorn_instruction_encode(0, 0, 0, f, &word), 0, "encode");
+    is(word, 0x08100010, "word");
+    is(staplehorn_instruction_listed(0, 0, 0, f), 0, "listed");
+    is(staplehorn_instruction_judge(3, 0, 0, 0x080A00A0), 13, "judge");
+    is(staplehorn_instruction_k(1, 1, &k), 0, "k");
+    is(k, 16, "K");
+    is(staplehorn_instruction_decode(4, 0, 0, 0x08100010, f), 12, "wrong kind");
+    is(f[STAPLEHORN_N], 0, "zeros");
+    /* each field by itself, in i8 with .ws and .sp: 1 in every field that may hold it */
+    is(staplehorn_instruction_decode(3, 1, 1, 0x441184ADu, f), 0, "all fields");
+    is(f[STAPLEHORN_SELECTOR], 1, "selector");
+    is(f[STAPLEHORN_SPARSE], 1, "sparse");
+    is(f[STAPLEHORN_SATURATE], 1, "saturate");
+    is(f[STAPLEHORN_ATYPE], 1, "atype");
+    is(f[STAPLEHORN_BTYPE], 1, "btype");
+    is(f[STAPLEHORN_NEGATE_A] + f[STAPLEHORN_NEGATE_B], 0, "negate");
+    is(f[STAPLEHORN_TRANSPOSE_A], 1, "transpose A");
+    is(f[STAPLEHORN_TRANSPOSE_B], 1, "transpose B");
+    is(f[STAPLEHORN_MAX_SHIFT], 1, "max shift");
+}
+
+static void shared(void) {
+    uint64_t f[STAPLEHORN_SHARED_FIELDS], word = 7;
+    is(staplehorn_shared_decode(0x2012400800100001, f), 0, "shared decode");
+    is(f[STAPLEHORN_START], 16, "start");
+    is(f[STAPLEHORN_LEADING], 256, "leading");
+    is(f[STAPLEHORN_STRIDE], 128, "stride");
+    is(f[STAPLEHORN_BASE], 1, "base");
+    is(f[STAPLEHORN_MODE], 1, "mode");
+    is(f[STAPLEHORN_SWIZZLE], 1, "swizzle");
+    is(staplehorn_shared_encode(f, &word), 0, "shared encode");
+    is(word, 0x2012400800100001, "shared word");
+    is(staplehorn_request(512), 0, "request");
+    is(staplehorn_request(96), 9, "request of 96");
+}
+
+static void statements(void) {
+    const char *text = "mov.b32  x ,0x10 ;";
+    uint8_t room[STAPLEHORN_STATEMENT_ROOM];
+    size_t length = 7;
+    is(staplehorn_statement_reason((const uint8_t *)text, strlen(text)), 0, "statement");
+    is(staplehorn_statement_canonical((const uint8_t *)text, strlen(text), room, sizeof room, &length), 0, "canonical");
+    is(length, 14, "length");
+    is((uint64_t)memcmp(room, "mov.b32 x, 16;", 14), 0, "text");
+    is(staplehorn_statement_canonical((const uint8_t *)text, strlen(text), room, 13, &length), 19, "room of 13");
+    is(length, 0, "length on a refusal");
+}
+
+static void sheets(void) {
+    const char *sheet = "sheet\t1\tsm_100a\n0\ttcgen05.alloc.cta_group::1.sync.aligned.b32 [t], 64;\n"
+                        "0\ttcgen05.alloc.cta_group::1.sync.aligned.b32 [u], 32;\n"
+                        "0\ttcgen05.dealloc.cta_group::1.sync.aligned.b32 t, 64;\n0\texit;\n";
+    static uint8_t room[STAPLEHORN_REPORT_ROOM];
+    uint32_t answer[STAPLEHORN_ANSWER_FIELDS];
+    uint16_t starts[3] = {7, 7, 7};
+    size_t length = 7;
+    is(staplehorn_judge((const uint8_t *)sheet, strlen(sheet), starts, 3, answer), 15, "judge");
+    is(answer[STAPLEHORN_REASON], 15, "reason");
+    is(answer[STAPLEHORN_LINE], 5, "line");
+    is(answer[STAPLEHORN_HELD], 32, "held");
+    is(answer[STAPLEHORN_PEAK], 96, "peak");
+    is(starts[0] + starts[1] + starts[2], 21, "starts on a refusal");
+    is(staplehorn_report((const uint8_t *)sheet, strlen(sheet), room, sizeof room, &length), 15, "report");
+    is(length, 11, "length of the report");
+    is((uint64_t)memcmp(room, "15\t5\t32\t96\n", 11), 0, "bytes of the report");
+    is(staplehorn_report((const uint8_t *)sheet, strlen(sheet), room, sizeof room - 1, &length), 19, "short room");
+}
+
+int main(void) {
+    words();
+    shared();
+    statements();
+    sheets();
+    printf("%d answers right, %d wrong\n", right, wrong);
+    return wrong != 0 || right < 45;
+}
