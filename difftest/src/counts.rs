@@ -38,6 +38,10 @@ impl Counts {
         *self.outcomes.entry((function, outcome)).or_insert(0) += 1;
     }
 
+    pub fn differences(&self) -> u64 {
+        self.differences
+    }
+
     /// Prints the table and says whether all agreed and each wanted outcome was seen often enough.
     pub fn finish(&self, title: &str, wanted: &[(&'static str, u32, u64)]) -> bool {
         for ((function, outcome), n) in &self.outcomes {

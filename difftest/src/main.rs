@@ -1,16 +1,27 @@
-//! Compares the proved library with the reference: `difftest words`, `difftest statements`.
+//! Compares the proved library with the reference: `words`, `statements` and `sheets` with made inputs, `entries` with
+//! sheets whose answers were worked out by hand, `data` with the cases that `cases` wrote into a folder.
 
+mod cases;
+mod entries;
+mod faults;
+mod maker;
 mod readings;
+mod sheets;
 mod statements;
 mod words;
 
 fn main() {
-    let part = std::env::args().nth(1).unwrap_or_default();
-    let good = match part.as_str() {
-        "words" => words::run(),
-        "statements" => statements::run(),
+    let args: Vec<String> = std::env::args().skip(1).collect();
+    let args: Vec<&str> = args.iter().map(String::as_str).collect();
+    let good = match args[..] {
+        ["words"] => words::run(),
+        ["statements"] => statements::run(),
+        ["sheets"] => sheets::run(),
+        ["entries"] => entries::run(),
+        ["cases", folder] => cases::write(folder.as_ref()),
+        ["data", folder] => cases::compare(folder.as_ref()),
         _ => {
-            eprintln!("usage: difftest words|statements");
+            eprintln!("usage: difftest words|statements|sheets|entries, or difftest cases|data FOLDER");
             std::process::exit(2);
         }
     };

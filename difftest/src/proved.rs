@@ -19,6 +19,20 @@ pub mod c {
             room_length: usize,
             length: *mut usize,
         ) -> u32;
+        pub fn staplehorn_judge(
+            sheet: *const u8,
+            sheet_length: usize,
+            starts: *mut u16,
+            starts_length: usize,
+            answer: *mut [u32; 4],
+        ) -> u32;
+        pub fn staplehorn_report(
+            sheet: *const u8,
+            sheet_length: usize,
+            room: *mut u8,
+            room_length: usize,
+            length: *mut usize,
+        ) -> u32;
     }
 }
 
@@ -91,5 +105,19 @@ pub fn statement_reason(text: &[u8]) -> u32 {
 pub fn statement_canonical(text: &[u8], room: &mut [u8]) -> (u32, usize) {
     let mut length = usize::MAX;
     let reason = unsafe { c::staplehorn_statement_canonical(text.as_ptr(), text.len(), room.as_mut_ptr(), room.len(), &mut length) };
+    (reason, length)
+}
+
+/// The reason, and the answer: reason, line, held, peak.
+pub fn judge(sheet: &[u8], starts: &mut [u16]) -> (u32, [u32; 4]) {
+    let mut answer = [UNTOUCHED; 4];
+    let reason = unsafe { c::staplehorn_judge(sheet.as_ptr(), sheet.len(), starts.as_mut_ptr(), starts.len(), &mut answer) };
+    (reason, answer)
+}
+
+/// The reason of the sheet, and the length of its report in the room.
+pub fn report(sheet: &[u8], room: &mut [u8]) -> (u32, usize) {
+    let mut length = usize::MAX;
+    let reason = unsafe { c::staplehorn_report(sheet.as_ptr(), sheet.len(), room.as_mut_ptr(), room.len(), &mut length) };
     (reason, length)
 }

@@ -1,4 +1,4 @@
-//! A second implementation of the checker's leaf functions.
+//! A second implementation of the checker.
 //!
 //! It was written from the rules alone and shares no code with the checker it
 //! is compared with. It aims to be easy to check by eye.
@@ -6,8 +6,14 @@
 #![forbid(unsafe_code)]
 
 pub mod descriptor;
+pub mod entries;
+pub mod judge;
 pub mod name;
+pub mod report;
+pub mod run;
+pub mod sheet;
 pub mod statement;
 
+mod ledger;
 mod reader;
 mod writer;

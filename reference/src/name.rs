@@ -14,6 +14,9 @@ pub struct Name {
 }
 
 impl Name {
+    /// No bytes, to fill a place that is not in use.
+    pub const EMPTY: Name = Name { bytes: [0; LONGEST], length: 0 };
+
     /// Holds any bytes; `None` only when there are more than 16.
     pub fn new(text: &[u8]) -> Option<Name> {
         if text.len() > LONGEST {

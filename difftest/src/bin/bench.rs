@@ -1,13 +1,15 @@
 //! One measured run: `bench FUNCTION SIDE`, the side `proved` or `reference`. Under callgrind only `measured` counts
 //! (bench/words). Both sides are called through the same C signatures. Prints how many calls it made and a sum over
-//! the answers, which must be the same for both sides.
+//! the answers, which must be the same for both sides. For a sheet it prints its bytes as well.
 
 use staplehorn_difftest::proved::c;
 use staplehorn_difftest::random::Random;
 use staplehorn_reference::descriptor::{self as reference, Instruction, Kind, Shared};
-use staplehorn_reference::statement;
+use staplehorn_reference::{judge, statement};
 
 const CALLS: usize = 2_000;
+/// How many bytes of sheets are judged in one run.
+const SHEET_BYTES: usize = 131_072;
 
 /// Half of the words read, as in the comparison; the others are random.
 fn words() -> Vec<u32> {
@@ -78,6 +80,86 @@ fn text(name: &str) -> Option<Vec<u8>> {
     Some(String::into_bytes(text))
 }
 
+/// A sheet of a kind with as many lines as this many bytes allow. It passes.
+fn sheet(kind: &str, bytes: usize) -> Option<Vec<u8>> {
+    let (opening, lines, closing): (&str, fn(usize) -> String, &str) = match kind {
+        "allocs" => ("", alloc_lines, ""),
+        "loads" => (ALLOC, load_lines, DEALLOC),
+        "mma" => (ALLOC, mma_lines, DEALLOC),
+        "mov" => ("", mov_lines, ""),
+        "mixed" => (ALLOC, mixed_lines, DEALLOC),
+        _ => return None,
+    };
+    let mut sheet = format!("sheet\t1\tsm_100a\n{opening}");
+    let end = format!("{closing}0\texit;\n");
+    for turn in 0.. {
+        let more = lines(turn);
+        if sheet.len() + more.len() + end.len() > bytes {
+            break;
+        }
+        sheet.push_str(&more);
+    }
+    Some((sheet + &end).into_bytes())
+}
+
+const ALLOC: &str = "0\ttcgen05.alloc.cta_group::1.sync.aligned.b32 [taddr], 256;\n";
+const DEALLOC: &str = "0\ttcgen05.dealloc.cta_group::1.sync.aligned.b32 taddr, 256;\n";
+
+fn alloc_lines(turn: usize) -> String {
+    let (name, columns) = (turn % 100, 32 << (turn % 5));
+    format!(
+        "0\ttcgen05.alloc.cta_group::1.sync.aligned.b32 [t{name}], {columns};\n\
+         0\ttcgen05.dealloc.cta_group::1.sync.aligned.b32 t{name}, {columns};\n"
+    )
+}
+
+fn registers(count: usize) -> String {
+    (0..count).map(|i| format!("%r{i}")).collect::<Vec<_>>().join(", ")
+}
+
+fn load_lines(turn: usize) -> String {
+    let (warp, list) = (turn % 4, registers(if turn % 2 == 0 { 128 } else { 64 }));
+    let lane = warp * 32 * 65_536;
+    if turn % 2 == 0 {
+        format!("{warp}\ttcgen05.ld.sync.aligned.32x32b.x128.b32 {{{list}}}, [taddr+{}];\n", lane + 128)
+    } else {
+        format!("{warp}\ttcgen05.st.sync.aligned.16x64b.x64.b32 [taddr+{}], {{{list}}};\n", lane + 1_048_576)
+    }
+}
+
+fn mma_lines(turn: usize) -> String {
+    let (sparse, column) = (turn % 2 == 1, turn % 64);
+    let (sp, meta, word) = if sparse { (".sp", "[taddr+254], ", 0x0810_0014) } else { ("", "", 0x0810_0010) };
+    format!(
+        "0\tmov.b64 adesc, 0x0000400800100000;\n\
+         0\tmov.b64 bdesc, {};\n\
+         0\tmov.b32 idesc, {word:#010x};\n\
+         0\ttcgen05.mma{sp}.cta_group::1.kind::f16 [taddr+{column}], adesc, bdesc, {meta}idesc, p;\n\
+         0\ttcgen05.mma{sp}.cta_group::1.kind::f16 [taddr+{column}], [taddr+128], bdesc, {meta}idesc, p;\n",
+        0x0000_4008_0010_0000u64 + turn as u64
+    )
+}
+
+fn mov_lines(turn: usize) -> String {
+    let (name, wide) = (turn % 128, turn % 2 == 0);
+    format!("0\tmov.b{} value{name}, {};\n", if wide { 64 } else { 32 }, turn * 31)
+}
+
+fn mixed_lines(turn: usize) -> String {
+    let (name, list) = (turn % 10, registers(16));
+    format!(
+        "0\ttcgen05.alloc.cta_group::1.sync.aligned.shared::cta.b32 [t{name}], 64;\n\
+         1\ttcgen05.st.sync.aligned.32x32b.x16.b32 [t{name}+2097168], {{{list}}};\n\
+         1\ttcgen05.wait::st.sync.aligned;\n\
+         {}\
+         0\ttcgen05.fence::after_thread_sync;\n\
+         2\ttcgen05.ld.sync.aligned.16x256b.x4.b32 {{{list}}}, [t{name}+4194304];\n\
+         2\ttcgen05.wait::ld.sync.aligned;\n\
+         0\ttcgen05.dealloc.cta_group::1.sync.aligned.b32 t{name}, 64;\n",
+        mma_lines(turn)
+    )
+}
+
 /// The reference behind the signatures of include/staplehorn.h.
 mod behind {
     use super::*;
@@ -128,6 +210,13 @@ mod behind {
     }
 
     #[inline(never)]
+    pub unsafe extern "C" fn judge(sheet: *const u8, length: usize, starts: *mut u16, places: usize, answer: *mut [u32; 4]) -> u32 {
+        let a = judge::judge(std::slice::from_raw_parts(sheet, length), std::slice::from_raw_parts_mut(starts, places));
+        *answer = [a.reason, a.line as u32, a.held, a.peak];
+        a.reason
+    }
+
+    #[inline(never)]
     pub unsafe extern "C" fn shared_decode(word: u64, fields: *mut [u64; 6]) -> u32 {
         let (reason, d) = reference::decode_shared(word).map_or_else(|reason| (reason, Shared::default()), |d| (0, d));
         *fields = d.to_array();
@@ -161,6 +250,8 @@ fn main() {
         "reference" => false,
         _ => usage(),
     };
+    let mut calls = CALLS;
+    let mut bytes = None;
     let (words, shared, fields, six) = (words(), shared_words(), instruction_fields(), shared_fields());
     let mut work: Box<dyn FnMut() -> u64> = match function {
         "instruction_decode" => {
@@ -215,24 +306,42 @@ fn main() {
                     mixed(s, reason, n as u64, room[n / 2].into())
                 }))
             }
+            Some(("sheet", kind_and_size)) => {
+                let (kind, size) = kind_and_size.split_once(':').unwrap_or_else(|| usage());
+                let size: usize = size.parse().unwrap_or_else(|_| usage());
+                let t = sheet(kind, size).unwrap_or_else(|| usage());
+                calls = (SHEET_BYTES / size.max(1)).max(1);
+                bytes = Some(t.len());
+                let mut starts = vec![0; 4096];
+                let f = if proved { c::staplehorn_judge } else { behind::judge };
+                Box::new(move || (0..calls).fold(0, |s, _| {
+                    let mut answer = [0; 4];
+                    let reason = unsafe { f(t.as_ptr(), t.len(), starts.as_mut_ptr(), starts.len(), &mut answer) };
+                    assert_eq!(reason, 0, "a sheet to be measured passes");
+                    mixed(s, reason, answer[1].into(), u64::from(answer[3]) ^ u64::from(starts[1]) << 16)
+                }))
+            }
             _ => usage(),
         },
     };
     let sum = measured(&mut *work);
     // a third argument asks for the time of a call as well, the best of that many turns
     let turns = args.get(3).map_or(0, |n| n.parse().unwrap_or(0));
-    let best = (0..turns).map(|_| time(&mut *work)).fold(f64::INFINITY, f64::min);
-    println!("{CALLS} {sum} {best:.1}");
+    let best = (0..turns).map(|_| time(&mut *work, calls)).fold(f64::INFINITY, f64::min);
+    match bytes {
+        Some(bytes) => println!("{calls} {sum} {best:.1} {bytes}"),
+        None => println!("{calls} {sum} {best:.1}"),
+    }
 }
 
 /// Nanoseconds for each call.
-fn time(work: &mut dyn FnMut() -> u64) -> f64 {
+fn time(work: &mut dyn FnMut() -> u64, calls: usize) -> f64 {
     let began = std::time::Instant::now();
     std::hint::black_box(work());
-    began.elapsed().as_nanos() as f64 / CALLS as f64
+    began.elapsed().as_nanos() as f64 / calls as f64
 }
 
 fn usage() -> ! {
-    eprintln!("usage: bench FUNCTION proved|reference [TURNS]; FUNCTION is instruction_decode, instruction_encode, instruction_judge, shared_decode, shared_encode, reason:NAME or canonical:NAME");
+    eprintln!("usage: bench FUNCTION proved|reference [TURNS]; FUNCTION is instruction_decode, instruction_encode, instruction_judge, shared_decode, shared_encode, reason:NAME, canonical:NAME or sheet:KIND:BYTES");
     std::process::exit(2);
 }

@@ -1,0 +1,723 @@
+//! Whole sheets: each is judged by both sides, with a list of some length lent to it. The answers and every place of the
+//! list are compared, on refusals too, and the whole report on a sample. A passed sheet is also run, under its own
+//! starts and under others.
+
+use crate::faults::damage;
+use crate::maker::Maker;
+use staplehorn_difftest::counts::Counts;
+use staplehorn_difftest::proved;
+use staplehorn_difftest::random::Random;
+use staplehorn_reference::judge::judge;
+use staplehorn_reference::report::report;
+use staplehorn_reference::run::{choose_starts, run as run_steps, End, Outcome};
+use staplehorn_reference::sheet::{steps, Step};
+use staplehorn_reference::statement::Statement;
+
+/// What stands in a list or room before a call, to see what was touched.
+const BEFORE: u16 = 0xA5A5;
+const BEFORE_BYTE: u8 = 0xA5;
+/// The longest list lent, and places behind a list that must stay as they are.
+const LONGEST: usize = 4_200;
+const GUARD: usize = 8;
+/// The least room that takes any report.
+const ROOM: usize = 102_391;
+
+/// What is compared with the reference.
+pub trait Side {
+    /// The value returned, and the four numbers of the answer.
+    fn judge(&self, sheet: &[u8], starts: &mut [u16]) -> (u32, [u32; 4]);
+    /// The value returned, and the length.
+    fn report(&self, sheet: &[u8], room: &mut [u8]) -> (u32, usize);
+}
+
+/// The library behind its C interface.
+pub struct Proved;
+
+impl Side for Proved {
+    fn judge(&self, sheet: &[u8], starts: &mut [u16]) -> (u32, [u32; 4]) {
+        proved::judge(sheet, starts)
+    }
+
+    fn report(&self, sheet: &[u8], room: &mut [u8]) -> (u32, usize) {
+        proved::report(sheet, room)
+    }
+}
+
+/// The reference in the same dress.
+pub struct Reference;
+
+impl Side for Reference {
+    fn judge(&self, sheet: &[u8], starts: &mut [u16]) -> (u32, [u32; 4]) {
+        let a = judge(sheet, starts);
+        (a.reason, [a.reason, a.line as u32, a.held, a.peak])
+    }
+
+    fn report(&self, sheet: &[u8], room: &mut [u8]) -> (u32, usize) {
+        if room.len() < ROOM {
+            return (19, 0);
+        }
+        let text = report(sheet);
+        room[..text.len()].copy_from_slice(&text);
+        let digits = text.iter().take_while(|b| b.is_ascii_digit());
+        (digits.fold(0, |n, b| 10 * n + u32::from(b - b'0')), text.len())
+    }
+}
+
+/// How long a list is lent, beside the number of allocs.
+#[derive(Clone, Copy)]
+enum Lent {
+    Empty,
+    OneLess,
+    Exact,
+    OneMore,
+    Many,
+}
+
+impl Lent {
+    const ALL: [Lent; 5] = [Lent::Empty, Lent::OneLess, Lent::Exact, Lent::OneMore, Lent::Many];
+
+    fn places(self, allocs: usize) -> usize {
+        match self {
+            Lent::Empty => 0,
+            Lent::OneLess => allocs.saturating_sub(1),
+            Lent::Exact => allocs,
+            Lent::OneMore => allocs + 1,
+            Lent::Many => allocs + 40,
+        }
+    }
+}
+
+/// Compares one side with the reference, sheet by sheet.
+struct Comparison<'a, S: Side> {
+    side: &'a S,
+    counts: Counts,
+    r: Random,
+    ours: Vec<u16>,
+    theirs: Vec<u16>,
+    room: Vec<u8>,
+    seen: u64,
+}
+
+impl<'a, S: Side> Comparison<'a, S> {
+    fn new(side: &'a S, seed: u64) -> Self {
+        Comparison {
+            side,
+            counts: Counts::new(),
+            r: Random::new(seed),
+            ours: vec![BEFORE; LONGEST + GUARD],
+            theirs: vec![BEFORE; LONGEST + GUARD],
+            room: vec![BEFORE_BYTE; ROOM + GUARD],
+            seen: 0,
+        }
+    }
+
+    /// Asks both sides and answers what the reference says.
+    fn sheet(&mut self, sheet: &[u8], places: usize) -> [u32; 4] {
+        let all = places + GUARD;
+        self.ours[..all].fill(BEFORE);
+        self.theirs[..all].fill(BEFORE);
+        let (reason, ours) = self.side.judge(sheet, &mut self.ours[..places]);
+        let (_, theirs) = Reference.judge(sheet, &mut self.theirs[..places]);
+        self.counts.seen("all sheets", 0);
+        let same = self.ours[..all] == self.theirs[..all];
+        self.counts.compare("sheets", theirs[0], (reason, ours, same), (theirs[0], theirs, true), || shown(sheet, places));
+        if theirs[0] != 0 {
+            let untouched = self.ours[..all].iter().all(|&place| place == BEFORE);
+            self.counts.compare("refusals, list", theirs[0], untouched, true, || shown(sheet, places));
+        }
+        self.seen += 1;
+        if self.seen % 16 == 0 {
+            self.report(sheet);
+        }
+        if theirs[0] == 0 && sheet.len() < 20_000 || self.seen % 8 == 0 {
+            self.runs(sheet, theirs, places);
+        }
+        theirs
+    }
+
+    /// Several lists for one sheet.
+    fn lists(&mut self, sheet: &[u8], allocs: usize) -> [u32; 4] {
+        let lent = self.r.pick(&Lent::ALL);
+        self.sheet(sheet, lent.places(allocs))
+    }
+
+    /// A sheet that was made to get this answer.
+    fn made(&mut self, sheet: &[u8], allocs: usize, wanted: [u32; 4]) {
+        let lent = self.r.pick(&Lent::ALL);
+        let places = lent.places(allocs);
+        let answer = self.sheet(sheet, places);
+        let wanted = if wanted[0] == 0 && places < allocs { [16, wanted[1], wanted[2], wanted[3]] } else { wanted };
+        self.counts.compare("as made", wanted[0], answer, wanted, || shown(sheet, places));
+    }
+
+    fn report(&mut self, sheet: &[u8]) {
+        let text = report(sheet);
+        let (reason, length) = self.side.report(sheet, &mut self.room[..ROOM]);
+        let (theirs, _) = Reference.judge(sheet, &mut [0; LONGEST]);
+        let front = &self.room[..length.min(ROOM)];
+        let clean = self.room[length.min(ROOM)..].iter().all(|&b| b == BEFORE_BYTE);
+        self.counts.compare("reports", theirs, (reason, front, clean), (theirs, &text, true), || shown(sheet, 0));
+        self.room.fill(BEFORE_BYTE);
+        if self.seen % 64 == 0 {
+            let short = self.side.report(sheet, &mut self.room[..ROOM - 1]);
+            let clean = self.room.iter().all(|&b| b == BEFORE_BYTE);
+            self.counts.compare("reports, short room", 19, (short, clean), ((19, 0), true), || shown(sheet, 0));
+            self.room.fill(BEFORE_BYTE);
+        }
+    }
+
+    /// What is claimed of a passed sheet: the run under its own starts, and under others.
+    fn runs(&mut self, sheet: &[u8], answer: [u32; 4], places: usize) {
+        if answer[0] != 0 {
+            return;
+        }
+        let steps = steps(sheet).expect("a passed sheet reads");
+        let allocs = count_allocs(&steps);
+        let own: Vec<u32> = self.ours[..allocs.min(places)].iter().map(|&start| start.into()).collect();
+        let outcome = run_steps(&steps, &own);
+        let wanted = (End::Exited(answer[1] as usize), answer[3], true);
+        self.counts.compare("run, own starts", 0, (outcome.end, outcome.peak, is_sound(&outcome)), wanted, || shown(sheet, places));
+        // the placing is the lowest start that may be used
+        let lowest = choose_starts(&steps, |usable| usable[0]);
+        self.counts.compare("run, lowest starts", 0, &lowest, &own, || shown(sheet, places));
+        if self.seen % 2 == 0 {
+            return;
+        }
+        let mut r = Random::new(self.seen);
+        let highest = choose_starts(&steps, |usable| usable[usable.len() - 1]);
+        self.placed("run, highest starts", sheet, &steps, &highest, allocs);
+        let free = choose_starts(&steps, |usable| r.pick(usable));
+        self.placed("run, free starts", sheet, &steps, &free, allocs);
+        // own starts but for a few, and starts at random
+        let mut near = own;
+        if !near.is_empty() {
+            let at = r.below(near.len() as u64) as usize;
+            near[at] = r.pick(&[0, 32, 64, 96, 480, 16, 511, 512, 1 << 20]);
+        }
+        self.any_starts("run, other starts", sheet, &steps, &near);
+        let random: Vec<u32> = (0..allocs).map(|_| if r.below(9) == 0 { r.below(600) as u32 } else { 32 * r.below(16) as u32 }).collect();
+        self.any_starts("run, random starts", sheet, &steps, &random);
+    }
+
+    /// Starts that were each free when chosen: the run stops only where there was none.
+    fn placed(&mut self, what: &'static str, sheet: &[u8], steps: &[Step], starts: &[u32], allocs: usize) {
+        let outcome = run_steps(steps, starts);
+        let (wanted, outcome_kind) = if starts.len() == allocs {
+            (End::Exited(steps.len() + 1), 0)
+        } else {
+            (End::Stopped(line_of_alloc(steps, starts.len())), 1)
+        };
+        self.counts.compare(what, outcome_kind, (outcome.end, is_sound(&outcome)), (wanted, true), || shown(sheet, starts.len()));
+        if outcome_kind == 1 {
+            let line = line_of_alloc(steps, starts.len());
+            let none = (0..16).all(|unit| first_unusable(&steps[..line - 1], &[starts, &[32 * unit]].concat()) == Some(line));
+            self.counts.compare("run, no free run", 0, none, true, || shown(sheet, starts.len()));
+        }
+    }
+
+    /// Any starts: the run stops at the first that may not be used, and else exits.
+    fn any_starts(&mut self, what: &'static str, sheet: &[u8], steps: &[Step], starts: &[u32]) {
+        let outcome = run_steps(steps, starts);
+        let (wanted, outcome_kind) = match first_unusable(steps, starts) {
+            Some(line) => (End::Stopped(line), 1),
+            None => (End::Exited(steps.len() + 1), 0),
+        };
+        self.counts.compare(what, outcome_kind, (outcome.end, is_sound(&outcome)), (wanted, true), || format!("{starts:?} {}", shown(sheet, 0)));
+    }
+}
+
+/// After every line done: no overlap, nothing outside, and columns that add up. Nothing is held at the exit.
+fn is_sound(outcome: &Outcome) -> bool {
+    let empty = match outcome.end {
+        End::Exited(_) => outcome.seen.last().is_some_and(|seen| seen.held == 0 && seen.asked == seen.given_back),
+        _ => true,
+    };
+    let all = match outcome.end {
+        End::Exited(line) => outcome.seen.len() == line - 1,
+        End::Stopped(line) => outcome.seen.len() == line - 2,
+        End::Ended => true,
+    };
+    empty && all && outcome.seen.iter().all(|seen| seen.is_good())
+}
+
+fn count_allocs(steps: &[Step]) -> usize {
+    steps.iter().filter(|step| matches!(step.statement, Statement::Alloc { .. })).count()
+}
+
+/// The line of an alloc, counted from 0.
+fn line_of_alloc(steps: &[Step], number: usize) -> usize {
+    let mut places = (0..steps.len()).filter(|&place| matches!(steps[place].statement, Statement::Alloc { .. }));
+    places.nth(number).map_or(0, |place| place + 2)
+}
+
+/// The line of the first alloc whose start may not be used. Only allocs and deallocs are looked at.
+fn first_unusable(steps: &[Step], starts: &[u32]) -> Option<usize> {
+    let mut holder = [None; 512];
+    let mut starts = starts.iter();
+    for (place, step) in steps.iter().enumerate() {
+        match &step.statement {
+            Statement::Alloc { name, columns } => {
+                let Some(&start) = starts.next() else {
+                    return Some(place + 2);
+                };
+                let (first, end) = (start as usize, start as usize + *columns as usize);
+                if first % 32 != 0 || end > 512 || holder[first..end].iter().any(Option::is_some) {
+                    return Some(place + 2);
+                }
+                holder[first..end].fill(Some(*name));
+            }
+            Statement::Dealloc { name, .. } => {
+                for column in holder.iter_mut().filter(|column| **column == Some(*name)) {
+                    *column = None;
+                }
+            }
+            _ => {}
+        }
+    }
+    None
+}
+
+fn shown(sheet: &[u8], places: usize) -> String {
+    let text = String::from_utf8_lossy(sheet);
+    let tail = if text.len() > 900 { text.char_indices().rev().nth(600).map_or(0, |(at, _)| at) } else { 0 };
+    format!("{} bytes, list of {places}: {:?}", sheet.len(), &text[tail..])
+}
+
+// kinds of sheets
+
+/// Lines that pass. Most sheets are short.
+fn valid_lines(m: &mut Maker) {
+    let count = match m.r.below(40) {
+        0 => 60 + m.r.below(100),
+        1..=9 => 10 + m.r.below(30),
+        _ => m.r.below(12),
+    };
+    for _ in 0..count {
+        m.valid();
+    }
+}
+
+fn valid<S: Side>(c: &mut Comparison<S>, r: &mut Random) {
+    let mut m = Maker::new(r);
+    m.may_relinquish = true;
+    valid_lines(&mut m);
+    m.exit();
+    c.made(&m.bytes, m.allocs, [0, m.lines, 0, m.peak]);
+}
+
+/// One line is aimed at a reason; what follows does not matter.
+fn one_fault<S: Side>(c: &mut Comparison<S>, r: &mut Random, reason: u32) {
+    let mut m = Maker::new(r);
+    valid_lines(&mut m);
+    if !m.fault(reason) {
+        return;
+    }
+    let wanted = [reason, m.lines, m.held(), m.peak];
+    tail(&mut m);
+    c.made(&m.bytes, m.allocs, wanted);
+}
+
+/// Some lines behind a fault, or none, or bytes without an end.
+fn tail(m: &mut Maker) {
+    match m.r.below(5) {
+        0 => m.exit(),
+        1 => {
+            for _ in 0..m.r.below(5) {
+                m.wild();
+            }
+        }
+        2 => {
+            let reason = 2 + m.r.below(14) as u32;
+            m.fault(reason);
+        }
+        3 => m.bytes.extend_from_slice(b"0\texit;"),
+        _ => {}
+    }
+}
+
+/// Faults in two lines: the earlier counts.
+fn two_faults<S: Side>(c: &mut Comparison<S>, r: &mut Random) {
+    let mut m = Maker::new(r);
+    valid_lines(&mut m);
+    let (first, second) = (2 + m.r.below(14) as u32, 2 + m.r.below(14) as u32);
+    if !m.fault(first) {
+        return;
+    }
+    let wanted = [first, m.lines, m.held(), m.peak];
+    m.fault(second);
+    tail(&mut m);
+    c.made(&m.bytes, m.allocs, wanted);
+}
+
+/// A line with any number of faults, then the end.
+fn wild<S: Side>(c: &mut Comparison<S>, r: &mut Random) {
+    let mut m = Maker::new(r);
+    m.may_relinquish = m.r.below(2) == 0;
+    valid_lines(&mut m);
+    for _ in 0..1 + m.r.below(2) {
+        m.wild();
+    }
+    m.exit();
+    c.lists(&m.bytes, m.allocs);
+}
+
+/// Valid lines without an exit, or lines behind it.
+fn around_exit<S: Side>(c: &mut Comparison<S>, r: &mut Random) {
+    let mut m = Maker::new(r);
+    valid_lines(&mut m);
+    match m.r.below(4) {
+        0 => {
+            let wanted = [15, m.lines, m.held(), m.peak];
+            c.made(&m.bytes, m.allocs, wanted);
+        }
+        1 => {
+            m.exit();
+            let (lines, peak) = (m.lines, m.peak);
+            let reason = 2 + m.r.below(4) as u32;
+            m.fault(reason);
+            c.made(&m.bytes, m.allocs, [reason, lines + 1, 0, peak]);
+        }
+        2 => {
+            m.exit();
+            let wanted = [2, m.lines + 1, 0, m.peak];
+            let open = m.r.pick(&["0", " ", "0\texit;", "sheet\t1\tsm_100a", "\0"]);
+            m.bytes.extend_from_slice(open.as_bytes());
+            c.made(&m.bytes, m.allocs, wanted);
+        }
+        _ => {
+            m.exit();
+            m.wild();
+            c.lists(&m.bytes, m.allocs);
+        }
+    }
+}
+
+/// A valid sheet with a few bytes changed anywhere.
+fn damaged<S: Side>(c: &mut Comparison<S>, r: &mut Random) {
+    let mut m = Maker::new(r);
+    m.may_relinquish = true;
+    valid_lines(&mut m);
+    m.exit();
+    let (mut bytes, allocs) = (m.bytes, m.allocs);
+    for _ in 0..1 + r.below(3) {
+        damage(r, &mut bytes);
+    }
+    c.lists(&bytes, allocs);
+}
+
+/// A valid sheet with a line left out, doubled or moved.
+fn shuffled<S: Side>(c: &mut Comparison<S>, r: &mut Random) {
+    let mut m = Maker::new(r);
+    m.may_relinquish = true;
+    valid_lines(&mut m);
+    m.exit();
+    let allocs = m.allocs;
+    let mut lines: Vec<&[u8]> = m.bytes.split_inclusive(|&b| b == b'\n').collect();
+    let (at, to) = (m.r.below(lines.len() as u64) as usize, m.r.below(lines.len() as u64) as usize);
+    let line = lines[at];
+    match m.r.below(3) {
+        0 => {
+            lines.remove(at);
+        }
+        1 => lines.insert(to, line),
+        _ => lines.swap(at, to),
+    }
+    c.lists(&lines.concat(), allocs);
+}
+
+/// Bytes that are no sheet, and first lines that are nearly right.
+fn noise<S: Side>(c: &mut Comparison<S>, r: &mut Random) {
+    let mut bytes = if r.below(2) == 0 { b"sheet\t1\tsm_100a\n".to_vec() } else { Vec::new() };
+    if r.below(3) == 0 {
+        damage(r, &mut bytes);
+    }
+    for _ in 0..r.below(30) {
+        let byte = if r.below(2) == 0 { r.next() as u8 } else { r.pick(b"0123*\t\t\t\nexit;mov. []") };
+        bytes.push(byte);
+    }
+    c.lists(&bytes, 3);
+}
+
+/// Too many bytes or lines: small lines, so that it is soon done.
+fn too_long<S: Side>(c: &mut Comparison<S>, r: &mut Random) {
+    let extra = r.below(3) as usize;
+    let mut m = Maker::new(r);
+    for _ in 0..m.r.below(20) {
+        m.valid();
+    }
+    let line = m.r.pick(&["", "0", "0\texit;", "0\tmov.b32 x,1;"]).as_bytes();
+    while m.lines < 4_096 + 1 + extra as u32 {
+        m.raw(line);
+    }
+    if m.r.below(3) == 0 {
+        // one line less, and a byte for it
+        m.bytes.truncate(m.bytes.len() - line.len() - 1);
+        m.bytes.push(b'0');
+    }
+    c.made(&m.bytes, m.allocs, [1, 0, 0, 0]);
+}
+
+/// Sheets at the limits of bytes and lines, and one past them.
+fn at_limits<S: Side>(c: &mut Comparison<S>, r: &mut Random) {
+    for bytes in [65_534, 65_535, 65_536, 65_537, 65_538, 70_000] {
+        let mut m = Maker::new(r);
+        let most = [0, 300, 30_000, 62_000][m.r.below(4) as usize];
+        while m.bytes.len() < most {
+            m.valid();
+        }
+        m.exit_at(bytes);
+        let wanted = if bytes > 65_536 { [1, 0, 0, 0] } else { [0, m.lines, 0, m.peak] };
+        c.made(&m.bytes, m.allocs, wanted);
+    }
+    for lines in [4_094, 4_095, 4_096, 4_097, 4_098] {
+        let mut m = Maker::new(r);
+        for _ in 0..m.r.below(60) {
+            m.valid();
+        }
+        let held = m.held();
+        while m.lines < lines - 1 {
+            m.raw(b"0\tmov.b32 x,1;");
+        }
+        m.raw(b"3\texit;");
+        let name_free = held == 0;
+        let wanted = if lines > 4_096 {
+            [1, 0, 0, 0]
+        } else if name_free {
+            [0, lines, 0, m.peak]
+        } else {
+            [15, lines, held, m.peak]
+        };
+        c.made(&m.bytes, m.allocs, wanted);
+        // an open line counts
+        m.bytes.push(b'x');
+        let wanted = if lines + 1 > 4_096 { [1, 0, 0, 0] } else { [2, lines + 1, 0, m.peak] };
+        if name_free {
+            c.made(&m.bytes, m.allocs, wanted);
+        } else {
+            c.lists(&m.bytes, m.allocs);
+        }
+    }
+}
+
+/// Lines, lists and tables at their limits.
+fn small_limits<S: Side>(c: &mut Comparison<S>, r: &mut Random) {
+    for length in 2_046..=2_050 {
+        let mut m = Maker::new(r);
+        valid_lines(&mut m);
+        let (held, peak, line) = (m.held(), m.peak, m.lines + 1);
+        let text = match m.r.below(3) {
+            0 => format!("2\ttcgen05.wait::ld.sync.aligned{};", " ".repeat(length - 32)),
+            1 => format!("0\ttcgen05.fence::before_thread_sync{};", " ".repeat(length - 36)),
+            _ => format!("0\tmov.b64 xx, 0x{}1;", "0".repeat(length - 18)),
+        };
+        assert_eq!(text.len(), length);
+        m.raw(text.as_bytes());
+        m.exit();
+        let wanted = if length > 2_048 { [2, line, held, peak] } else { [0, m.lines, 0, m.peak] };
+        c.made(&m.bytes, m.allocs, wanted);
+    }
+    for count in [126, 127, 128, 129, 130] {
+        let mut m = Maker::new(r);
+        m.alloc(512);
+        let list = vec!["r"; count].join(",");
+        m.raw(format!("0\ttcgen05.ld.sync.aligned.32x32b.x128.b32{{{list}}},[q];").as_bytes());
+        let reason = match count {
+            128 => 6,
+            129.. => 3,
+            _ => 5,
+        };
+        let wanted = [reason, m.lines, 512, 512];
+        m.exit();
+        c.made(&m.bytes, m.allocs, wanted);
+    }
+    for count in [127, 128, 129] {
+        let mut m = Maker::new(r);
+        for i in 0..count {
+            m.raw(format!("1\tmov.b32 v{i}, {i};").as_bytes());
+        }
+        let wanted = if count > 128 { [7, 130, 0, 0] } else { [0, count + 2, 0, 0] };
+        m.raw(b"1\texit;");
+        c.made(&m.bytes, m.allocs, wanted);
+    }
+    // as many allocs as bytes allow, so that the list is long
+    let mut m = Maker::new(r);
+    while m.bytes.len() < 64_000 {
+        let columns = m.r.pick(&[32, 64, 128]);
+        if !m.alloc(columns) {
+            m.give_all_back();
+        }
+    }
+    m.exit();
+    c.made(&m.bytes, m.allocs, [0, m.lines, 0, m.peak]);
+}
+
+/// Compares a side with the reference on so many rounds of sheets; each round has about 100.
+fn compare<S: Side>(side: &S, rounds: u64) -> Counts {
+    let mut c = Comparison::new(side, 4);
+    let mut r = Random::new(3);
+    for round in 0..rounds {
+        for _ in 0..20 {
+            valid(&mut c, &mut r);
+        }
+        for reason in 2..=15 {
+            // some need a long sheet
+            for _ in 0..if reason == 7 { 1 } else { 3 } {
+                one_fault(&mut c, &mut r, reason);
+            }
+        }
+        for _ in 0..10 {
+            two_faults(&mut c, &mut r);
+            wild(&mut c, &mut r);
+        }
+        for _ in 0..6 {
+            around_exit(&mut c, &mut r);
+            damaged(&mut c, &mut r);
+        }
+        for _ in 0..3 {
+            shuffled(&mut c, &mut r);
+            noise(&mut c, &mut r);
+        }
+        if round % 4 == 0 {
+            too_long(&mut c, &mut r);
+        }
+        if round % 50 == 0 {
+            at_limits(&mut c, &mut r);
+            small_limits(&mut c, &mut r);
+        }
+    }
+    c.counts
+}
+
+/// What must have been seen, and how often at least.
+fn wanted(sheets: u64) -> Vec<(&'static str, u32, u64)> {
+    let mut wanted: Vec<_> = (0..=16).map(|reason| ("sheets", reason, sheets)).collect();
+    wanted.push(("all sheets", 0, 600 * sheets));
+    wanted.extend((0..=15).map(|reason| ("reports", reason, sheets / 20)));
+    wanted.extend((1..=16).map(|reason| ("as made", reason, sheets / 2)));
+    for what in ["run, other starts", "run, random starts"] {
+        wanted.extend([(what, 0, sheets), (what, 1, sheets)]);
+    }
+    for what in ["run, own starts", "run, lowest starts", "run, highest starts", "run, free starts"] {
+        wanted.push((what, 0, sheets));
+    }
+    wanted.extend([("run, free starts", 1, 20), ("reports, short room", 19, 100)]);
+    wanted
+}
+
+pub fn run() -> bool {
+    compare(&Proved, 3_200).finish("sheets", &wanted(500))
+}
+
+#[cfg(test)]
+mod tests {
+    use super::*;
+    use staplehorn_reference::sheet::{count_lines, Lines};
+
+    /// Few rounds, for a build without optimization.
+    const ROUNDS: u64 = 12;
+
+    /// The reference with its answer or its list changed.
+    struct Faulty(fn(&[u8], &mut [u16], &mut [u32; 4]));
+
+    impl Side for Faulty {
+        fn judge(&self, sheet: &[u8], starts: &mut [u16]) -> (u32, [u32; 4]) {
+            let (_, mut answer) = Reference.judge(sheet, starts);
+            self.0(sheet, starts, &mut answer);
+            (answer[0], answer)
+        }
+
+        fn report(&self, sheet: &[u8], room: &mut [u8]) -> (u32, usize) {
+            Reference.report(sheet, room)
+        }
+    }
+
+    /// The reference with its report changed.
+    struct FaultyReport(fn(&mut [u8], &mut (u32, usize)));
+
+    impl Side for FaultyReport {
+        fn judge(&self, sheet: &[u8], starts: &mut [u16]) -> (u32, [u32; 4]) {
+            Reference.judge(sheet, starts)
+        }
+
+        fn report(&self, sheet: &[u8], room: &mut [u8]) -> (u32, usize) {
+            let mut answer = Reference.report(sheet, room);
+            self.0(room, &mut answer);
+            answer
+        }
+    }
+
+    /// Another value returned than stands in the answer.
+    struct OtherReturn;
+
+    impl Side for OtherReturn {
+        fn judge(&self, sheet: &[u8], starts: &mut [u16]) -> (u32, [u32; 4]) {
+            (0, Reference.judge(sheet, starts).1)
+        }
+
+        fn report(&self, sheet: &[u8], room: &mut [u8]) -> (u32, usize) {
+            Reference.report(sheet, room)
+        }
+    }
+
+    fn is_found(side: &impl Side) -> bool {
+        compare(side, ROUNDS).differences() > 0
+    }
+
+    #[test]
+    fn the_reference_agrees_with_itself() {
+        assert_eq!(compare(&Reference, ROUNDS).differences(), 0);
+    }
+
+    #[test]
+    fn faults_in_answers_are_found() {
+        let faults: [(&str, fn(&[u8], &mut [u16], &mut [u32; 4])); 9] = [
+            ("13 for 12", |_, _, a| if a[0] == 12 { a[0] = 13 }),
+            ("11 passed over", |_, _, a| if a[0] == 11 { *a = [0, a[1], 0, a[3]] }),
+            ("held at exit", |_, _, a| if a[0] == 15 { a[2] = 0 }),
+            ("peak of a pass", |_, _, a| if a[0] == 0 && a[3] == 512 { a[3] = 480 }),
+            ("line of 16", |_, _, a| if a[0] == 16 { a[1] -= 1 }),
+            ("4,096 lines", |s, _, a| if count_lines(s) == 4_096 { *a = [1, 0, 0, 0] }),
+            ("65,536 bytes", |s, _, a| if s.len() == 65_536 { *a = [1, 0, 0, 0] }),
+            ("line of 2,048 bytes", |s, _, a| if Lines::new(s).any(|l| l.bytes.len() == 2_048) { *a = [2, 2, 0, 0] }),
+            ("16 for a list that is long enough", |_, l, a| if a[0] == 0 && l.len() == 1 { a[0] = 16 }),
+        ];
+        for (name, fault) in faults {
+            assert!(is_found(&Faulty(fault)), "{name}");
+        }
+        assert!(is_found(&OtherReturn));
+    }
+
+    #[test]
+    fn faults_in_lists_are_found() {
+        let faults: [(&str, fn(&[u8], &mut [u16], &mut [u32; 4])); 4] = [
+            ("list touched on a refusal", |_, l, a| if a[0] == 14 && !l.is_empty() { l[0] = 0 }),
+            ("list touched on 16", |_, l, a| if a[0] == 16 && !l.is_empty() { l[0] = 0 }),
+            ("one place too many", |_, l, a| {
+                if let (0, Some(place)) = (a[0], l.iter_mut().find(|place| **place == BEFORE)) {
+                    *place = 0;
+                }
+            }),
+            ("another start", |_, l, a| {
+                if let (0, Some(start)) = (a[0], l.iter_mut().find(|start| **start == 96)) {
+                    *start = 128;
+                }
+            }),
+        ];
+        for (name, fault) in faults {
+            assert!(is_found(&Faulty(fault)), "{name}");
+        }
+    }
+
+    #[test]
+    fn faults_in_reports_are_found() {
+        let faults: [(&str, fn(&mut [u8], &mut (u32, usize))); 4] = [
+            ("a byte", |room, a| if a.1 > 20 { room[a.1 - 2] ^= 1 }),
+            ("the length", |_, a| if a.0 == 6 { a.1 -= 1 }),
+            ("the reason", |_, a| if a.0 == 9 { a.0 = 8 }),
+            ("a byte behind the report", |room, a| if a.0 == 0 { room[a.1] = 0 }),
+        ];
+        for (name, fault) in faults {
+            assert!(is_found(&FaultyReport(fault)), "{name}");
+        }
+    }
+}
