@@ -1,5 +1,5 @@
-/* bounded TURNS SEED FILE..: the sheets in the files, each as it is and then mutated, TURNS inputs in all. For the gate:
-   the same inputs at every run. */
+/* bounded TURNS SEED FILE..: the sheets in the files, each as it is and then mutated, and some random bytes, TURNS inputs in
+   all. For the gate: the same inputs at every run. */
 #include <stdio.h>
 #include <stdlib.h>
 #include <string.h>
@@ -34,6 +34,15 @@ static size_t mutated(size_t n) {
     }
 }
 
+/* Random bytes, half of them behind a right first line. */
+static size_t random_bytes(void) {
+    static const char header[] = "sheet\t1\tsm_100a\n0\t";
+    size_t n = below(400), from = below(2) ? sizeof header - 1 : 0;
+    memcpy(bytes + 1, header, from);
+    for (size_t i = 0; i < n; ++i) bytes[1 + from + i] = (uint8_t)(below(4) ? 32 + below(95) : below(256));
+    return 1 + from + n;
+}
+
 int main(int argc, char **argv) {
     if (argc < 4) return 2;
     long turns = atol(argv[1]), done = 0;
@@ -45,6 +54,7 @@ int main(int argc, char **argv) {
         size_t n = 1 + fread(bytes + 1, 1, LARGEST - 1, file);
         fclose(file);
         uint32_t changes = done < argc - 3 ? 0 : 1 + below(4);
+        if (changes && below(8) == 0) n = random_bytes();
         for (uint32_t i = 0; i < changes; ++i) n = mutated(n);
         try_bytes(bytes, n);
         ++done;

@@ -54,7 +54,8 @@ static void try_statement(const uint8_t *text, size_t length, size_t places) {
     size_t *size = marked(sizeof(size_t)), want;
     uint32_t reason = reference_statement(text, length, theirs, places, &want);
     must(staplehorn_statement_reason(text, length) == reason, "reason of a statement");
-    staplehorn_statement_canonical(text, length, ours, places, size);
+    uint32_t written = reason == 3 || reason == 4 ? reason : want == 0 ? 19 : 0;
+    must(staplehorn_statement_canonical(text, length, ours, places, size) == written, "reason of the writing");
     must(*size == want, "length of a statement");
     must(memcmp(ours, theirs, want) == 0, "canonical text");
     for (size_t i = want; i < places; ++i) must(ours[i] == MARK, "room past the text");

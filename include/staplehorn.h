@@ -3,8 +3,8 @@
  *
  * Every function returns a reason: 0 for good, else the number given beside it; docs/FORMAT.md explains each. Arrays have
  * the sizes written here. A pointer is aligned and not null, also where its length is 0, and what one call writes overlaps
- * nothing else that it is lent. No function keeps a pointer, has a state, or takes memory from the heap; 64 KiB of stack
- * are enough, for staplehorn_report 256 KiB. Any numbers and any bytes may be passed.
+ * nothing else that it is lent. No function keeps a pointer, has a state, or takes memory from the heap; 256 KiB of stack
+ * are enough. Any numbers and any bytes may be passed.
  *
  * An opcode is three numbers: kind 0 f16, 1 tf32, 2 f8f6f4, 3 i8; ws and sp, 0 or 1, say whether `.ws` and `.sp`
  * stand. Any other number is refused with 12.

@@ -2,7 +2,8 @@
 use libc::STDIN_FILENO;
 use libc::STDOUT_FILENO;
 
-// Whether the input is at its end. Where an earlier read failed, this one fails too or gives a byte.
+// Whether the input is at its end. After a read that failed, this one fails too or gives a byte, as it does on files, pipes
+// and terminals.
 fn at_end() -> bool {
     let mut one = [0u8; 1];
     let got = libc::read(STDIN_FILENO, &mut one);
