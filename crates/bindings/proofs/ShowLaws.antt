@@ -16,7 +16,8 @@ use Rattle.tokens.specs.Names.{sameName}
 use Rattle.statement.specs.declared.Statement.the-variants.{Mov32, Mov64}
 use Rattle.rules.specs.Counting.{count}
 use Rattle.rules.specs.State.{State, Binding, lowest, isLive, isBound, widthOf, numberOf, bind}
-use Rattle.rules.specs.Reasons.{roomFor, openRules, counted, named, roomed, warped, sized, permitted, placed, reads, listed, inside, cleared}
+use Rattle.rules.specs.Reasons.{roomFor, openRules, named, roomed, warped, sized, permitted, placed, reads, listed, inside, cleared}
+use Rattle.statement.specs.Cells.{counted}
 use Rattle.rules.specs.Sheet.{effect}
 use Rattle.rules.proofs.CountingLaws.{bool, clash}
 use Rattle.search.proofs.NameLaws.{same-true, same-name, other-name}

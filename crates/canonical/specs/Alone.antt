@@ -4,29 +4,16 @@ use mathlib.Core.Bool.{cond}
 use mathlib.Core.List.{List}
 use Rattle.tokens.specs.declared.Name.{Name}
 use Rattle.statement.specs.declared.Statement.{Statement}
-use Rattle.statement.specs.declared.Statement.the-variants as s
 use Rattle.statement.specs.declared.Reading.{Reading}
 use Rattle.statement.specs.declared.Reading.the-variants as reading
 use Rattle.statement.specs.declared.Written.{Written}
 use Rattle.statement.specs.declared.Written.the-variants as written
-use Rattle.statement.specs.Cells.{miscounted}
+use Rattle.statement.specs.Cells.{counted}
 use Rattle.writer.specs.Outputs.{writtenOf, leftBy}
 
 -- reason 5 of a statement, or 0
 abbrev pub countReason : Statement → ℕ
-countReason (s.Mov32 n v) = 0
-countReason (s.Mov64 n v) = 0
-countReason (s.Alloc n v) = 0
-countReason (s.Dealloc n v) = 0
-countReason s.Relinquish = 0
-countReason (s.Load a) = cond (miscounted a) 5 0
-countReason (s.Store a) = cond (miscounted a) 5 0
-countReason s.WaitLoad = 0
-countReason s.WaitStore = 0
-countReason s.FenceBefore = 0
-countReason s.FenceAfter = 0
-countReason (s.Multiply m) = 0
-countReason s.Exit = 0
+countReason t = cond (counted t) 0 5
 
 -- the reason of a text from what it reads as: 3 or 4, then 5
 abbrev pub aloneReason : Reading → ℕ

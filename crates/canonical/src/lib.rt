@@ -13,21 +13,7 @@ ghost use Rattle.canonical.specs.Alone.{countReason, aloneReason, rewrit
 fn count_reason(t: Statement) -> u8
     ensures { λ r. ⌜ r ≡ countReason t ⌝ }
 {
-    match t {
-        Statement::Load(a) => if cells::is_miscounted(a) { 5 } else { 0 },
-        Statement::Store(a) => if cells::is_miscounted(a) { 5 } else { 0 },
-        Statement::Mov32(_, _) => 0,
-        Statement::Mov64(_, _) => 0,
-        Statement::Alloc(_, _) => 0,
-        Statement::Dealloc(_, _) => 0,
-        Statement::Relinquish => 0,
-        Statement::WaitLoad => 0,
-        Statement::WaitStore => 0,
-        Statement::FenceBefore => 0,
-        Statement::FenceAfter => 0,
-        Statement::Multiply(_) => 0,
-        Statement::Exit => 0,
-    }
+    if cells::is_counted(t) { 0 } else { 5 }
 }
 
 // The reason of a text: 3 or 4 if it does not read, 5 for a wrong count, else 0.

@@ -2,8 +2,9 @@
 use statement::Access;
 use statement::Num;
 use statement::Shape;
+use statement::Statement;
 ghost use mathlib.Core.Path.{_≡_};
-ghost use Rattle.statement.specs.Cells.{times, registersOf, lanesOf, columnsOf, miscounted};
+ghost use Rattle.statement.specs.Cells.{times, registersOf, lanesOf, columnsOf, miscounted, counted};
 ghost use Rattle.cells.specs.Rows.{rowOf};
 
 // A row of the table: registers for each N, lanes, columns for each N, largest N.
@@ -93,4 +94,25 @@ pub fn is_miscounted(a: Access) -> bool
     let num = a.num;
     let c = row_of(shape);
     (c.largest < times_of(num)) | (a.registers != registers(shape, num))
+}
+
+// Reason 5's test of any statement.
+pub fn is_counted(t: Statement) -> bool
+    ensures { λ r. ⌜ r ≡ counted t ⌝ }
+{
+    match t {
+        Statement::Load(a) => !is_miscounted(a),
+        Statement::Store(a) => !is_miscounted(a),
+        Statement::Mov32(_, _) => true,
+        Statement::Mov64(_, _) => true,
+        Statement::Alloc(_, _) => true,
+        Statement::Dealloc(_, _) => true,
+        Statement::Relinquish => true,
+        Statement::WaitLoad => true,
+        Statement::WaitStore => true,
+        Statement::FenceBefore => true,
+        Statement::FenceAfter => true,
+        Statement::Multiply(_) => true,
+        Statement::Exit => true,
+    }
 }

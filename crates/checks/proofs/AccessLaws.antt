@@ -20,7 +20,8 @@ use Rattle.statement.specs.declared.Statement.the-variants.{Load, Store}
 use Rattle.statement.specs.Cells as cells
 use Rattle.statement.specs.Cells.{times}
 use Rattle.rules.specs.State.{State, Allocation, lowest, isLive, columnsOf}
-use Rattle.rules.specs.Reasons.{laneOf, columnOf, laneOfWarp, ends, openRules, counted, named, roomed, warped, sized, permitted, placed, reads, listed, inside, cleared}
+use Rattle.rules.specs.Reasons.{laneOf, columnOf, laneOfWarp, ends, openRules, named, roomed, warped, sized, permitted, placed, reads, listed, inside, cleared}
+use Rattle.statement.specs.Cells.{counted}
 use Rattle.ledger.specs.declared.Ledger.{Ledger}
 use Rattle.ledger.specs.declared.Span.{Span}
 use Rattle.ledger.specs.Booking.{findIn}

@@ -19,7 +19,8 @@ use Rattle.statement.specs.declared.Mma.{Mma}
 use Rattle.statement.specs.declared.Statement.the-variants.{Multiply}
 use Rattle.statement.specs.Canonical.{sparse}
 use Rattle.rules.specs.State.{State, lowest, isLive, columnsOf, widthOf, numberOf}
-use Rattle.rules.specs.Reasons.{laneOf, columnOf, sharedReads, mmaEnds, operandNamed, metadataNamed, operandReads, operandEnds, metadataEnds, mmaNamed, mmaReads, allEnd, instructionOf, openRules, counted, named, roomed, warped, sized, permitted, placed, reads, listed, inside, cleared}
+use Rattle.rules.specs.Reasons.{laneOf, columnOf, sharedReads, mmaEnds, operandNamed, metadataNamed, operandReads, operandEnds, metadataEnds, mmaNamed, mmaReads, allEnd, instructionOf, openRules, named, roomed, warped, sized, permitted, placed, reads, listed, inside, cleared}
+use Rattle.statement.specs.Cells.{counted}
 use Rattle.rules.proofs.CountingLaws.{clash}
 use Rattle.ledger.specs.declared.Span.{Span}
 use Rattle.ledger.specs.Booking.{findIn}

@@ -92,21 +92,7 @@ pub fn access_reason<'a>(
 pub fn closed_reason(t: Statement) -> u32
     ensures { λ r. ⌜ r ≡ firstBroken (closedRules t) ⌝ }
 {
-    match t {
-        Statement::Load(a) => if cells::is_miscounted(a) { 5 } else { 15 },
-        Statement::Store(a) => if cells::is_miscounted(a) { 5 } else { 15 },
-        Statement::Mov32(_, _) => 15,
-        Statement::Mov64(_, _) => 15,
-        Statement::Alloc(_, _) => 15,
-        Statement::Dealloc(_, _) => 15,
-        Statement::Relinquish => 15,
-        Statement::WaitLoad => 15,
-        Statement::WaitStore => 15,
-        Statement::FenceBefore => 15,
-        Statement::FenceAfter => 15,
-        Statement::Multiply(_) => 15,
-        Statement::Exit => 15,
-    }
+    if cells::is_counted(t) { 15 } else { 5 }
 }
 
 // An address of an mma that needs some columns.

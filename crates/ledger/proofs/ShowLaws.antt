@@ -16,7 +16,8 @@ use Rattle.tokens.specs.declared.Name.{Name}
 use Rattle.statement.specs.declared.Statement.the-variants.{Alloc, Dealloc, Relinquish}
 use Rattle.rules.specs.State as rules
 use Rattle.rules.specs.State.{State, Allocation, lowest, opened}
-use Rattle.rules.specs.Reasons.{isWarp, openRules, counted, named, roomed, warped, sized, permitted, placed, reads, listed, inside, cleared}
+use Rattle.rules.specs.Reasons.{isWarp, openRules, named, roomed, warped, sized, permitted, placed, reads, listed, inside, cleared}
+use Rattle.statement.specs.Cells.{counted}
 use Rattle.rules.specs.Sheet.{effect, startList, added, fixed}
 use Rattle.rules.proofs.CountingLaws.{least-hit}
 use Rattle.ledger.specs.declared.Ledger.{Ledger}

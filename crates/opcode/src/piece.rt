@@ -1,10 +1,11 @@
 // Pieces of a word, compared one after the other.
 use instruction::Kind;
+use spellings::Spelling;
 use statement::Num;
 use statement::Shape;
 ghost use mathlib.Core.Path.{_≡_};
 ghost use Prim.Native.Nat.{_+_, _≤_};
-ghost use lib.ListN.{length, drop};
+ghost use lib.ListN.{length, take, drop};
 ghost use Rattle.statement.specs.Forms.{shapeText, numText, kindText, option};
 ghost use Rattle.opcode.specs.Pieces.{startsWith, leftSeen, pieceC, whole};
 
@@ -58,41 +59,32 @@ pub fn first(w: &[u8], p: &[u8]) -> Place
     piece(w, Place { at: 0, ok: true }, p)
 }
 
+// Past a spelling.
+fn spelled(w: &[u8], k: Place, p: Spelling) -> Place
+    requires { ⌜ (p .length ≤ 8) × (length (p .bytes) ≡ 8) ⌝ }
+    ensures { λ r. ⌜ leftSeen (now (w .entry)) r ≡ pieceC (take (p .length) (p .bytes)) (leftSeen (now (w .entry)) k) ⌝ }
+{
+    let bytes = p.bytes;
+    let n = p.length;
+    piece(w, k, &bytes[..n])
+}
+
 pub fn shape_piece(w: &[u8], k: Place, shape: Shape) -> Place
     ensures { λ r. ⌜ leftSeen (now (w .entry)) r ≡ pieceC (shapeText shape) (leftSeen (now (w .entry)) k) ⌝ }
 {
-    match shape {
-        Shape::S32x32 => piece(w, k, b".32x32b"),
-        Shape::S16x64 => piece(w, k, b".16x64b"),
-        Shape::S16x128 => piece(w, k, b".16x128b"),
-        Shape::S16x256 => piece(w, k, b".16x256b"),
-    }
+    spelled(w, k, spellings::shape(shape))
 }
 
 pub fn num_piece(w: &[u8], k: Place, num: Num) -> Place
     ensures { λ r. ⌜ leftSeen (now (w .entry)) r ≡ pieceC (numText num) (leftSeen (now (w .entry)) k) ⌝ }
 {
-    match num {
-        Num::X1 => piece(w, k, b".x1"),
-        Num::X2 => piece(w, k, b".x2"),
-        Num::X4 => piece(w, k, b".x4"),
-        Num::X8 => piece(w, k, b".x8"),
-        Num::X16 => piece(w, k, b".x16"),
-        Num::X32 => piece(w, k, b".x32"),
-        Num::X64 => piece(w, k, b".x64"),
-        Num::X128 => piece(w, k, b".x128"),
-    }
+    spelled(w, k, spellings::num(num))
 }
 
 pub fn kind_piece(w: &[u8], k: Place, kind: Kind) -> Place
     ensures { λ r. ⌜ leftSeen (now (w .entry)) r ≡ pieceC (kindText kind) (leftSeen (now (w .entry)) k) ⌝ }
 {
-    match kind {
-        Kind::F16 => piece(w, k, b"f16"),
-        Kind::Tf32 => piece(w, k, b"tf32"),
-        Kind::F8f6f4 => piece(w, k, b"f8f6f4"),
-        Kind::I8 => piece(w, k, b"i8"),
-    }
+    spelled(w, k, spellings::kind(kind))
 }
 
 // Past a piece that may be left out.

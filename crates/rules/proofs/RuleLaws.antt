@@ -10,7 +10,8 @@ use borrow.Author.Tests.{eq-eqb, ne-eqb, ltb-true, leb-true}
 use Rattle.laws.specs.Rules.{Rule, rule, firstBroken}
 use Rattle.statement.specs.declared.Statement.{Statement}
 use Rattle.rules.specs.State.{State, Placer}
-use Rattle.rules.specs.Reasons.{counted, named, roomed, warped, sized, permitted, placed, reads, listed, inside, cleared, openRules, closedRules, rules}
+use Rattle.rules.specs.Reasons.{named, roomed, warped, sized, permitted, placed, reads, listed, inside, cleared, openRules, closedRules, rules}
+use Rattle.statement.specs.Cells.{counted}
 use Rattle.rules.specs.Sheet.{Line, badLayout, noForm, tooLarge, statement, lineRules}
 use Rattle.rules.specs.Claims.{AllKept, FirstIs, ascends, InOrder}
 use Rattle.rules.proofs.CountingLaws.{and-l, and-r, clash}

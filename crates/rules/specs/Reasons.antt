@@ -34,21 +34,7 @@ laneOf a = a .offset / 65536
 abbrev pub columnOf : Address → ℕ
 columnOf a = a .offset % 65536
 
--- ---- reason 5: N is over the shape's largest, or the count of registers differs
-unfoldable pub counted : Statement → Bool
-counted (Mov32 n v) = true
-counted (Mov64 n v) = true
-counted (Alloc n v) = true
-counted (Dealloc n v) = true
-counted Relinquish = true
-counted (Load a) = not (cells.miscounted a)
-counted (Store a) = not (cells.miscounted a)
-counted WaitLoad = true
-counted WaitStore = true
-counted FenceBefore = true
-counted FenceAfter = true
-counted (Multiply m) = true
-counted Exit = true
+-- ---- reason 5: N is over the shape's largest, or the count of registers differs: `counted` of the table of cells, asked of single statements too
 
 -- ---- reason 6: a name is unbound, of the wrong sort or width, or taken
 -- a as a descriptor's name is a 64-bit value, as an address it names a live allocation
@@ -284,7 +270,7 @@ cleared s t = not (isExit t) || eqb (total (s .live)) 0
 -- before exit
 unfoldable pub openRules : Placer → State → ℕ → Statement → List Rule
 openRules place s w t =
-    rule 5 (counted t)
+    rule 5 (cells.counted t)
     ∷ rule 6 (named s t)
     ∷ rule 7 (roomed s t)
     ∷ rule 8 (warped s w t)
@@ -299,7 +285,7 @@ openRules place s w t =
 
 -- after exit: reason 5, and then 15 for any line
 unfoldable pub closedRules : Statement → List Rule
-closedRules t = rule 5 (counted t) ∷ rule 15 false ∷ []
+closedRules t = rule 5 (cells.counted t) ∷ rule 15 false ∷ []
 
 unfoldable pub rules : Placer → State → ℕ → Statement → List Rule
 rules place s w t = cond (s .exited) (closedRules t) (openRules place s w t)

@@ -18,7 +18,8 @@ use Rattle.statement.specs.declared.Statement.{Statement}
 use Rattle.statement.specs.declared.Statement.the-variants.{Mov32, Mov64, Alloc, Dealloc, Relinquish, Load, Store, WaitLoad, WaitStore, FenceBefore, FenceAfter, Multiply, Exit}
 use Rattle.request.specs.Request.{legal}
 use Rattle.rules.specs.State.{State, Binding, lowest, isLive, isBound, widthOf, numberOf, bind}
-use Rattle.rules.specs.Reasons.{openRules, closedRules, rules, counted, named, roomed, warped, sized, permitted, placed, reads, listed, inside, cleared}
+use Rattle.rules.specs.Reasons.{openRules, closedRules, rules, named, roomed, warped, sized, permitted, placed, reads, listed, inside, cleared}
+use Rattle.statement.specs.Cells.{counted}
 use Rattle.rules.specs.Sheet.{statement, effect, given, requested, released, moved, startList}
 use Rattle.search.proofs.NameLaws.{same-true}
 use Rattle.ledger.specs.declared.Ledger.{Ledger}

@@ -14,22 +14,18 @@ use Rattle.tokens.specs.Numbers.{decimal}
 use Rattle.statement.specs.Forms.{Slot, Values, max32}
 use Rattle.statement.specs.Reading.{paired}
 use Rattle.statement.specs.Canonical.{slotText, slotGiven, moreRowText, rowText, rowGiven, offsetText, moreNamesText, namesText, allNames}
-use Rattle.writer.specs.Outputs.{Out, outSeen, addC}
+use Rattle.writer.specs.Outputs.{Out, outSeen, addC, moreC}
 use Rattle.writer.proofs.Laws.{join, and-true, and-false, and-assoc, and-swap, add-nothing}
 
--- a comma and an operand for each slot, and the semicolon
-abbrev pub moreRowW : (ks : List Slot) → Values ks → Out → Out
-moreRowW [] v o = addC (59 ∷ []) true o
-moreRowW (k ∷ ks) v o = moreRowW ks (v .1) (addC (slotText k (v .0)) (slotGiven k (v .0)) (addC (44 ∷ 32 ∷ []) true o))
-
-more-law : (ks : List Slot) (v : Values ks) (o : Out) → moreRowW ks v o ≡ addC (moreRowText ks v) (rowGiven ks v) o
+-- commas, operands and the semicolon
+more-law : (ks : List Slot) (v : Values ks) (o : Out) → addC (59 ∷ []) true (moreC ks v o) ≡ addC (moreRowText ks v) (rowGiven ks v) o
 unfolding moreRowText rowGiven
 more-law [] v o = refl
 more-law (k ∷ ks) v o = rw (more-law ks (v .1) (addC (slotText k (v .0)) (slotGiven k (v .0)) (addC (44 ∷ 32 ∷ []) true o)), join, join)
 
 -- after a word and a space
 pub row-law : (w : List ℕ) (k : Slot) (ks : List Slot) (v : Values (k ∷ ks)) (o : Out)
-    → moreRowW ks (v .1) (addC (slotText k (v .0)) (slotGiven k (v .0)) (addC (w ++ 32 ∷ []) true o)) ≡ addC (w ++ rowText (k ∷ ks) v) (rowGiven (k ∷ ks) v) o
+    → addC (59 ∷ []) true (moreC ks (v .1) (addC (slotText k (v .0)) (slotGiven k (v .0)) (addC (w ++ 32 ∷ []) true o))) ≡ addC (w ++ rowText (k ∷ ks) v) (rowGiven (k ∷ ks) v) o
 unfolding rowText rowGiven
 row-law w k ks v o = rw (more-law ks (v .1) (addC (slotText k (v .0)) (slotGiven k (v .0)) (addC (w ++ 32 ∷ []) true o)), join, join, append-assoc)
 

@@ -12,8 +12,8 @@ use Rattle.statement.specs.declared.Statement.{Statement}
 use Rattle.statement.specs.declared.Opcode.{Opcode}
 use Rattle.statement.specs.declared.Written.{Written}
 use Rattle.statement.specs.declared.Written.the-variants.{Length, Refused}
-use Rattle.statement.specs.Forms.{word, Values, row}
-use Rattle.statement.specs.Canonical.{rowText, rowGiven, textOf, given}
+use Rattle.statement.specs.Forms.{word, Slot, Values, row}
+use Rattle.statement.specs.Canonical.{slotText, slotGiven, rowText, rowGiven, textOf, given}
 
 -- what is written so far; or that a value was not such as reading gives, or that there was no room, in a buffer of that length
 pub data Out : Type 0 where
@@ -28,6 +28,11 @@ outSeen t at = pick (eqb (length t) 2560 && leb at 2560) (wrote (take at t)) (fa
 unfoldable pub addC : List ℕ → Bool → Out → Out
 addC w b (wrote l) = pick (b && leb (length l + length w) 2560) (wrote (l ++ w)) (failed 2560)
 addC w b (failed n) = failed n
+
+-- a comma and an operand for each slot
+abbrev pub moreC : (ks : List Slot) → Values ks → Out → Out
+moreC [] v o = o
+moreC (k ∷ ks) v o = moreC ks (v .1) (addC (slotText k (v .0)) (slotGiven k (v .0)) (addC (44 ∷ 32 ∷ []) true o))
 
 -- an opcode's word and its operands; `b`: what more has to hold
 abbrev pub formC : (o : Opcode) → Values (row o) → Bool → Out → Out

@@ -1,24 +1,25 @@
 // Forms, put into a buffer: the opcode's word, the operands, and the semicolon.
 use instruction::Kind;
+use spellings::Spelling;
 use statement::Access;
-use statement::Address;
 use statement::Metadata;
 use statement::Mma;
 use statement::Num;
 use statement::Shape;
 use tokens::Name;
 ghost use mathlib.Core.Path.{_≡_};
+ghost use Prim.Native.Nat.{_≤_};
 ghost use mathlib.Core.Bool.{true, false};
-ghost use mathlib.Core.List.{_++_};
+ghost use mathlib.Core.List.{[], _∷_, _++_};
 ghost use lib.ListN.{length, take};
 ghost use lib.Dec.{eqb};
 ghost use Rattle.statement.specs.declared.Opcode.the-variants as opcode;
 ghost use Rattle.statement.specs.declared.Statement.the-variants as statement;
 ghost use Rattle.statement.specs.Text.{bytes};
-ghost use Rattle.statement.specs.Forms.{word, shapeText, numText, kindText, option};
-ghost use Rattle.statement.specs.Canonical.{opcodeOf, mmaValues};
+ghost use Rattle.statement.specs.Forms.{word, shapeText, numText, kindText, option, name, operand};
+ghost use Rattle.statement.specs.Canonical.{opcodeOf, mmaValues, addressText, addressGiven};
 ghost use Rattle.statement.specs.Reading.{paired};
-ghost use Rattle.writer.specs.Outputs.{outSeen, addC, formC};
+ghost use Rattle.writer.specs.Outputs.{outSeen, addC, moreC, formC};
 
 pub fn mov32(t: &mut [u8; 2560], at: usize, n: Name, v: u32) -> usize
     ensures { λ r. ⌜ outSeen (now (t .exit)) r ≡ formC (opcode.Mov32) (n, (v, tt)) true (outSeen (now (t .entry)) at) ⌝ }
@@ -60,41 +61,32 @@ pub fn alloc(t: &mut [u8; 2560], at: usize, n: Name, v: u32) -> usize
     crate::output::put(t, d, b";")
 }
 
+// A spelling.
+fn spelled(t: &mut [u8; 2560], at: usize, p: Spelling) -> usize
+    requires { ⌜ (p .length ≤ 8) × (length (p .bytes) ≡ 8) ⌝ }
+    ensures { λ r. ⌜ outSeen (now (t .exit)) r ≡ addC (take (p .length) (p .bytes)) true (outSeen (now (t .entry)) at) ⌝ }
+{
+    let bytes = p.bytes;
+    let n = p.length;
+    crate::output::put(t, at, &bytes[..n])
+}
+
 pub fn shape_text(t: &mut [u8; 2560], at: usize, shape: Shape) -> usize
     ensures { λ r. ⌜ outSeen (now (t .exit)) r ≡ addC (shapeText shape) true (outSeen (now (t .entry)) at) ⌝ }
 {
-    match shape {
-        Shape::S32x32 => crate::output::put(t, at, b".32x32b"),
-        Shape::S16x64 => crate::output::put(t, at, b".16x64b"),
-        Shape::S16x128 => crate::output::put(t, at, b".16x128b"),
-        Shape::S16x256 => crate::output::put(t, at, b".16x256b"),
-    }
+    spelled(t, at, spellings::shape(shape))
 }
 
 pub fn num_text(t: &mut [u8; 2560], at: usize, num: Num) -> usize
     ensures { λ r. ⌜ outSeen (now (t .exit)) r ≡ addC (numText num) true (outSeen (now (t .entry)) at) ⌝ }
 {
-    match num {
-        Num::X1 => crate::output::put(t, at, b".x1"),
-        Num::X2 => crate::output::put(t, at, b".x2"),
-        Num::X4 => crate::output::put(t, at, b".x4"),
-        Num::X8 => crate::output::put(t, at, b".x8"),
-        Num::X16 => crate::output::put(t, at, b".x16"),
-        Num::X32 => crate::output::put(t, at, b".x32"),
-        Num::X64 => crate::output::put(t, at, b".x64"),
-        Num::X128 => crate::output::put(t, at, b".x128"),
-    }
+    spelled(t, at, spellings::num(num))
 }
 
 pub fn kind_text(t: &mut [u8; 2560], at: usize, kind: Kind) -> usize
     ensures { λ r. ⌜ outSeen (now (t .exit)) r ≡ addC (kindText kind) true (outSeen (now (t .entry)) at) ⌝ }
 {
-    match kind {
-        Kind::F16 => crate::output::put(t, at, b"f16"),
-        Kind::Tf32 => crate::output::put(t, at, b"tf32"),
-        Kind::F8f6f4 => crate::output::put(t, at, b"f8f6f4"),
-        Kind::I8 => crate::output::put(t, at, b"i8"),
-    }
+    spelled(t, at, spellings::kind(kind))
 }
 
 // A part that may be left out.
@@ -155,50 +147,33 @@ pub fn mma_word(t: &mut [u8; 2560], at: usize, ws: bool, sp: bool, kind: Kind) -
     crate::output::put(t, e, b" ")
 }
 
-pub fn dense(t: &mut [u8; 2560], at: usize, m: Mma) -> usize
-    ensures { λ r. ⌜ outSeen (now (t .exit)) r ≡ formC (opcode.Multiply (m .ws) false (m .kind)) (m .d, (m .a, (m .b, (m .idesc, (m .predicate, tt))))) true (outSeen (now (t .entry)) at) ⌝ }
+// An mma up to its b.
+fn mma_front(t: &mut [u8; 2560], at: usize, m: Mma, sp: bool) -> usize
+    ensures { λ r. ⌜ outSeen (now (t .exit)) r ≡ moreC (operand ∷ name ∷ []) (m .a, (m .b, tt)) (addC (addressText (m .d)) (addressGiven (m .d)) (addC (word (opcode.Multiply (m .ws) sp (m .kind)) ++ bytes " ") true (outSeen (now (t .entry)) at))) ⌝ }
 {
     let kind = m.kind;
     let d = m.d;
     let a = m.a;
     let b = m.b;
-    let i = m.idesc;
-    let p = m.predicate;
-    let k1 = mma_word(t, at, m.ws, false, kind);
+    let k1 = mma_word(t, at, m.ws, sp, kind);
     let k2 = crate::operand::address(t, k1, d);
     let k3 = crate::output::put(t, k2, b", ");
     let k4 = crate::operand::operand(t, k3, a);
     let k5 = crate::output::put(t, k4, b", ");
-    let k6 = crate::output::name(t, k5, b);
-    let k7 = crate::output::put(t, k6, b", ");
-    let k8 = crate::output::name(t, k7, i);
-    let k9 = crate::output::put(t, k8, b", ");
-    let k10 = crate::output::name(t, k9, p);
-    crate::output::put(t, k10, b";")
+    crate::output::name(t, k5, b)
 }
 
-pub fn sparse(t: &mut [u8; 2560], at: usize, m: Mma, e: Address) -> usize
-    ensures { λ r. ⌜ outSeen (now (t .exit)) r ≡ formC (opcode.Multiply (m .ws) true (m .kind)) (m .d, (m .a, (m .b, (e, (m .idesc, (m .predicate, tt)))))) true (outSeen (now (t .entry)) at) ⌝ }
+// The last two operands of an mma, and the semicolon.
+fn mma_back(t: &mut [u8; 2560], at: usize, m: Mma) -> usize
+    ensures { λ r. ⌜ outSeen (now (t .exit)) r ≡ addC (bytes ";") true (moreC (name ∷ name ∷ []) (m .idesc, (m .predicate, tt)) (outSeen (now (t .entry)) at)) ⌝ }
 {
-    let kind = m.kind;
-    let d = m.d;
-    let a = m.a;
-    let b = m.b;
     let i = m.idesc;
     let p = m.predicate;
-    let k1 = mma_word(t, at, m.ws, true, kind);
-    let k2 = crate::operand::address(t, k1, d);
+    let k1 = crate::output::put(t, at, b", ");
+    let k2 = crate::output::name(t, k1, i);
     let k3 = crate::output::put(t, k2, b", ");
-    let k4 = crate::operand::operand(t, k3, a);
-    let k5 = crate::output::put(t, k4, b", ");
-    let k6 = crate::output::name(t, k5, b);
-    let k7 = crate::output::put(t, k6, b", ");
-    let x1 = crate::operand::address(t, k7, e);
-    let x2 = crate::output::put(t, x1, b", ");
-    let k8 = crate::output::name(t, x2, i);
-    let k9 = crate::output::put(t, k8, b", ");
-    let k10 = crate::output::name(t, k9, p);
-    crate::output::put(t, k10, b";")
+    let k4 = crate::output::name(t, k3, p);
+    crate::output::put(t, k4, b";")
 }
 
 pub fn multiply(t: &mut [u8; 2560], at: usize, m: Mma) -> usize
@@ -206,7 +181,15 @@ pub fn multiply(t: &mut [u8; 2560], at: usize, m: Mma) -> usize
 {
     let x = m.metadata;
     match x {
-        Metadata::Dense => dense(t, at, m),
-        Metadata::Sparse(e) => sparse(t, at, m, e),
+        Metadata::Dense => {
+            let a = mma_front(t, at, m, false);
+            mma_back(t, a, m)
+        }
+        Metadata::Sparse(e) => {
+            let a = mma_front(t, at, m, true);
+            let b = crate::output::put(t, a, b", ");
+            let c = crate::operand::address(t, b, e);
+            mma_back(t, c, m)
+        }
     }
 }

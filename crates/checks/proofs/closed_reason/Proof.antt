@@ -1,145 +1,19 @@
--- `checks::closed_reason` meets its contract: each case of the statement gives its own number. Assumes nothing.
-use Rattle.rules.specs.Reasons.{closedRules, counted}
+-- `checks::closed_reason` meets its contract: reason 5's test decides. Assumes nothing.
+use Rattle.rules.specs.Reasons.{closedRules}
 use borrow.Author.Needs.{needs}
 use Rattle.checks.proofs.closed_reason.Statement.{statement}
 use Rattle.checks.proofs.closed_reason.Tie as tie
 
-enum-known-t : tie.Need-enum-known-t
-enum-known-t c = search needs
-
-is-miscounted-requires : tie.Need-is-miscounted-requires
-is-miscounted-requires c κs = search needs
-
-enum-known-t-2 : tie.Need-enum-known-t-2
-enum-known-t-2 c = search needs
-
-is-miscounted-requires-2 : tie.Need-is-miscounted-requires-2
-is-miscounted-requires-2 c κs = search needs
-
-enum-told : tie.Need-enum-told
-enum-told c = search needs
-
-enum-told-2 : tie.Need-enum-told-2
-enum-told-2 c = search needs
-
-enum-told-3 : tie.Need-enum-told-3
-enum-told-3 c = search needs
-
-enum-told-4 : tie.Need-enum-told-4
-enum-told-4 c = search needs
-
-enum-told-5 : tie.Need-enum-told-5
-enum-told-5 c = search needs
-
-enum-told-6 : tie.Need-enum-told-6
-enum-told-6 c = search needs
-
-enum-told-7 : tie.Need-enum-told-7
-enum-told-7 c = search needs
-
-enum-told-8 : tie.Need-enum-told-8
-enum-told-8 c = search needs
-
-enum-told-9 : tie.Need-enum-told-9
-enum-told-9 c = search needs
-
-enum-told-10 : tie.Need-enum-told-10
-enum-told-10 c = search needs
-
-enum-told-11 : tie.Need-enum-told-11
-enum-told-11 c = search needs
+is-counted-requires : tie.Need-is-counted-requires
+is-counted-requires c κs = search needs
 
 returns : tie.Need-returns
-unfolding closedRules counted
-returns c = rw (c .before .before .before .t .given .1, ← c .before .is-miscounted .ensures, c .if1 .taken)
+unfolding closedRules
+returns c = rw (← c .before .is-counted .ensures, c .if1 .taken)
 
 returns-2 : tie.Need-returns-2
-unfolding closedRules counted
-returns-2 c = rw (c .before .before .before .t .given .1, ← c .before .is-miscounted .ensures, c .if1 .left)
-
-returns-3 : tie.Need-returns-3
-unfolding closedRules counted
-returns-3 c = rw (c .before .before .before .t2 .given .1, ← c .before .is-miscounted2 .ensures, c .if2 .taken)
-
-returns-4 : tie.Need-returns-4
-unfolding closedRules counted
-returns-4 c = rw (c .before .before .before .t2 .given .1, ← c .before .is-miscounted2 .ensures, c .if2 .left)
-
-returns-5 : tie.Need-returns-5
-unfolding closedRules counted
-returns-5 c = rw (c .enum-told .given .1)
-
-returns-6 : tie.Need-returns-6
-unfolding closedRules counted
-returns-6 c = rw (c .enum-told2 .given .1)
-
-returns-7 : tie.Need-returns-7
-unfolding closedRules counted
-returns-7 c = rw (c .enum-told3 .given .1)
-
-returns-8 : tie.Need-returns-8
-unfolding closedRules counted
-returns-8 c = rw (c .enum-told4 .given .1)
-
-returns-9 : tie.Need-returns-9
-unfolding closedRules counted
-returns-9 c = rw (c .enum-told5 .given .1)
-
-returns-10 : tie.Need-returns-10
-unfolding closedRules counted
-returns-10 c = rw (c .enum-told6 .given .1)
-
-returns-11 : tie.Need-returns-11
-unfolding closedRules counted
-returns-11 c = rw (c .enum-told7 .given .1)
-
-returns-12 : tie.Need-returns-12
-unfolding closedRules counted
-returns-12 c = rw (c .enum-told8 .given .1)
-
-returns-13 : tie.Need-returns-13
-unfolding closedRules counted
-returns-13 c = rw (c .enum-told9 .given .1)
-
-returns-14 : tie.Need-returns-14
-unfolding closedRules counted
-returns-14 c = rw (c .enum-told10 .given .1)
-
-returns-15 : tie.Need-returns-15
-unfolding closedRules counted
-returns-15 c = rw (c .enum-told11 .given .1)
+unfolding closedRules
+returns-2 c = rw (← c .before .is-counted .ensures, c .if1 .left)
 
 pub closed-reason-spec : {M : Type 1} → statement M
-closed-reason-spec =
-    tie.close
-    (tie.spec
-    enum-known-t
-    is-miscounted-requires
-    enum-known-t-2
-    is-miscounted-requires-2
-    enum-told
-    enum-told-2
-    enum-told-3
-    enum-told-4
-    enum-told-5
-    enum-told-6
-    enum-told-7
-    enum-told-8
-    enum-told-9
-    enum-told-10
-    enum-told-11
-    returns
-    returns-2
-    returns-3
-    returns-4
-    returns-5
-    returns-6
-    returns-7
-    returns-8
-    returns-9
-    returns-10
-    returns-11
-    returns-12
-    returns-13
-    returns-14
-    returns-15)
+closed-reason-spec = tie.close (tie.spec is-counted-requires returns returns-2)

@@ -1,137 +1,23 @@
--- `writer::form::num_text` meets its contract: each variant has its text. Assumes nothing.
+-- `writer::form::num_text` meets its contract: the spelling is the text. Assumes nothing.
+use Prim.Native.Nat.{ℕ}
+use mathlib.Core.Path.{_∙_, ap}
+use mathlib.Core.Bool.{true}
+use mathlib.Core.List.{List}
+use Rattle.writer.specs.Outputs.{outSeen, addC}
 use borrow.Author.Needs.{needs}
 use Rattle.writer.proofs.form.num_text.Statement.{statement}
 use Rattle.writer.proofs.form.num_text.Tie as tie
 
-enum-told : tie.Need-enum-told
-enum-told c = search needs
+num-requires : tie.Need-num-requires
+num-requires c κs = search needs
 
-slice-aggregate-put : tie.Need-slice-aggregate-put
-slice-aggregate-put c = search needs
-
-put-requires : tie.Need-put-requires
-put-requires c κs = search needs
-
-enum-told-2 : tie.Need-enum-told-2
-enum-told-2 c = search needs
-
-slice-aggregate-put-2 : tie.Need-slice-aggregate-put-2
-slice-aggregate-put-2 c = search needs
-
-put-requires-2 : tie.Need-put-requires-2
-put-requires-2 c κs = search needs
-
-enum-told-3 : tie.Need-enum-told-3
-enum-told-3 c = search needs
-
-slice-aggregate-put-3 : tie.Need-slice-aggregate-put-3
-slice-aggregate-put-3 c = search needs
-
-put-requires-3 : tie.Need-put-requires-3
-put-requires-3 c κs = search needs
-
-enum-told-4 : tie.Need-enum-told-4
-enum-told-4 c = search needs
-
-slice-aggregate-put-4 : tie.Need-slice-aggregate-put-4
-slice-aggregate-put-4 c = search needs
-
-put-requires-4 : tie.Need-put-requires-4
-put-requires-4 c κs = search needs
-
-enum-told-5 : tie.Need-enum-told-5
-enum-told-5 c = search needs
-
-slice-aggregate-put-5 : tie.Need-slice-aggregate-put-5
-slice-aggregate-put-5 c = search needs
-
-put-requires-5 : tie.Need-put-requires-5
-put-requires-5 c κs = search needs
-
-enum-told-6 : tie.Need-enum-told-6
-enum-told-6 c = search needs
-
-slice-aggregate-put-6 : tie.Need-slice-aggregate-put-6
-slice-aggregate-put-6 c = search needs
-
-put-requires-6 : tie.Need-put-requires-6
-put-requires-6 c κs = search needs
-
-enum-told-7 : tie.Need-enum-told-7
-enum-told-7 c = search needs
-
-slice-aggregate-put-7 : tie.Need-slice-aggregate-put-7
-slice-aggregate-put-7 c = search needs
-
-put-requires-7 : tie.Need-put-requires-7
-put-requires-7 c κs = search needs
-
-enum-told-8 : tie.Need-enum-told-8
-enum-told-8 c = search needs
-
-slice-aggregate-put-8 : tie.Need-slice-aggregate-put-8
-slice-aggregate-put-8 c = search needs
-
-put-requires-8 : tie.Need-put-requires-8
-put-requires-8 c κs = search needs
+spelled-requires : tie.Need-spelled-requires
+spelled-requires c κs = search needs
 
 returns : tie.Need-returns
-returns c = rw (c .before .before .before .enum-told .given .1) (c .put .ensures)
-
-returns-2 : tie.Need-returns-2
-returns-2 c = rw (c .before .before .before .enum-told2 .given .1) (c .put2 .ensures)
-
-returns-3 : tie.Need-returns-3
-returns-3 c = rw (c .before .before .before .enum-told3 .given .1) (c .put3 .ensures)
-
-returns-4 : tie.Need-returns-4
-returns-4 c = rw (c .before .before .before .enum-told4 .given .1) (c .put4 .ensures)
-
-returns-5 : tie.Need-returns-5
-returns-5 c = rw (c .before .before .before .enum-told5 .given .1) (c .put5 .ensures)
-
-returns-6 : tie.Need-returns-6
-returns-6 c = rw (c .before .before .before .enum-told6 .given .1) (c .put6 .ensures)
-
-returns-7 : tie.Need-returns-7
-returns-7 c = rw (c .before .before .before .enum-told7 .given .1) (c .put7 .ensures)
-
-returns-8 : tie.Need-returns-8
-returns-8 c = rw (c .before .before .before .enum-told8 .given .1) (c .put8 .ensures)
+returns c =
+    let a = c .before .before .before .args in
+    c .spelled .ensures ∙ ap (λ (t : List ℕ). addC t true (outSeen (a .t .now) (a .at))) (c .before .num .ensures .0)
 
 pub num-text-spec : {M : Type 1} → statement M
-num-text-spec =
-    tie.close
-    (tie.spec
-    enum-told
-    slice-aggregate-put
-    put-requires
-    enum-told-2
-    slice-aggregate-put-2
-    put-requires-2
-    enum-told-3
-    slice-aggregate-put-3
-    put-requires-3
-    enum-told-4
-    slice-aggregate-put-4
-    put-requires-4
-    enum-told-5
-    slice-aggregate-put-5
-    put-requires-5
-    enum-told-6
-    slice-aggregate-put-6
-    put-requires-6
-    enum-told-7
-    slice-aggregate-put-7
-    put-requires-7
-    enum-told-8
-    slice-aggregate-put-8
-    put-requires-8
-    returns
-    returns-2
-    returns-3
-    returns-4
-    returns-5
-    returns-6
-    returns-7
-    returns-8)
+num-text-spec = tie.close (tie.spec num-requires spelled-requires returns)
