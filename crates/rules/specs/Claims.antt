@@ -11,7 +11,7 @@ use lib.ListN.{length}
 use Rattle.laws.specs.Rules.{Rule, rule}
 use Rattle.tokens.specs.declared.Name.{Name}
 use Rattle.rules.specs.State.{State, Placer, Allocation, isLive, isBound, isFree, lowest, total}
-use Rattle.rules.specs.Reasons.{isExit}
+use Rattle.statement.specs.Views.{isExit}
 use Rattle.rules.specs.Sheet.{Line, badLayout, noForm, tooLarge, statement, lineRules, Sheet, Placing, stateBy, startsBy, rulesBy, stopBy, answerBy}
 
 -- ---- lists of rules

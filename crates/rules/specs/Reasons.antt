@@ -21,9 +21,9 @@ use Rattle.statement.specs.declared.Metadata.the-variants.{Dense, Sparse}
 use Rattle.statement.specs.declared.Mma.{Mma}
 use Rattle.statement.specs.declared.Access.{Access}
 use Rattle.statement.specs.declared.Statement.{Statement}
-use Rattle.statement.specs.declared.Statement.the-variants.{Mov32, Mov64, Alloc, Dealloc, Relinquish, Load, Store, WaitLoad, WaitStore, FenceBefore, FenceAfter, Multiply, Exit}
 use Rattle.statement.specs.Canonical.{sparse}
 use Rattle.statement.specs.Cells as cells
+use Rattle.statement.specs.Views.{requestOf, releaseOf, accessOf, mmaOf, boundBy, isExit, isBooking, for, when, holds}
 use Rattle.rules.specs.State.{State, Placer, isLive, columnsOf, isBound, widthOf, numberOf, total}
 
 -- ---- addresses
@@ -57,38 +57,20 @@ mmaNamed s m =
     ∷ []
 
 unfoldable pub named : State → Statement → Bool
-named s (Mov32 n v) = not (isLive n (s .live))
-named s (Mov64 n v) = not (isLive n (s .live))
-named s (Alloc n v) = not (isLive n (s .live)) && not (isBound n (s .values))
-named s (Dealloc n v) = isLive n (s .live)
-named s Relinquish = true
-named s (Load a) = isLive (a .address .base) (s .live)
-named s (Store a) = isLive (a .address .base) (s .live)
-named s WaitLoad = true
-named s WaitStore = true
-named s FenceBefore = true
-named s FenceAfter = true
-named s (Multiply m) = all (mmaNamed s m)
-named s Exit = true
+named s t = holds
+    (for (boundBy t) (λ n. not (isLive n (s .live)))
+    ∷ for (requestOf t) (λ r. not (isLive (r .name) (s .live)) && not (isBound (r .name) (s .values)))
+    ∷ for (releaseOf t) (λ r. isLive (r .name) (s .live))
+    ∷ for (accessOf t) (λ a. isLive (a .address .base) (s .live))
+    ∷ for (mmaOf t) (λ m. all (mmaNamed s m))
+    ∷ [])
 
 -- ---- reason 7: a 129th value name
 abbrev pub roomFor : State → Name → Bool
 roomFor s n = isBound n (s .values) || ltb (length (s .values)) 128
 
 unfoldable pub roomed : State → Statement → Bool
-roomed s (Mov32 n v) = roomFor s n
-roomed s (Mov64 n v) = roomFor s n
-roomed s (Alloc n v) = true
-roomed s (Dealloc n v) = true
-roomed s Relinquish = true
-roomed s (Load a) = true
-roomed s (Store a) = true
-roomed s WaitLoad = true
-roomed s WaitStore = true
-roomed s FenceBefore = true
-roomed s FenceAfter = true
-roomed s (Multiply m) = true
-roomed s Exit = true
+roomed s t = holds (for (boundBy t) (roomFor s) ∷ [])
 
 -- ---- reason 8: the wrong warp, or the lane of a ld or st is not the warp's
 -- no warp is fixed, or this one is
@@ -101,67 +83,19 @@ unfoldable pub laneOfWarp : ℕ → Access → Bool
 laneOfWarp w a = eqb (laneOf (a .address)) (32 * w) || (eqb (cells.lanesOf (a .shape)) 16 && eqb (laneOf (a .address)) (32 * w + 16))
 
 unfoldable pub warped : State → ℕ → Statement → Bool
-warped s w (Mov32 n v) = true
-warped s w (Mov64 n v) = true
-warped s w (Alloc n v) = isWarp (s .warp) w
-warped s w (Dealloc n v) = isWarp (s .warp) w
-warped s w Relinquish = isWarp (s .warp) w
-warped s w (Load a) = laneOfWarp w a
-warped s w (Store a) = laneOfWarp w a
-warped s w WaitLoad = true
-warped s w WaitStore = true
-warped s w FenceBefore = true
-warped s w FenceAfter = true
-warped s w (Multiply m) = true
-warped s w Exit = true
+warped s w t = holds (for (accessOf t) (laneOfWarp w) ∷ when (isBooking t) (isWarp (s .warp) w) ∷ [])
 
 -- ---- reason 9: the request is illegal, or the size of a dealloc differs
 unfoldable pub sized : State → Statement → Bool
-sized s (Mov32 n v) = true
-sized s (Mov64 n v) = true
-sized s (Alloc n v) = legal v
-sized s (Dealloc n v) = eqb (columnsOf n (s .live)) v
-sized s Relinquish = true
-sized s (Load a) = true
-sized s (Store a) = true
-sized s WaitLoad = true
-sized s WaitStore = true
-sized s FenceBefore = true
-sized s FenceAfter = true
-sized s (Multiply m) = true
-sized s Exit = true
+sized s t = holds (for (requestOf t) (λ r. legal (r .columns)) ∷ for (releaseOf t) (λ r. eqb (columnsOf (r .name) (s .live)) (r .columns)) ∷ [])
 
 -- ---- reason 10: alloc after relinquish
 unfoldable pub permitted : State → Statement → Bool
-permitted s (Mov32 n v) = true
-permitted s (Mov64 n v) = true
-permitted s (Alloc n v) = not (s .relinquished)
-permitted s (Dealloc n v) = true
-permitted s Relinquish = true
-permitted s (Load a) = true
-permitted s (Store a) = true
-permitted s WaitLoad = true
-permitted s WaitStore = true
-permitted s FenceBefore = true
-permitted s FenceAfter = true
-permitted s (Multiply m) = true
-permitted s Exit = true
+permitted s t = holds (for (requestOf t) (λ r. not (s .relinquished)) ∷ [])
 
 -- ---- reason 11: no free run of that length starts at a multiple of 32 (the placing gives no start)
 unfoldable pub placed : Placer → State → Statement → Bool
-placed place s (Mov32 n v) = true
-placed place s (Mov64 n v) = true
-placed place s (Alloc n v) = isSome (place (s .live) v)
-placed place s (Dealloc n v) = true
-placed place s Relinquish = true
-placed place s (Load a) = true
-placed place s (Store a) = true
-placed place s WaitLoad = true
-placed place s WaitStore = true
-placed place s FenceBefore = true
-placed place s FenceAfter = true
-placed place s (Multiply m) = true
-placed place s Exit = true
+placed place s t = holds (for (requestOf t) (λ r. isSome (place (s .live) (r .columns))) ∷ [])
 
 -- ---- reason 12: a descriptor has no reading under the opcode
 -- a shared memory descriptor, the number under a name
@@ -181,35 +115,11 @@ abbrev pub mmaReads : State → Mma → List Bool
 mmaReads s m = operandReads s (m .a) ∷ sharedReads s (m .b) ∷ eqb (instructionOf s m .reason) 0 ∷ []
 
 unfoldable pub reads : State → Statement → Bool
-reads s (Mov32 n v) = true
-reads s (Mov64 n v) = true
-reads s (Alloc n v) = true
-reads s (Dealloc n v) = true
-reads s Relinquish = true
-reads s (Load a) = true
-reads s (Store a) = true
-reads s WaitLoad = true
-reads s WaitStore = true
-reads s FenceBefore = true
-reads s FenceAfter = true
-reads s (Multiply m) = all (mmaReads s m)
-reads s Exit = true
+reads s t = holds (for (mmaOf t) (λ m. all (mmaReads s m)) ∷ [])
 
 -- ---- reason 13: a shape or types that are not listed
 unfoldable pub listed : State → Statement → Bool
-listed s (Mov32 n v) = true
-listed s (Mov64 n v) = true
-listed s (Alloc n v) = true
-listed s (Dealloc n v) = true
-listed s Relinquish = true
-listed s (Load a) = true
-listed s (Store a) = true
-listed s WaitLoad = true
-listed s WaitStore = true
-listed s FenceBefore = true
-listed s FenceAfter = true
-listed s (Multiply m) = eqb (firstBroken (instruction.listing (m .kind) (m .ws) (instruction.fields (instructionOf s m .descriptor)))) 0
-listed s Exit = true
+listed s t = holds (for (mmaOf t) (λ m. eqb (firstBroken (instruction.listing (m .kind) (m .ws) (instruction.fields (instructionOf s m .descriptor)))) 0) ∷ [])
 
 -- ---- reason 14: the lane of an mma is not 0, or columns go past the end of the allocation
 -- that many columns from an address on are in its allocation
@@ -233,36 +143,9 @@ abbrev pub allEnd : State → Mma → List Bool
 allEnd s m = mmaEnds s (m .d) (instructionOf s m .descriptor .n) ∷ operandEnds s (m .a) ∷ metadataEnds s (m .metadata) ∷ []
 
 unfoldable pub inside : State → Statement → Bool
-inside s (Mov32 n v) = true
-inside s (Mov64 n v) = true
-inside s (Alloc n v) = true
-inside s (Dealloc n v) = true
-inside s Relinquish = true
-inside s (Load a) = ends s (a .address) (cells.columnsOf (a .shape) (a .num))
-inside s (Store a) = ends s (a .address) (cells.columnsOf (a .shape) (a .num))
-inside s WaitLoad = true
-inside s WaitStore = true
-inside s FenceBefore = true
-inside s FenceAfter = true
-inside s (Multiply m) = all (allEnd s m)
-inside s Exit = true
+inside s t = holds (for (accessOf t) (λ a. ends s (a .address) (cells.columnsOf (a .shape) (a .num))) ∷ for (mmaOf t) (λ m. all (allEnd s m)) ∷ [])
 
 -- ---- reason 15: exit with columns held (that the columns of the live allocations are those asked for less those given back is `figures-exact`)
-abbrev pub isExit : Statement → Bool
-isExit (Mov32 n v) = false
-isExit (Mov64 n v) = false
-isExit (Alloc n v) = false
-isExit (Dealloc n v) = false
-isExit Relinquish = false
-isExit (Load a) = false
-isExit (Store a) = false
-isExit WaitLoad = false
-isExit WaitStore = false
-isExit FenceBefore = false
-isExit FenceAfter = false
-isExit (Multiply m) = false
-isExit Exit = true
-
 unfoldable pub cleared : State → Statement → Bool
 cleared s t = not (isExit t) || eqb (total (s .live)) 0
 

@@ -14,6 +14,7 @@ use Rattle.statement.specs.declared.Statement.{Statement}
 use Rattle.statement.specs.declared.Statement.the-variants.{Mov32, Mov64, Alloc, Dealloc, Relinquish, Load, Store, WaitLoad, WaitStore, FenceBefore, FenceAfter, Multiply, Exit}
 use Rattle.rules.specs.declared.Answer.{Answer}
 use Rattle.rules.specs.Counting.{least}
+use Rattle.statement.specs.Views.{requestOf, releaseOf, of}
 use Rattle.rules.specs.State.{State, opened, Allocation, Placer, lowest, without, bind}
 use Rattle.rules.specs.Reasons.{rules}
 
@@ -87,56 +88,20 @@ unfoldable pub given : Placer → State → Line → List ℕ
 given place s badLayout = []
 given place s noForm = []
 given place s tooLarge = []
-given place s (statement w (Mov32 n v)) = []
-given place s (statement w (Mov64 n v)) = []
-given place s (statement w (Alloc n v)) = startList (place (s .live) v)
-given place s (statement w (Dealloc n v)) = []
-given place s (statement w Relinquish) = []
-given place s (statement w (Load a)) = []
-given place s (statement w (Store a)) = []
-given place s (statement w WaitLoad) = []
-given place s (statement w WaitStore) = []
-given place s (statement w FenceBefore) = []
-given place s (statement w FenceAfter) = []
-given place s (statement w (Multiply m)) = []
-given place s (statement w Exit) = []
+given place s (statement w t) = of (requestOf t) (λ r. startList (place (s .live) (r .columns))) []
 
 -- columns asked for and given back by a line
 unfoldable pub requested : Line → ℕ
 requested badLayout = 0
 requested noForm = 0
 requested tooLarge = 0
-requested (statement w (Mov32 n v)) = 0
-requested (statement w (Mov64 n v)) = 0
-requested (statement w (Alloc n v)) = v
-requested (statement w (Dealloc n v)) = 0
-requested (statement w Relinquish) = 0
-requested (statement w (Load a)) = 0
-requested (statement w (Store a)) = 0
-requested (statement w WaitLoad) = 0
-requested (statement w WaitStore) = 0
-requested (statement w FenceBefore) = 0
-requested (statement w FenceAfter) = 0
-requested (statement w (Multiply m)) = 0
-requested (statement w Exit) = 0
+requested (statement w t) = of (requestOf t) (λ r. r .columns) 0
 
 unfoldable pub released : Line → ℕ
 released badLayout = 0
 released noForm = 0
 released tooLarge = 0
-released (statement w (Mov32 n v)) = 0
-released (statement w (Mov64 n v)) = 0
-released (statement w (Alloc n v)) = 0
-released (statement w (Dealloc n v)) = v
-released (statement w Relinquish) = 0
-released (statement w (Load a)) = 0
-released (statement w (Store a)) = 0
-released (statement w WaitLoad) = 0
-released (statement w WaitStore) = 0
-released (statement w FenceBefore) = 0
-released (statement w FenceAfter) = 0
-released (statement w (Multiply m)) = 0
-released (statement w Exit) = 0
+released (statement w t) = of (releaseOf t) (λ r. r .columns) 0
 
 -- ---- by line: after the first k lines below line 1, if each is accepted
 -- the sum of a figure over the first k lines

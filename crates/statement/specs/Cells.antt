@@ -1,6 +1,7 @@
 -- Registers, lanes and columns of an access (document 01, 'Registers and cells'), and reason 5's test. Assumes nothing.
 use Prim.Native.Nat.{ℕ, _*_}
-use mathlib.Core.Bool.{Bool, true, _||_, not}
+use mathlib.Core.Bool.{Bool, _||_, not}
+use mathlib.Core.List.{[], _∷_}
 use lib.Dec.{ltb, eqb}
 use Rattle.statement.specs.declared.Shape.{Shape}
 use Rattle.statement.specs.declared.Shape.the-variants.{S32x32, S16x64, S16x128, S16x256}
@@ -8,7 +9,7 @@ use Rattle.statement.specs.declared.Num.{Num}
 use Rattle.statement.specs.declared.Num.the-variants.{X1, X2, X4, X8, X16, X32, X64, X128}
 use Rattle.statement.specs.declared.Access.{Access}
 use Rattle.statement.specs.declared.Statement.{Statement}
-use Rattle.statement.specs.declared.Statement.the-variants.{Mov32, Mov64, Alloc, Dealloc, Relinquish, Load, Store, WaitLoad, WaitStore, FenceBefore, FenceAfter, Multiply, Exit}
+use Rattle.statement.specs.Views.{accessOf, for, holds}
 
 -- the N of .xN
 abbrev pub times : Num → ℕ
@@ -49,16 +50,4 @@ miscounted a = ltb (cells (a .shape) .largest) (times (a .num)) || not (eqb (a .
 
 -- a statement keeps that rule: only a ld or st can break it
 unfoldable pub counted : Statement → Bool
-counted (Mov32 n v) = true
-counted (Mov64 n v) = true
-counted (Alloc n v) = true
-counted (Dealloc n v) = true
-counted Relinquish = true
-counted (Load a) = not (miscounted a)
-counted (Store a) = not (miscounted a)
-counted WaitLoad = true
-counted WaitStore = true
-counted FenceBefore = true
-counted FenceAfter = true
-counted (Multiply m) = true
-counted Exit = true
+counted t = holds (for (accessOf t) (λ a. not (miscounted a)) ∷ [])

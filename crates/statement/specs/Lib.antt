@@ -1,4 +1,5 @@
 pub mod Text
+pub mod Views
 pub mod Forms
 pub mod Cells
 pub mod Opcodes
