@@ -1,3 +1,4 @@
+pub mod BoolLaws
 pub mod TestLaws
 pub mod LayoutLaws
 pub mod FormatLaws

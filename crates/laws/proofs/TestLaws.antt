@@ -1,20 +1,11 @@
--- What a joined test says of its parts. Assumes nothing.
+-- What a list of tests says of its parts, and a search of what it finds. Assumes nothing.
 use Prim.Native.Nat.{ℕ}
 use mathlib.Core.Path.{_≡_, refl, sym, subst}
-use mathlib.Core.Bool.{Bool, true, false, _&&_, _||_, cond, true≢false}
+use mathlib.Core.Bool.{Bool, true, false, _&&_, _||_, cond}
 use mathlib.Core.List.{List, [], _∷_}
 use mathlib.Core.Option.{Option, none, some, Option·some-injective, Option·none-ne-some}
 use Rattle.laws.specs.Tests.{all, allFrom, find, isSome}
-
-pub never : {A : Type 0} → false ≡ true → A
-never e = absurd (true≢false (sym e))
-
-pub and-split : (a b : Bool) → (a && b) ≡ true → (a ≡ true) × (b ≡ true)
-and-split true b h = (refl, h)
-and-split false b h = never h
-
-pub and-join : (a b : Bool) → a ≡ true → b ≡ true → (a && b) ≡ true
-and-join a b p q = simp (p, q)
+pub use Rattle.laws.proofs.BoolLaws.{never, and-split, and-join, cond-and, cond-same, chosen}
 
 -- every test of the list holds
 abbrev pub Each : List Bool → Type 0
@@ -39,20 +30,6 @@ join t (b ∷ bs) p e = join (t && b) bs (and-join t b p (e .0)) (e .1)
 pub all-of : (bs : List Bool) → Each bs → all bs ≡ true
 all-of [] e = refl
 all-of (b ∷ bs) e = join b bs (e .0) (e .1)
-
--- an answer with a property that the second choice has not is the first choice
-pub chosen : {A : Type 0} (P : A → Type 0) (b : Bool) (x y : A) → (P y → ⊥) → P (cond b x y) → b ≡ true
-chosen P true x y n h = refl
-chosen P false x y n h = absurd (n h)
-
--- one choice after another by two tests is one choice by both
-pub cond-and : {A : Type 0} (a b : Bool) (x y : A) → cond (a && b) x y ≡ cond a (cond b x y) y
-cond-and true b x y = refl
-cond-and false b x y = refl
-
-pub cond-same : {A : Type 0} (b : Bool) (x : A) → cond b x x ≡ x
-cond-same true x = refl
-cond-same false x = refl
 
 -- what a search finds passes the test
 first-passes : {A : Type 0} (test : A → Bool) (y x : A) (o : Option A) (b : Bool)
@@ -92,7 +69,3 @@ first-some test (x ∷ xs) y false = first-some test xs x (test x)
 pub find-any : {A : Type 0} (test : A → Bool) (xs : List A) → isSome (find test xs) ≡ any test xs
 find-any test [] = refl
 find-any test (x ∷ xs) = first-some test xs x (test x)
-
-pub or-false : (b : Bool) → (b || false) ≡ b
-or-false true = refl
-or-false false = refl

@@ -1,8 +1,8 @@
 -- `instruction::known_element` meets its contract: a search finds something where some element passes, at each kind. Assumes nothing.
 use mathlib.Core.Path.{sym, _∙_}
-use mathlib.Core.Bool.{_&&_}
+use mathlib.Core.Bool.{_&&_, or-false}
 use lib.Dec.{eqb}
-use Rattle.laws.proofs.TestLaws.{find-any, or-false}
+use Rattle.laws.proofs.TestLaws.{find-any}
 use Rattle.instruction.specs.Instruction.{ofKind, code, elements}
 use Rattle.instruction.specs.declared.Kind.{Kind}
 use borrow.Author.Needs.{needs}
