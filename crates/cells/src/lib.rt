@@ -103,16 +103,6 @@ pub fn is_counted(t: Statement) -> bool
     match t {
         Statement::Load(a) => !is_miscounted(a),
         Statement::Store(a) => !is_miscounted(a),
-        Statement::Mov32(_, _) => true,
-        Statement::Mov64(_, _) => true,
-        Statement::Alloc(_, _) => true,
-        Statement::Dealloc(_, _) => true,
-        Statement::Relinquish => true,
-        Statement::WaitLoad => true,
-        Statement::WaitStore => true,
-        Statement::FenceBefore => true,
-        Statement::FenceAfter => true,
-        Statement::Multiply(_) => true,
-        Statement::Exit => true,
+        _ => true,
     }
 }

@@ -4,7 +4,7 @@ use native.Mathlib.Omega.{arith}
 use mathlib.Core.Path.{_≡_, refl, sym, ap, _∙_}
 use mathlib.Core.List.{List, []}
 use mathlib.Core.Bool.{Bool, true, false}
-use lib.ListN.{length, take}
+use lib.ListN.{length, take, drop}
 use lib.Seq.{sets, length-take-le}
 use lib.Dec.{eqb}
 use borrow.Author.Tests.{le-leb, lt-leb, eqb-true, eqb-false}
@@ -17,11 +17,11 @@ use Rattle.writer.proofs.Laws.{add-fits, add-refused, seen-over, seen-o
 use Rattle.writer.proofs.Bound.{text-short}
 
 -- one kind of output is not the other
-not-both : (o : Out) (l : List ℕ) (n : ℕ) → o ≡ wrote l → o ≡ failed n → ⊥
-not-both o l n p q = let z : _≡_ {A = ℕ} 0 1 = cc in absurd (omega arith)
+not-both : (o : Out) (l m : List ℕ) (n : ℕ) → o ≡ wrote l m → o ≡ failed n → ⊥
+not-both o l m n p q = let z : _≡_ {A = ℕ} 0 1 = cc in absurd (omega arith)
 
-same-text : (o : Out) (l m : List ℕ) → o ≡ wrote l → o ≡ wrote m → l ≡ m
-same-text o l m p q = cc
+same-text : (o : Out) (l m k j : List ℕ) → o ≡ wrote l k → o ≡ wrote m j → l ≡ m
+same-text o l m k j p q = cc
 
 same-size : (o : Out) (m n : ℕ) → o ≡ failed m → o ≡ failed n → m ≡ n
 same-size o m n p q = cc
@@ -34,28 +34,28 @@ pub record Composed (u : List ℕ) (n : ℕ) (t : Statement) (regs : List Name) 
   pub size : length (textOf t regs) ≡ n
 
 module _ (z u : List ℕ) (n : ℕ) (t : Statement) (regs : List Name) (start : length z ≡ 2560) (e : outSeen u n ≡ addC (textOf t regs) (given t regs) (outSeen z 0)) where
-  empty : outSeen z 0 ≡ wrote []
+  empty : outSeen z 0 ≡ wrote [] z
   empty = seen-wrote z 0 start (omega arith)
 
-  shown : given t regs ≡ true → outSeen u n ≡ wrote (textOf t regs)
+  shown : given t regs ≡ true → outSeen u n ≡ wrote (textOf t regs) (drop (length (textOf t regs)) z)
   shown g =
       let h : 0 + length (textOf t regs) ≤ 2560 = omega (arith, text-short t regs g) in
-      e ∙ rw (g, empty, add-fits (textOf t regs) [] h)
+      e ∙ rw (g, empty, add-fits (textOf t regs) [] z h)
 
   hidden : given t regs ≡ false → outSeen u n ≡ failed 2560
-  hidden g = e ∙ rw (g, empty, add-refused (textOf t regs) [])
+  hidden g = e ∙ rw (g, empty, add-refused (textOf t regs) [] z)
 
   -- over the end: not given
   pub over : 2560 < n → given t regs ≡ false
   over h = by (given t regs) refl
     where
       by : (b : Bool) → given t regs ≡ b → given t regs ≡ false
-      by true g = absurd (not-both (outSeen u n) (textOf t regs) (length u) (shown g) (seen-over u n h))
+      by true g = absurd (not-both (outSeen u n) (textOf t regs) (drop (length (textOf t regs)) z) (length u) (shown g) (seen-over u n h))
       by false g = g
 
   stands : n ≤ 2560 → given t regs ≡ true → length u ≡ 2560 → Composed u n t regs
   stands h g f =
-      let s : take n u ≡ textOf t regs = same-text (outSeen u n) (take n u) (textOf t regs) (seen-wrote u n f h) (shown g) in
+      let s : take n u ≡ textOf t regs = same-text (outSeen u n) (take n u) (textOf t regs) (drop n u) (drop (length (textOf t regs)) z) (seen-wrote u n f h) (shown g) in
       record { is-given = g; full = f; text = s; size = ap length (sym s) ∙ length-take-le n u (omega arith) }
 
   -- else it is given, and stands there
@@ -64,8 +64,8 @@ module _ (z u : List ℕ) (n : ℕ) (t : Statement) (regs : List Name) (start : 
     where
       by : (b d : Bool) → given t regs ≡ b → eqb (length u) 2560 ≡ d → Composed u n t regs
       by true true g f = stands h g (eqb-true (length u) 2560 f)
-      by true false g f = absurd (not-both (outSeen u n) (textOf t regs) (length u) (shown g) (seen-other u n (eqb-false (length u) 2560 f)))
-      by false true g f = absurd (not-both (outSeen u n) (take n u) 2560 (seen-wrote u n (eqb-true (length u) 2560 f) h) (hidden g))
+      by true false g f = absurd (not-both (outSeen u n) (textOf t regs) (drop (length (textOf t regs)) z) (length u) (shown g) (seen-other u n (eqb-false (length u) 2560 f)))
+      by false true g f = absurd (not-both (outSeen u n) (take n u) (drop n u) 2560 (seen-wrote u n (eqb-true (length u) 2560 f) h) (hidden g))
       by false false g f = absurd (eqb-false (length u) 2560 f (same-size (outSeen u n) (length u) 2560 (seen-other u n (eqb-false (length u) 2560 f)) (hidden g)))
 
 -- ---- answers

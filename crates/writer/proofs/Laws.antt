@@ -8,7 +8,7 @@ use mathlib.Core.List.{List, [], _++_, append-assoc, append-nil}
 use mathlib.Core.Bool.{Bool, true, false, _&&_}
 use mathlib.Core.Logic.{_⊎_, inl, inr, ⊎-elim}
 use lib.ListN.{length, getD, take, drop, set, length-append, drop-of-length-le}
-use lib.Seq.{sets, sets-eq, length-sets, take-at, drop-cons, length-take-le}
+use lib.Seq.{sets, sets-eq, length-sets, take-at, drop-at, drop-drop, drop-cons, length-take-le}
 use lib.Dec.{leb, eqb}
 use borrow.Author.Tests.{le-leb, lt-leb, leb-true, leb-false, eq-eqb, ne-eqb, eqb-true, eqb-false}
 use Rattle.tokens.specs.Bytes.{all}
@@ -38,24 +38,24 @@ pub add-failed : (w : List ℕ) (b : Bool) (n : ℕ) → addC w b (failed n) ≡
 unfolding addC
 add-failed w b n = refl
 
-pub add-refused : (w l : List ℕ) → addC w false (wrote l) ≡ failed 2560
+pub add-refused : (w l m : List ℕ) → addC w false (wrote l m) ≡ failed 2560
 unfolding addC
-add-refused w l = refl
+add-refused w l m = refl
 
-pub add-full : (w l : List ℕ) (b : Bool) → 2560 < length l + length w → addC w b (wrote l) ≡ failed 2560
+pub add-full : (w l m : List ℕ) (b : Bool) → 2560 < length l + length w → addC w b (wrote l m) ≡ failed 2560
 unfolding addC
-add-full w l b h = rw (lt-leb (length l + length w) 2560 h, and-false b)
+add-full w l m b h = rw (lt-leb (length l + length w) 2560 h, and-false b)
 
-pub add-fits : (w l : List ℕ) → length l + length w ≤ 2560 → addC w true (wrote l) ≡ wrote (l ++ w)
+pub add-fits : (w l m : List ℕ) → length l + length w ≤ 2560 → addC w true (wrote l m) ≡ wrote (l ++ w) (drop (length w) m)
 unfolding addC
-add-fits w l h = rw (le-leb (length l + length w) 2560 h)
+add-fits w l m h = rw (le-leb (length l + length w) 2560 h)
 
-join-by : (u w l : List ℕ) (c : Bool) (t : Bool) → leb (length l + length u) 2560 ≡ t → addC w c (addC u true (wrote l)) ≡ addC (u ++ w) c (wrote l)
+join-by : (u w l m : List ℕ) (c : Bool) (t : Bool) → leb (length l + length u) 2560 ≡ t → addC w c (addC u true (wrote l m)) ≡ addC (u ++ w) c (wrote l m)
 unfolding addC
-join-by u w l c true e =
+join-by u w l m c true e =
     let p : length (l ++ u) + length w ≡ length l + length (u ++ w) = omega (arith, length-append l u, length-append u w) in
-    rw (e, p, append-assoc l u w)
-join-by u w l c false e =
+    rw (e, p, append-assoc l u w, drop-drop (length w) (length u) m, length-append u w)
+join-by u w l m c false e =
     let h : 2560 < length l + length u = leb-false (length l + length u) 2560 e in
     let p : 2560 < length l + length (u ++ w) = omega (arith, length-append u w) in
     rw (e, lt-leb (length l + length (u ++ w)) 2560 p, and-false c)
@@ -63,8 +63,8 @@ join-by u w l c false e =
 -- one addition after another is one addition
 pub join : (u w : List ℕ) (b c : Bool) (o : Out) → addC w c (addC u b o) ≡ addC (u ++ w) (b && c) o
 join u w b c (failed n) = rw (add-failed u b n, add-failed w c n, add-failed (u ++ w) (b && c) n)
-join u w true c (wrote l) = join-by u w l c (leb (length l + length u) 2560) refl
-join u w false c (wrote l) = rw (add-refused u l, add-failed w c 2560, add-refused (u ++ w) l)
+join u w true c (wrote l m) = join-by u w l m c (leb (length l + length u) 2560) refl
+join u w false c (wrote l m) = rw (add-refused u l m, add-failed w c 2560, add-refused (u ++ w) l m)
 
 -- ---- what a buffer shows
 pub seen-over : (t : List ℕ) (at : ℕ) → 2560 < at → outSeen t at ≡ failed (length t)
@@ -74,7 +74,7 @@ seen-over t at h = rw (lt-leb at 2560 h, and-false (eqb (length t) 2560))
 pub seen-failed : (t : List ℕ) → outSeen t 2561 ≡ failed (length t)
 seen-failed t = seen-over t 2561 (omega arith)
 
-pub seen-wrote : (t : List ℕ) (at : ℕ) → length t ≡ 2560 → at ≤ 2560 → outSeen t at ≡ wrote (take at t)
+pub seen-wrote : (t : List ℕ) (at : ℕ) → length t ≡ 2560 → at ≤ 2560 → outSeen t at ≡ wrote (take at t) (drop at t)
 unfolding outSeen
 seen-wrote t at e h = rw (eq-eqb (length t) 2560 e, le-leb at 2560 h)
 
@@ -101,7 +101,7 @@ add-nothing t at = ⊎-elim in-room other (shows t at)
     in-room : (length t ≡ 2560) × (at ≤ 2560) → outSeen t at ≡ addC [] true (outSeen t at)
     in-room h =
         let k : length (take at t) + 0 ≤ 2560 = omega (arith, length-take-le at t (omega arith)) in
-        rw (seen-wrote t at (h .0) (h .1), add-fits [] (take at t) k, append-nil)
+        rw (seen-wrote t at (h .0) (h .1), add-fits [] (take at t) (drop at t) k, append-nil)
 
 -- nor by what is left of a list after its end
 pub add-end : (t l : List ℕ) (at i : ℕ) → length l ≤ i → outSeen t at ≡ addC (drop i l) true (outSeen t at)
@@ -112,7 +112,7 @@ pub refused : (t w : List ℕ) (at : ℕ) → outSeen t 2561 ≡ addC w false (o
 refused t w at = ⊎-elim in-room other (shows t at)
   where
     in-room : (length t ≡ 2560) × (at ≤ 2560) → outSeen t 2561 ≡ addC w false (outSeen t at)
-    in-room h = rw (seen-failed t, seen-wrote t at (h .0) (h .1), add-refused w (take at t), h .0)
+    in-room h = rw (seen-failed t, seen-wrote t at (h .0) (h .1), add-refused w (take at t) (drop at t), h .0)
 
     other : outSeen t at ≡ failed (length t) → outSeen t 2561 ≡ addC w false (outSeen t at)
     other e = rw (e, seen-failed t, add-failed w false (length t))
@@ -131,7 +131,7 @@ put-none t w at h = ⊎-elim in-room other (shows t at)
     in-room : (length t ≡ 2560) × (at ≤ 2560) → outSeen t 2561 ≡ addC w true (outSeen t at)
     in-room g =
         let k : 2560 < length (take at t) + length w = omega (arith, length-take-le at t (omega arith)) in
-        rw (seen-failed t, seen-wrote t at (g .0) (g .1), add-full w (take at t) true k, g .0)
+        rw (seen-failed t, seen-wrote t at (g .0) (g .1), add-full w (take at t) (drop at t) true k, g .0)
 
 -- the bytes w stand from `at` on
 pub put-all : (t w : List ℕ) (at : ℕ) → at + length w ≤ 2560 → outSeen (sets t at w) (at + length w) ≡ addC w true (outSeen t at)
@@ -146,7 +146,16 @@ put-all t w at h = by (eqb (length t) 2560) refl
         let f : at + length w ≤ length t = omega arith in
         let e : length (take at t ++ w) ≡ at + length w = omega (arith, length-append (take at t) w) in
         let s : length (sets t at w) ≡ 2560 = length-sets t at w ∙ g in
-        rw (seen-wrote (sets t at w) (at + length w) s h, seen-wrote t at g a, add-fits w (take at t) k, sets-eq w t at f, take-at (take at t ++ w) (drop (at + length w) t) (at + length w) e)
+        let r = drop (at + length w) t in
+        rw (
+          seen-wrote (sets t at w) (at + length w) s h,
+          seen-wrote t at g a,
+          add-fits w (take at t) (drop at t) k,
+          drop-drop (length w) at t,
+          sets-eq w t at f,
+          take-at (take at t ++ w) r (at + length w) e,
+          drop-at (take at t ++ w) r (at + length w) e,
+        )
     by false p =
         let e : length t ≡ 2560 → ⊥ = eqb-false (length t) 2560 p in
         let f : length (sets t at w) ≡ 2560 → ⊥ = λ q. e (sym (length-sets t at w) ∙ q) in

@@ -2,7 +2,7 @@
 use Prim.Native.Nat.{ℕ, _+_}
 use mathlib.Core.List.{List, [], _∷_, _++_}
 use mathlib.Core.Bool.{Bool, true, false, _&&_, _||_}
-use lib.ListN.{length, take}
+use lib.ListN.{length, take, drop}
 use lib.Seq.{sets}
 use lib.Dec.{leb, eqb}
 use Rattle.tokens.specs.declared.Name.{Name}
@@ -15,18 +15,18 @@ use Rattle.statement.specs.declared.Written.the-variants.{Length, Refused}
 use Rattle.statement.specs.Forms.{word, Slot, Values, row}
 use Rattle.statement.specs.Canonical.{slotText, slotGiven, rowText, rowGiven, textOf, given}
 
--- what is written so far; or that a value was not such as reading gives, or that there was no room, in a buffer of that length
+-- what is written so far, and what stands after it; or that a value was not such as reading gives, or that there was no room, in a buffer of that length
 pub data Out : Type 0 where
-  wrote : List ℕ → Out
+  wrote : List ℕ → List ℕ → Out
   failed : ℕ → Out
 
--- what the first bytes of a buffer are; a position over 2,560 says that writing failed
+-- what a buffer holds before a position and from there on; a position over 2,560 says that writing failed
 unfoldable pub outSeen : List ℕ → ℕ → Out
-outSeen t at = pick (eqb (length t) 2560 && leb at 2560) (wrote (take at t)) (failed (length t))
+outSeen t at = pick (eqb (length t) 2560 && leb at 2560) (wrote (take at t) (drop at t)) (failed (length t))
 
--- the bytes w, if they are given and there is room; what failed stays so
+-- the bytes w, if they are given and there is room, and nothing past them is changed; what failed stays so
 unfoldable pub addC : List ℕ → Bool → Out → Out
-addC w b (wrote l) = pick (b && leb (length l + length w) 2560) (wrote (l ++ w)) (failed 2560)
+addC w b (wrote l m) = pick (b && leb (length l + length w) 2560) (wrote (l ++ w) (drop (length w) m)) (failed 2560)
 addC w b (failed n) = failed n
 
 -- a comma and an operand for each slot
