@@ -8,6 +8,7 @@ use Rattle.statement.specs.declared.Reading.{Reading}
 use Rattle.statement.specs.declared.Reading.the-variants as reading
 use Rattle.statement.specs.declared.Written.{Written}
 use Rattle.statement.specs.declared.Written.the-variants as written
+use Rattle.statement.specs.Reading.{reasonOf}
 use Rattle.statement.specs.Cells.{counted}
 use Rattle.writer.specs.Outputs.{writtenOf, leftBy}
 
@@ -18,14 +19,17 @@ countReason t = cond (counted t) 0 5
 -- the reason of a text from what it reads as: 3 or 4, then 5
 abbrev pub aloneReason : Reading → ℕ
 aloneReason (reading.Got t) = countReason t
-aloneReason (reading.Refused n at) = n
+aloneReason (reading.NoForm at) = reasonOf (reading.NoForm at)
+aloneReason (reading.TooLarge at) = reasonOf (reading.TooLarge at)
 
 -- the answer to writing what a text reads as, with its registers' names, into a room of that length
 abbrev pub rewritten : ℕ → Reading → List Name → Written
 rewritten room (reading.Got t) regs = writtenOf room t regs
-rewritten room (reading.Refused n at) regs = written.Refused n
+rewritten room (reading.NoForm at) regs = written.Refused (reasonOf (reading.NoForm at))
+rewritten room (reading.TooLarge at) regs = written.Refused (reasonOf (reading.TooLarge at))
 
 -- what the room holds then
 abbrev pub leftOf : List ℕ → Reading → List Name → List ℕ
 leftOf old (reading.Got t) regs = leftBy old t regs
-leftOf old (reading.Refused n at) regs = old
+leftOf old (reading.NoForm at) regs = old
+leftOf old (reading.TooLarge at) regs = old

@@ -10,21 +10,21 @@ ghost use Rattle.writer.specs.Outputs.{writtenOf, leftBy};
 ghost use Rattle.canonical.specs.Alone.{countReason, aloneReason, rewritten, leftOf};
 
 // 5 for a load or a store whose N or count of registers is wrong, else 0.
-fn count_reason(t: Statement) -> u8
+fn count_reason(t: Statement) -> u32
     ensures { λ r. ⌜ r ≡ countReason t ⌝ }
 {
-    if cells::is_counted(t) { 0 } else { 5 }
+    if cells::is_counted(t) { reasons::PASSED } else { reasons::REGISTERS }
 }
 
 // The reason of a text: 3 or 4 if it does not read, 5 for a wrong count, else 0.
-pub fn reason(text: &[u8]) -> u8
+pub fn reason(text: &[u8]) -> u32
     ensures { λ r. ⌜ r ≡ aloneReason (readOf (now (text .entry))) ⌝ }
 {
     let t = reader::read(text);
-    match t {
-        Reading::Got(s) => count_reason(s),
-        Reading::Refused(n, _) => n,
-    }
+    let Reading::Got(s) = t else {
+        return reader::reason(t);
+    };
+    count_reason(s)
 }
 
 // The same for a text that reads, with two arrays for its registers' names.
@@ -50,12 +50,10 @@ pub fn rewrite(text: &[u8], room: &mut [u8]) -> Written
     ensures left { λ _. ⌜ now (room .exit) ≡ leftOf (now (room .entry)) (readOf (now (text .entry))) (registersOf (now (text .entry))) ⌝ }
 {
     let t = reader::read(text);
-    match t {
-        Reading::Got(s) => {
-            let mut hi = [0u64; 128];
-            let mut lo = [0u64; 128];
-            rewrite_in(text, s, &mut hi, &mut lo, room)
-        }
-        Reading::Refused(n, _) => Written::Refused(n),
-    }
+    let Reading::Got(s) = t else {
+        return Written::Refused(reader::reason(t));
+    };
+    let mut hi = [0u64; 128];
+    let mut lo = [0u64; 128];
+    rewrite_in(text, s, &mut hi, &mut lo, room)
 }

@@ -19,7 +19,7 @@ use Rattle.statement.specs.declared.Opcode.{Opcode}
 use Rattle.statement.specs.declared.Opcode.the-variants.{Mov32, Mov64, Alloc, Dealloc, Relinquish, Load, Store, WaitLoad, WaitStore, FenceBefore, FenceAfter, Multiply, Exit}
 use Rattle.statement.specs.declared.Found.{Found}
 use Rattle.statement.specs.declared.Found.the-variants.{Is, Nothing}
-use Rattle.statement.specs.declared.Reading.the-variants.{Got, Refused}
+use Rattle.statement.specs.declared.Reading.the-variants.{Got, NoForm, TooLarge}
 use Rattle.statement.specs.Forms.{word, Slot, name, number, inBrackets, address, operand, names, Value, Values, max32, max64, row, Whole, make}
 use Rattle.statement.specs.Opcodes.{recognise}
 use Rattle.statement.specs.Reading.{operandsC, start, wholeBy, opcodeLen, wholeC, answerOf, readOf, reasonOf, registersOf}
@@ -194,7 +194,7 @@ unfolding readOf answerOf
 none-three text h = go (leb (length text) 4096) (wholeC text .next .ok) refl refl
   where
     go : (b c : Bool) → leb (length text) 4096 ≡ b → wholeC text .next .ok ≡ c
-        → reasonOf (pick b (pick c (pick (wholeC text .next .over) (Refused 4 (length text - length (wholeC text .next .far))) (Got (wholeC text .value .statement))) (Refused 3 (length text - length (wholeC text .next .rest)))) (Refused 3 4096)) ≡ 3
+        → reasonOf (pick b (pick c (pick (wholeC text .next .over) (TooLarge (length text - length (wholeC text .next .far))) (Got (wholeC text .value .statement))) (NoForm (length text - length (wholeC text .next .rest)))) (NoForm 4096)) ≡ 3
     go true true p q = let s = read-spells text q in absurd (h (leb-true (length text) 4096 p) (s .0) (s .1))
     go true false p q = refl
     go false c p q = refl

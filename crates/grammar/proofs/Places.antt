@@ -18,7 +18,7 @@ use Rattle.statement.specs.declared.Statement.{Statement}
 use Rattle.statement.specs.declared.Opcode.{Opcode}
 use Rattle.statement.specs.declared.Found.{Found}
 use Rattle.statement.specs.declared.Found.the-variants.{Is, Nothing}
-use Rattle.statement.specs.declared.Reading.the-variants.{Got, Refused}
+use Rattle.statement.specs.declared.Reading.the-variants.{Got, NoForm, TooLarge}
 use Rattle.statement.specs.Forms.{Slot, name, number, inBrackets, address, operand, names, max32, row, Whole, word, make}
 use Rattle.statement.specs.Opcodes.{recognise}
 use Rattle.statement.specs.Reading.{inBracketsC, offsetC, insideC, addressC, operandC, moreC, namesC, slotC, moreRowC, rowC, operandsC, start, opcodeLen, wholeBy, wholeC, answerOf, readOf}
@@ -531,13 +531,13 @@ later-place s text o l e k =
     stops-at s text o l e (stop (tokenRow s (row o)) rest l (token-good s (row o)) b)
 
 -- ---- reason 3
-three-by : (b o : Bool) (k q p : ℕ) (t : Statement) → pick b (pick o (Refused 4 k) (Got t)) (Refused 3 q) ≡ Refused 3 p → (b ≡ false) × (p ≡ q)
-three-by true true k q p t h = absurd (let z : _≡_ {A = ℕ} 4 3 = cc in omega arith)
+three-by : (b o : Bool) (k q p : ℕ) (t : Statement) → pick b (pick o (TooLarge k) (Got t)) (NoForm q) ≡ NoForm p → (b ≡ false) × (p ≡ q)
+three-by true true k q p t h = absurd (let z : _≡_ {A = ℕ} 0 1 = cc in omega arith)
 three-by true false k q p t h = absurd (let z : _≡_ {A = ℕ} 0 1 = cc in omega arith)
 three-by false o k q p t h = (refl, cc)
 
 -- reading stopped there
-stopped : (text : List ℕ) (p : ℕ) → length text ≤ 4096 → readOf text ≡ Refused 3 p → (wholeC text .next .ok ≡ false) × (p ≡ length text - length (wholeC text .next .rest))
+stopped : (text : List ℕ) (p : ℕ) → length text ≤ 4096 → readOf text ≡ NoForm p → (wholeC text .next .ok ≡ false) × (p ≡ length text - length (wholeC text .next .rest))
 unfolding readOf answerOf
 stopped text p n h =
     let r = wholeC text .next in
@@ -551,7 +551,7 @@ first-place : (text : List ℕ) → ((o : Opcode) → take (opcodeLen text) text
 unfolding wholeC
 first-place text h = no-opcode text (recognise (take (opcodeLen text) text)) refl h
 
-pub places : (text : List ℕ) (p : ℕ) → length text ≤ 4096 → readOf text ≡ Refused 3 p → Place text p
+pub places : (text : List ℕ) (p : ℕ) → length text ≤ 4096 → readOf text ≡ NoForm p → Place text p
 places text p n h =
     let z = stopped text p n h in
     let l = wholeC text .next .rest in
@@ -561,13 +561,13 @@ places text p n h =
     }
 
 -- ---- reason 4
-four-by : (a b o : Bool) (k q p : ℕ) (t : Statement) → pick a (pick b (pick o (Refused 4 k) (Got t)) (Refused 3 q)) (Refused 3 4096) ≡ Refused 4 p → (b ≡ true) × (o ≡ true) × (p ≡ k)
+four-by : (a b o : Bool) (k q p : ℕ) (t : Statement) → pick a (pick b (pick o (TooLarge k) (Got t)) (NoForm q)) (NoForm 4096) ≡ TooLarge p → (b ≡ true) × (o ≡ true) × (p ≡ k)
 four-by true true true k q p t h = (refl, refl, cc)
 four-by true true false k q p t h = absurd (let z : _≡_ {A = ℕ} 0 1 = cc in omega arith)
-four-by true false o k q p t h = absurd (let z : _≡_ {A = ℕ} 3 4 = cc in omega arith)
-four-by false b o k q p t h = absurd (let z : _≡_ {A = ℕ} 3 4 = cc in omega arith)
+four-by true false o k q p t h = absurd (let z : _≡_ {A = ℕ} 0 1 = cc in omega arith)
+four-by false b o k q p t h = absurd (let z : _≡_ {A = ℕ} 0 1 = cc in omega arith)
 
-over-at : (text : List ℕ) (p : ℕ) → readOf text ≡ Refused 4 p → (wholeC text .next .ok ≡ true) × (wholeC text .next .over ≡ true) × (p ≡ length text - length (wholeC text .next .far))
+over-at : (text : List ℕ) (p : ℕ) → readOf text ≡ TooLarge p → (wholeC text .next .ok ≡ true) × (wholeC text .next .over ≡ true) × (p ≡ length text - length (wholeC text .next .far))
 unfolding readOf answerOf
 over-at text p h =
     let r = wholeC text .next in
@@ -581,7 +581,7 @@ opcode-there : (text : List ℕ) → wholeC text .next .ok ≡ true → (o : Opc
 unfolding wholeC
 opcode-there text h = some-opcode text (recognise (take (opcodeLen text) text)) refl h
 
-pub overs : (text : List ℕ) (p : ℕ) → readOf text ≡ Refused 4 p → Over text p
+pub overs : (text : List ℕ) (p : ℕ) → readOf text ≡ TooLarge p → Over text p
 overs text p h =
     let z = over-at text p h in
     let o = opcode-there text (z .0) in

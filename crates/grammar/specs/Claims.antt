@@ -11,7 +11,7 @@ use Rattle.tokens.specs.Names.{isName, packed}
 use Rattle.tokens.specs.Numbers.{isNumber}
 use Rattle.statement.specs.declared.Statement.{Statement}
 use Rattle.statement.specs.declared.Opcode.{Opcode}
-use Rattle.statement.specs.declared.Reading.the-variants.{Got, Refused}
+use Rattle.statement.specs.declared.Reading.the-variants.{Got, NoForm, TooLarge}
 use Rattle.statement.specs.Forms.{word, Whole}
 use Rattle.statement.specs.Reading.{opcodeLen, readOf, reasonOf, registersOf}
 use Rattle.statement.specs.Spells.{Spells, sized}
@@ -103,8 +103,8 @@ pub record Theorems : Type 0 where
   pub trip : (t : Statement) (regs : List Name) → given t regs ≡ true → Trip t regs
   pub writable : (t : Statement) (regs : List Name) → Writable t regs
   pub canonical : (text : List ℕ) (t : Statement) → readOf text ≡ Got t → Canonical text t
-  pub three : (text : List ℕ) (place : ℕ) → length text ≤ 4096 → readOf text ≡ Refused 3 place → Place text place
-  pub four : (text : List ℕ) (place : ℕ) → readOf text ≡ Refused 4 place → Over text place
+  pub three : (text : List ℕ) (place : ℕ) → length text ≤ 4096 → readOf text ≡ NoForm place → Place text place
+  pub four : (text : List ℕ) (place : ℕ) → readOf text ≡ TooLarge place → Over text place
   pub one : (fits : Statement → Bool) (text : List ℕ) → One fits text
   -- Names that are held as equal numbers have the same bytes: so two statements are equal exactly when forms, numbers and the bytes of names are.
   pub names : (v w : List ℕ) → isName v ≡ true → isName w ≡ true → packed v ≡ packed w → v ≡ w

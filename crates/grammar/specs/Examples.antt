@@ -5,7 +5,7 @@ use mathlib.Core.Path.{_≡_}
 use mathlib.Core.List.{List, [], _∷_}
 use Rattle.tokens.specs.declared.Name.{Name}
 use Rattle.statement.specs.declared.Reading.{Reading}
-use Rattle.statement.specs.declared.Reading.the-variants.{Got, Refused}
+use Rattle.statement.specs.declared.Reading.the-variants.{Got, NoForm, TooLarge}
 use Rattle.statement.specs.Text.{bytes}
 use Rattle.statement.specs.Reading.{readOf, reasonOf, registersOf}
 use Rattle.statement.specs.Canonical.{textOf}
@@ -13,19 +13,23 @@ use Rattle.statement.specs.Canonical.{textOf}
 -- what a text reads as, written: nothing if it does not read
 abbrev pub writtenBy : Reading → List Name → List ℕ
 writtenBy (Got t) regs = textOf t regs
-writtenBy (Refused reason at) regs = []
+writtenBy (NoForm at) regs = []
+writtenBy (TooLarge at) regs = []
 
 pub data Example : Type 0 where
   -- this text has this reason, 0 if it reads
   gives : String → ℕ → Example
-  -- this text is refused for this reason at this place
-  stops : String → ℕ → ℕ → Example
+  -- no form matches this text, from this place on
+  stops : String → ℕ → Example
+  -- the number at this place of this text is too large
+  over : String → ℕ → Example
   -- this text has this canonical text
   writes : String → String → Example
 
 abbrev pub Holds : Example → Type 0
 Holds (gives text reason) = reasonOf (readOf (bytes text)) ≡ reason
-Holds (stops text reason at) = readOf (bytes text) ≡ Refused reason at
+Holds (stops text at) = readOf (bytes text) ≡ NoForm at
+Holds (over text at) = readOf (bytes text) ≡ TooLarge at
 Holds (writes text other) = writtenBy (readOf (bytes text)) (registersOf (bytes text)) ≡ bytes other
 
 abbrev pub All : List Example → Type 0
@@ -119,12 +123,12 @@ forms =
 -- The place of 3 is that of the first token at which no form can go on, of 4 that of the first number too large.
 abbrev pub places : List Example
 places =
-    stops "mov.b32 x y" 3 10 ∷
-    stops "mov.b33 x, 1;" 3 0 ∷
-    stops "mov.b32 x, 4294967296, 1;" 3 21 ∷
-    stops "mov.b32 x, 4294967296;" 4 11 ∷
-    stops "tcgen05.ld.sync.aligned.32x32b.x1.b32 {r0, 5}, [t];" 3 43 ∷
-    stops "exit" 3 4 ∷
+    stops "mov.b32 x y" 10 ∷
+    stops "mov.b33 x, 1;" 0 ∷
+    stops "mov.b32 x, 4294967296, 1;" 21 ∷
+    over "mov.b32 x, 4294967296;" 11 ∷
+    stops "tcgen05.ld.sync.aligned.32x32b.x1.b32 {r0, 5}, [t];" 43 ∷
+    stops "exit" 4 ∷
     []
 
 -- One space after the opcode and after each comma, decimals, no +0, no .shared::cta.

@@ -15,8 +15,9 @@ use Rattle.lines.proofs.SheetTheorems.{read-written, warp-below}
 use Rattle.laws.specs.Rules.{firstBroken}
 use Rattle.statement.specs.declared.Statement.{Statement}
 use Rattle.statement.specs.declared.Reading.{Reading}
-use Rattle.statement.specs.declared.Reading.the-variants.{Got, Refused}
-use Rattle.statement.specs.Reading.{readOf}
+use Rattle.statement.specs.declared.Reading.the-variants.{Got, NoForm, TooLarge}
+use Rattle.statement.specs.Reading.{readOf, reasonOf}
+use Rattle.statement.proofs.Readings.{Unread}
 use Rattle.rules.specs.State.{State, lowest}
 use Rattle.rules.specs.Reasons.{rules}
 use Rattle.rules.specs.Sheet.{Line, badLayout, noForm, tooLarge, statement, lineRules, lineOf, effect, given, requested, released}
@@ -24,7 +25,7 @@ use Rattle.steps.specs.declared.Status.{Status}
 use Rattle.steps.specs.declared.Step.{Step}
 use Rattle.steps.specs.Steps.{Arrays, only, Gives, StatementDone, LineDone}
 use Rattle.judge.specs.Judged.{seen}
-use Rattle.judge.specs.Parts.{refusalOf, lineSeen}
+use Rattle.judge.specs.Parts.{lineSeen}
 use Rattle.judge.proofs.LineLaws.{fault-seen, laid-seen}
 
 -- a line that is refused for a reason in any state
@@ -45,9 +46,10 @@ refused-done : (x : Line) (why : ℕ) → ((s : State) → firstBroken (lineRule
 refused-done x why w z a status r e = subst (λ (y : Step). LineDone x a status y a) (sym e) (only-done x why w z a status)
 
 -- a statement that did not read
-unread-done : (b : Bool) (a : Arrays) (status : Status) (r : Step) → r ≡ only status (cond b 4 3) → LineDone (cond b tooLarge noForm) a status r a
-unread-done true a status r e = refused-done tooLarge 4 (λ s. refl) (λ z. omega (arith, z)) a status r e
-unread-done false a status r e = refused-done noForm 3 (λ s. refl) (λ z. omega (arith, z)) a status r e
+unread-done : (w : ℕ) (reading : Reading) → Unread reading → (a : Arrays) (status : Status) (r : Step) → r ≡ only status (reasonOf reading) → LineDone (lineOf w reading) a status r a
+unread-done w (Got t) h a status r e = absurd (h t refl)
+unread-done w (NoForm at) h a status r e = refused-done noForm 3 (λ s. refl) (λ z. omega (arith, z)) a status r e
+unread-done w (TooLarge at) h a status r e = refused-done tooLarge 4 (λ s. refl) (λ z. omega (arith, z)) a status r e
 
 -- a statement that was read, of a warp below 4
 read-done : (w : ℕ) (t : Statement) (a : Arrays) (status : Status) (r : Step) (b : Arrays) → w < 4 → StatementDone w t a status r b → LineDone (statement w t) a status r b
@@ -89,11 +91,9 @@ module _ (s : List ℕ) (at : ℕ) (l : lines.Line) (e : l ≡ lineAt s at) wher
 
     module _ (reading : Reading) (f : reading ≡ readOf text) where
       -- its statement did not read
-      pub unread : (n p : ℕ) → reading ≡ Refused n p → (a : Arrays) (status : Status) (why : ℕ) → why ≡ refusalOf reading → (r : Step) → r ≡ only status why
-          → LineDone (lineSeen s at) a status r a
-      unread n p g a status why k r i =
-          let q : cond (eqb n 4) tooLarge noForm ≡ lineSeen s at = ap (lineOf (l .warp)) (sym g) ∙ line-is reading f in
-          subst (λ (x : Line). LineDone x a status r a) q (unread-done (eqb n 4) a status r (i ∙ ap (only status) (k ∙ ap refusalOf g)))
+      pub not-read : Unread reading → (a : Arrays) (status : Status) (why : ℕ) → why ≡ reasonOf reading → (r : Step) → r ≡ only status why → LineDone (lineSeen s at) a status r a
+      not-read h a status why k r i =
+          subst (λ (x : Line). LineDone x a status r a) (line-is reading f) (unread-done (l .warp) reading h a status r (i ∙ ap (only status) k))
 
       -- its statement was read
       pub was-read : (t : Statement) → reading ≡ Got t → (a : Arrays) (status : Status) (r : Step) (b : Arrays) → StatementDone (l .warp) t a status r b

@@ -15,7 +15,7 @@ ghost use Rattle.lines.specs.Sheet.{headed, lineCount, lineAt};
 ghost use Rattle.rules.specs.Sheet.{answer, closing, answerOf, startsOf};
 ghost use Rattle.steps.specs.Steps.{arrays, only, Sized, LineDone};
 ghost use Rattle.judge.specs.Judged.{sheetOf, judgedOf, startsAfter, RunKept};
-ghost use Rattle.judge.specs.Parts.{opening, refusalOf, lineSeen};
+ghost use Rattle.judge.specs.Parts.{opening, lineSeen};
 
 // What a line gives, and where the next line starts.
 struct Stepped {
@@ -27,16 +27,6 @@ struct Stepped {
 struct Judged {
     answer: Answer,
     requests: usize,
-}
-
-// The reason of a statement that did not read.
-fn refusal(reading: Reading) -> u32
-    ensures { λ r. ⌜ r ≡ refusalOf reading ⌝ }
-{
-    match reading {
-        Reading::Got(_) => 0,
-        Reading::Refused(n, _) => if n == 4 { 4 } else { 3 },
-    }
 }
 
 // A line that is refused before its statement.
@@ -80,7 +70,7 @@ fn step(
     let end = line.end;
     let reading = reader::read(&sheet[start..end]);
     let Reading::Got(t) = reading else {
-        return refused(refusal(reading), status, line.next);
+        return refused(reader::reason(reading), status, line.next);
     };
     let step = steps::statement(
         hi,

@@ -13,9 +13,10 @@ use borrow.Author.Tests.{leb-true, leb-false}
 use Rattle.tokens.specs.Bytes.{pick}
 use Rattle.statement.specs.Reading.{readOf}
 use Rattle.statement.specs.declared.Reading.{Reading}
-use Rattle.statement.specs.declared.Reading.the-variants.{Got, Refused}
+use Rattle.statement.specs.declared.Reading.the-variants.{Got, NoForm, TooLarge}
 use Rattle.statement.specs.declared.Statement.{Statement}
 use Rattle.statement.specs.declared.Statement.the-variants.{Mov32, Mov64, Alloc, Dealloc, Relinquish, Load, Store, WaitLoad, WaitStore, FenceBefore, FenceAfter, Multiply, Exit}
+use Rattle.statement.proofs.Readings.{Unread}
 use Rattle.lines.specs.Sheet.{Content, laid, contentAfter, lineCount, lineAt, headed}
 use Rattle.lines.specs.declared.Line as found
 use Rattle.lines.proofs.SheetTheorems.{After, after-header, one-more, all-done, step-laid, step-after}
@@ -24,7 +25,7 @@ use Rattle.judge.specs.Judged.{seen, linesOf}
 use Rattle.report.specs.Report.{Reported, rowText, rowsText, putText, putEnd}
 use Rattle.report.proofs.ReportLaws.{sets-append, put-fits}
 use Rattle.printed.specs.declared.Asked.{Asked}
-use Rattle.printed.specs.Allocs.{allocOf, allocIn}
+use Rattle.printed.specs.Allocs.{noAlloc, allocOf, allocIn}
 use Rattle.printed.specs.Printed.{rowOf, rowsUpTo}
 
 -- ---- the row of a line
@@ -33,10 +34,13 @@ use Rattle.printed.specs.Printed.{rowOf, rowsUpTo}
 abbrev pub rowBy : Asked → ℕ → List Reported
 rowBy a start = pick (a .ok) (record { name = a .name; start = start; columns = a .columns } ∷ []) []
 
-no-row : (b : Bool) (x : ℕ) → rowOf (cond b tooLarge noForm) x ≡ []
+no-form : (x : ℕ) → rowOf noForm x ≡ []
 unfolding rowOf
-no-row true x = refl
-no-row false x = refl
+no-form x = refl
+
+too-large : (x : ℕ) → rowOf tooLarge x ≡ []
+unfolding rowOf
+too-large x = refl
 
 statement-row : (w : ℕ) (t : Statement) (x : ℕ) → rowOf (statement w t) x ≡ rowBy (allocOf t) x
 unfolding rowOf allocOf
@@ -54,9 +58,16 @@ statement-row w FenceAfter x = refl
 statement-row w (Multiply m) x = refl
 statement-row w Exit x = refl
 
+-- a text that does not read asks for nothing
+pub alloc-unread : (r : Reading) → Unread r → noAlloc ≡ allocIn r
+alloc-unread (Got t) h = absurd (h t refl)
+alloc-unread (NoForm at) h = refl
+alloc-unread (TooLarge at) h = refl
+
 line-row : (w : ℕ) (r : Reading) (x : ℕ) → rowOf (lineOf w r) x ≡ rowBy (allocIn r) x
 line-row w (Got t) x = statement-row w t x
-line-row w (Refused reason at) x = no-row (eqb reason 4) x
+line-row w (NoForm at) x = no-form x
+line-row w (TooLarge at) x = too-large x
 
 -- the row of a line by its content
 content-row : (s : List ℕ) (k w : ℕ) (t : List ℕ) (x : ℕ) → contentAfter (suc k) s ≡ laid w t → rowOf (linesOf s k) x ≡ rowBy (allocIn (readOf t)) x

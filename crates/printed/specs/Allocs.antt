@@ -1,7 +1,7 @@
 -- Which statement is an alloc. Assumes nothing.
 use mathlib.Core.Bool.{true, false}
 use Rattle.statement.specs.declared.Reading.{Reading}
-use Rattle.statement.specs.declared.Reading.the-variants.{Got, Refused}
+use Rattle.statement.specs.declared.Reading.the-variants.{Got, NoForm, TooLarge}
 use Rattle.statement.specs.declared.Statement.{Statement}
 use Rattle.statement.specs.declared.Statement.the-variants.{Mov32, Mov64, Alloc, Dealloc, Relinquish, Load, Store, WaitLoad, WaitStore, FenceBefore, FenceAfter, Multiply, Exit}
 use Rattle.printed.specs.declared.Asked.{Asked}
@@ -29,4 +29,5 @@ allocOf Exit = noAlloc
 -- a text that does not read is no alloc
 abbrev pub allocIn : Reading → Asked
 allocIn (Got t) = allocOf t
-allocIn (Refused reason at) = noAlloc
+allocIn (NoForm at) = noAlloc
+allocIn (TooLarge at) = noAlloc

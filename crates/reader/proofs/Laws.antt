@@ -24,10 +24,11 @@ use Rattle.statement.specs.declared.Opcode.the-variants.{Multiply}
 use Rattle.statement.specs.declared.Found.{Found}
 use Rattle.statement.specs.declared.Found.the-variants.{Is, Nothing}
 use Rattle.statement.specs.declared.Reading.{Reading}
-use Rattle.statement.specs.declared.Reading.the-variants.{Got, Refused}
+use Rattle.statement.specs.declared.Reading.the-variants.{Got, NoForm}
 use Rattle.statement.specs.Forms.{Whole, plain}
 use Rattle.statement.specs.Opcodes.{recognise}
 use Rattle.statement.specs.Reading.{moreC, counted, his, los, answerOf, operandsC, start, opcodeLen, wholeBy, wholeC, readOf, fine, registersOf, told}
+use Rattle.statement.proofs.Readings.{Unread}
 use Rattle.opcode.specs.declared.Head.{Head}
 use Rattle.opcode.specs.Heads.{headSeen, headBy, headOf}
 use Rattle.reader.specs.Lists.{listC}
@@ -132,11 +133,11 @@ module _ (s : List ℕ) (h : Head) (is : headSeen s h ≡ headOf s) where
   whole-none e = head-whole s ∙ rw (← is, e)
 
 -- ---- the answer
-pub read-long : (s : List ℕ) → 4096 < length s → Refused 3 4096 ≡ readOf s
+pub read-long : (s : List ℕ) → 4096 < length s → NoForm 4096 ≡ readOf s
 unfolding readOf
 read-long s h = rw (lt-leb (length s) 4096 h)
 
-pub read-none : (s : List ℕ) → length s ≤ 4096 → wholeC s ≡ record { value = plain Exit; next = off (start s) s } → Refused 3 0 ≡ readOf s
+pub read-none : (s : List ℕ) → length s ≤ 4096 → wholeC s ≡ record { value = plain Exit; next = off (start s) s } → NoForm 0 ≡ readOf s
 unfolding readOf answerOf
 read-none s h w = rw (le-leb (length s) 4096 h, w, sub-self (length s))
 
@@ -150,11 +151,11 @@ fine-by text r t u true false p q h = rw (p, q)
 fine-by text r t u true true p q h = absurd (let g = rw (p, q) at h in let z : _≡_ {A = ℕ} 0 1 = cc in omega arith)
 fine-by text r t u false over p q h = absurd (let g = rw p at h in let z : _≡_ {A = ℕ} 0 1 = cc in omega arith)
 
-not-fine-by : (text : List ℕ) (r : Rest) (t : Statement) (n at : ℕ) (ok over : Bool) → r .ok ≡ ok → r .over ≡ over → answerOf text r t ≡ Refused n at → fine r ≡ false
+not-fine-by : (text : List ℕ) (r : Rest) (t : Statement) (ok over : Bool) → r .ok ≡ ok → r .over ≡ over → Unread (answerOf text r t) → fine r ≡ false
 unfolding answerOf
-not-fine-by text r t n at true false p q h = absurd (let g = rw (p, q) at h in let z : _≡_ {A = ℕ} 0 1 = cc in omega arith)
-not-fine-by text r t n at true true p q h = rw (p, q)
-not-fine-by text r t n at false over p q h = rw p
+not-fine-by text r t true false p q h = absurd (h t (rw (p, q)))
+not-fine-by text r t true true p q h = rw (p, q)
+not-fine-by text r t false over p q h = rw p
 
 -- ---- the registers
 pub registers-long : (s : List ℕ) → 4096 < length s → registersOf s ≡ []
@@ -171,10 +172,10 @@ module _ (s : List ℕ) (t : Took Whole) (answer : Reading) (short : length s �
   registers-got u g =
       rw (le-leb (length s) 4096 short, whole, fine-by s (t .next) (t .value .statement) u (t .next .ok) (t .next .over) refl refl (sym told-is ∙ g))
 
-  pub registers-refused : (n at : ℕ) → answer ≡ Refused n at → registersOf s ≡ []
+  pub registers-unread : Unread answer → registersOf s ≡ []
   unfolding registersOf
-  registers-refused n at g =
-      rw (le-leb (length s) 4096 short, whole, not-fine-by s (t .next) (t .value .statement) n at (t .next .ok) (t .next .over) refl refl (sym told-is ∙ g))
+  registers-unread h =
+      rw (le-leb (length s) 4096 short, whole, not-fine-by s (t .next) (t .value .statement) (t .next .ok) (t .next .over) refl refl (λ u g. h u (told-is ∙ g)))
 
 pub list-multiply : (ws sp : Bool) (kind : Kind) (r : Rest) → listC (Multiply ws sp kind) r ≡ []
 unfolding listC operandsC

@@ -14,17 +14,17 @@ ghost use Rattle.tokens.specs.Cursors.{seen, endC};
 ghost use Rattle.statement.specs.declared.Opcode.the-variants as opcode;
 ghost use Rattle.statement.specs.Reading.{answerOf, operandsC, told};
 
-// 3 where reading stopped, 4 where a number was too large, else the statement.
+// No form where reading stopped, too large where a number was, else the statement.
 pub fn answer(s: &[u8], k: Cursor, t: Statement) -> Reading
     ensures { λ r. ⌜ r ≡ answerOf (now (s .entry)) (seen (now (s .entry)) k) t ⌝ }
 {
     let at = k.at;
     let far = k.far;
     if !k.ok {
-        return Reading::Refused(3, lexer::cursor::place(s, at));
+        return Reading::NoForm(lexer::cursor::place(s, at));
     }
     if k.over {
-        return Reading::Refused(4, lexer::cursor::place(s, far));
+        return Reading::TooLarge(lexer::cursor::place(s, far));
     }
     Reading::Got(t)
 }

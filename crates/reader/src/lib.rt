@@ -35,18 +35,18 @@ pub fn operands(s: &[u8], k: Cursor, o: Opcode) -> Reading
     }
 }
 
-// A statement, or 3 or 4 with the position of the token that it is for.
+// A statement, or the position of the token that no form or no number of that size goes on at.
 pub fn read(s: &[u8]) -> Reading
     ensures { λ r. ⌜ r ≡ readOf (now (s .entry)) ⌝ }
 {
     if 4096 < s.len() {
-        return Reading::Refused(3, 4096);
+        return Reading::NoForm(4096);
     }
     let h = opcode::head_of(s);
     let e = h.end;
     let f = h.found;
     let Found::Is(o) = f else {
-        return Reading::Refused(3, 0);
+        return Reading::NoForm(0);
     };
     operands(
         s,
@@ -116,13 +116,13 @@ pub fn registers(s: &[u8], hi: &mut [u64; 128], lo: &mut [u64; 128]) -> usize
     list_of(s, k, o, hi, lo)
 }
 
-// The paper's number of the answer: 0 for a statement, 3 or 4.
-pub fn reason(s: &[u8]) -> u8
-    ensures { λ r. ⌜ r ≡ reasonOf (readOf (now (s .entry))) ⌝ }
+// The number of an answer.
+pub fn reason(t: Reading) -> u32
+    ensures { λ r. ⌜ r ≡ reasonOf t ⌝ }
 {
-    let t = read(s);
     match t {
-        Reading::Got(_) => 0,
-        Reading::Refused(n, _) => n,
+        Reading::Got(_) => reasons::PASSED,
+        Reading::NoForm(_) => reasons::FORM,
+        Reading::TooLarge(_) => reasons::NUMBER,
     }
 }

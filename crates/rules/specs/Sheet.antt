@@ -9,7 +9,7 @@ use lib.Seq.{sets}
 use Rattle.laws.specs.Rules.{Rule, rule, firstBroken}
 use Rattle.tokens.specs.declared.Name.{Name}
 use Rattle.statement.specs.declared.Reading.{Reading}
-use Rattle.statement.specs.declared.Reading.the-variants.{Got, Refused}
+use Rattle.statement.specs.declared.Reading.the-variants.{Got, NoForm, TooLarge}
 use Rattle.statement.specs.declared.Statement.{Statement}
 use Rattle.statement.specs.declared.Statement.the-variants.{Mov32, Mov64, Alloc, Dealloc, Relinquish, Load, Store, WaitLoad, WaitStore, FenceBefore, FenceAfter, Multiply, Exit}
 use Rattle.rules.specs.declared.Answer.{Answer}
@@ -26,10 +26,11 @@ pub data Line : Type 0 where
   tooLarge : Line
   statement : (warp : ℕ) → Statement → Line
 
--- the line of a text that was read beside a warp: reasons 3 and 4 are the reader's
+-- the line of a text that was read beside a warp
 abbrev pub lineOf : ℕ → Reading → Line
 lineOf w (Got t) = statement w t
-lineOf w (Refused reason at) = cond (eqb reason 4) tooLarge noForm
+lineOf w (NoForm at) = noForm
+lineOf w (TooLarge at) = tooLarge
 
 -- line 1 is right or not; the lines after it, counted from 0 (so `line 0` is line 2 of the sheet), and how many they are
 pub record Sheet : Type 0 where

@@ -11,7 +11,7 @@ ghost use Rattle.staplehorn.specs.Statements.{writtenReason, writtenLeng
 pub extern "C" fn staplehorn_statement_reason(text: &[u8]) -> u32
     ensures { λ r. ⌜ r ≡ aloneReason (readOf (now (text .entry))) ⌝ }
 {
-    canonical::reason(text) as u32
+    canonical::reason(text)
 }
 
 fn reason_of(w: Written) -> u32
@@ -19,7 +19,7 @@ fn reason_of(w: Written) -> u32
 {
     match w {
         Written::Length(_) => 0,
-        Written::Refused(n) => n as u32,
+        Written::Refused(n) => n,
     }
 }
 

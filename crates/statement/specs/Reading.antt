@@ -16,7 +16,7 @@ use Rattle.statement.specs.declared.Opcode.{Opcode}
 use Rattle.statement.specs.declared.Found.{Found}
 use Rattle.statement.specs.declared.Found.the-variants.{Is, Nothing}
 use Rattle.statement.specs.declared.Reading.{Reading}
-use Rattle.statement.specs.declared.Reading.the-variants.{Got, Refused}
+use Rattle.statement.specs.declared.Reading.the-variants.{Got, NoForm, TooLarge}
 use Rattle.statement.specs.declared.OffsetRead.{OffsetRead}
 use Rattle.statement.specs.declared.AddressRead.{AddressRead}
 use Rattle.statement.specs.declared.OperandRead.{OperandRead}
@@ -92,10 +92,10 @@ rowC (k ∷ ks) r =
     record { value = (v .value, m .value); next = m .next }
 
 -- ---- the answer
--- 3 before 4, each with its position in text
+-- no form before too large, each with its position in text
 unfoldable pub answerOf : List ℕ → Rest → Statement → Reading
 answerOf text r t =
-    pick (r .ok) (pick (r .over) (Refused 4 (length text - length (r .far))) (Got t)) (Refused 3 (length text - length (r .rest)))
+    pick (r .ok) (pick (r .over) (TooLarge (length text - length (r .far))) (Got t)) (NoForm (length text - length (r .rest)))
 
 -- the operands of an opcode, read from r on
 unfoldable pub operandsC : Opcode → Rest → Took Whole
@@ -117,12 +117,13 @@ wholeC text = wholeBy text (drop (opcodeLen text) text) (recognise (take (opcode
 
 -- what a text reads as: over 4,096 bytes nothing
 unfoldable pub readOf : List ℕ → Reading
-readOf text = pick (leb (length text) 4096) (answerOf text (wholeC text .next) (wholeC text .value .statement)) (Refused 3 4096)
+readOf text = pick (leb (length text) 4096) (answerOf text (wholeC text .next) (wholeC text .value .statement)) (NoForm 4096)
 
--- the paper's number of an answer: 0, 3 or 4
+-- the number of an answer
 abbrev pub reasonOf : Reading → ℕ
 reasonOf (Got t) = 0
-reasonOf (Refused reason at) = reason
+reasonOf (NoForm at) = 3
+reasonOf (TooLarge at) = 4
 
 -- reading ended well, with every number in range
 abbrev pub fine : Rest → Bool

@@ -99,16 +99,17 @@ pub enum Found {
     Nothing,
 }
 
-// A statement, or the reason (3 or 4) and the position of the token that it is for.
+// A statement; or the position of the token at which no form can go on, or that of a number that is too large.
 pub enum Reading {
     Got(Statement),
-    Refused(u8, usize),
+    NoForm(usize),
+    TooLarge(usize),
 }
 
-// The length written, or the reason (19).
+// The length written, or the reason that there is none.
 pub enum Written {
     Length(usize),
-    Refused(u8),
+    Refused(u32),
 }
 
 pub struct OffsetRead {

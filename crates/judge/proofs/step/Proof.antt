@@ -3,7 +3,8 @@
 use mathlib.Core.Path.{refl, _∙_}
 use borrow.Author.Needs.{needs}
 use borrow.Author.Tests.{not-true, not-false}
-use Rattle.judge.proofs.StepLaws.{next-is, fault-done, part, unread, was-read}
+use Rattle.statement.proofs.Readings.{unread}
+use Rattle.judge.proofs.StepLaws.{next-is, fault-done, part, not-read, was-read}
 use Rattle.judge.proofs.step.Statement.{statement}
 use Rattle.judge.proofs.step.Tie as tie
 
@@ -44,22 +45,19 @@ read-requires c κs = search needs
 enum-known-reading : tie.Need-enum-known-reading
 enum-known-reading c = search needs
 
-enum-told : tie.Need-enum-told
-enum-told c = search needs
-
-refusal-requires : tie.Need-refusal-requires
-refusal-requires c κs = search needs
+reason-requires : tie.Need-reason-requires
+reason-requires c κs = search needs
 
 refused-requires-2 : tie.Need-refused-requires-2
 refused-requires-2 c κs = search needs
 
 returns-2 : tie.Need-returns-2
 returns-2 c =
-    let a = c .before .before .before .before .before .before .before .before .before .before .args in
-    let l = c .before .before .before .before .before .before .before .before .line-at in
-    let x = c .before .before .before .before .read in
+    let a = c .before .before .before .before .before .before .before .before .before .args in
+    let l = c .before .before .before .before .before .before .before .line-at in
+    let x = c .before .before .before .read in
     let r = c .refused2 in
-    (unread (a .sheet .now) (a .at) (l .result) (l .ensures) (not-false (l .result .ok) (c .before .before .before .before .before .before .if1 .left)) (x .result) (x .ensures) _ _ (c .before .before .enum-told .given .1) _ _ _ (c .before .refusal .ensures) _ (r .ensures .0), next-is (a .sheet .now) (a .at) (l .result) (l .ensures) _ (r .ensures .1))
+    (not-read (a .sheet .now) (a .at) (l .result) (l .ensures) (not-false (l .result .ok) (c .before .before .before .before .before .if1 .left)) (x .result) (x .ensures) (unread (x .result) (c .before .before .match .keys2)) _ _ _ (c .before .reason .ensures) _ (r .ensures .0), next-is (a .sheet .now) (a .at) (l .result) (l .ensures) _ (r .ensures .1))
 
 statement-requires : tie.Need-statement-requires
 statement-requires c κs = c .before .before .before .before .before .before .before .before .before .before .before .before .before .before .before .before .pre
@@ -83,8 +81,7 @@ step-spec =
     part-read-end
     read-requires
     enum-known-reading
-    enum-told
-    refusal-requires
+    reason-requires
     refused-requires-2
     returns-2
     statement-requires

@@ -1,8 +1,9 @@
 -- `reader::registers` meets its contract. One law for each way out: where the text does not read nothing is stored, and else the list of its opcode.
 -- Assumes nothing.
 use Rattle.statement.specs.Reading.{registersOf}
+use Rattle.statement.proofs.Readings.{unread}
 use Rattle.reader.specs.Lists.{listC}
-use Rattle.reader.proofs.Laws.{none-stored, whole-is, whole-none, registers-long, registers-none, registers-refused, registers-got}
+use Rattle.reader.proofs.Laws.{none-stored, whole-is, whole-none, registers-long, registers-none, registers-unread, registers-got}
 use borrow.Author.Needs.{needs}
 use Rattle.reader.proofs.registers.Statement.{statement}
 use Rattle.reader.proofs.registers.Tie as tie
@@ -34,20 +35,17 @@ operands-requires c κs = search needs
 enum-told-2 : tie.Need-enum-told-2
 enum-told-2 c = search needs
 
-enum-told-3 : tie.Need-enum-told-3
-enum-told-3 c = search needs
-
 returns-3 : tie.Need-returns-3
 returns-3 c =
-    let c₁ = c .before .before .before .before in
+    let c₁ = c .before .before .before in
     let c₂ = c₁ .before .before in
     let c₃ = c₂ .before in
     let c₄ = c₃ .before .before in
     let a = c₄ .args in
     let head-of = c₂ .head-of in
-    let operands = c .before .before .operands in
-    none-stored (a .hi .now) (a .lo .now) (registersOf (a .s .now)) (registers-refused (a .s .now) _ (operands .result) (c₃ .if1 .left) (whole-is
-    (a .s .now) (head-of .result) (head-of .ensures) _ (c₁ .f .given .1)) (operands .ensures) _ _ (c .enum-told3 .given .1))
+    let operands = c .before .operands in
+    none-stored (a .hi .now) (a .lo .now) (registersOf (a .s .now)) (registers-unread (a .s .now) _ (operands .result) (c₃ .if1 .left) (whole-is
+    (a .s .now) (head-of .result) (head-of .ensures) _ (c₁ .f .given .1)) (operands .ensures) (unread (operands .result) (c .match2 .keys2)))
 
 list-of-requires : tie.Need-list-of-requires
 list-of-requires c κs = search needs
@@ -77,7 +75,6 @@ registers-spec =
     returns-2
     operands-requires
     enum-told-2
-    enum-told-3
     returns-3
     list-of-requires
     returns-4)
