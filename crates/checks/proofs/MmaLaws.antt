@@ -10,7 +10,7 @@ use Rattle.laws.specs.Tests.{all}
 use Rattle.laws.specs.Rules.{firstBroken}
 use Rattle.tokens.specs.declared.Name.{Name}
 use Rattle.instruction.specs.declared.FieldsRead.{FieldsRead}
-use Rattle.instruction.specs.declared.InstructionRead.{InstructionRead}
+use Rattle.instruction.specs.Descriptor.{InstructionRead}
 use Rattle.instruction.specs.Instruction as instruction
 use Rattle.shared_memory.specs.declared.SharedRead.{SharedRead}
 use Rattle.shared_memory.specs.Shared as shared

@@ -7,9 +7,7 @@ use Rattle.instruction.specs.Instruction as I
 use Rattle.shared_memory.specs.Shared as S
 use Rattle.request.specs.Request.{requestReason}
 use Rattle.instruction.specs.declared.Kind.{Kind}
-use Rattle.instruction.specs.declared.Dtype.{Dtype}
-use Rattle.instruction.specs.declared.Element.{Element}
-use Rattle.instruction.specs.declared.Instruction.{Instruction}
+use Rattle.instruction.specs.Descriptor.{Dtype, Element, Instruction}
 use Rattle.shared_memory.specs.declared.Shared.{Shared}
 
 -- an entry of each sort: a kind, a dense descriptor without `.ws`, its word and the word's reason; a shared memory descriptor and its word; an address

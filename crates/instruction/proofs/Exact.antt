@@ -8,20 +8,15 @@ use native.Mathlib.Omega.{arith}
 use Rattle.laws.specs.Tests.{all}
 use Rattle.laws.specs.Layout.{ranges, pack}
 use Rattle.laws.proofs.FormatLaws.{Reading, Writing, reading, writing, read-word, word-read}
-use Rattle.instruction.specs.Instruction.{layout, fields, values, fieldsIn, numbers, named, rules, found, made, noDescriptor, noWord, good, fieldsRead, decoded, encoded, encodedNumbers}
-use Rattle.instruction.proofs.InstructionLaws.{numbers-none, numbers-out, numbers-some}
+use Rattle.instruction.specs.Instruction.{layout, fields, values, fieldsIn, numbers, named, rules, keeps, found, made, noDescriptor, noWord, good, fieldsRead, decoded, encoded, encodedNumbers}
+use Rattle.instruction.proofs.NumberLaws.{word-numbers, numbers-back}
 use Rattle.instruction.specs.Claims.{InstructionExact}
 use Rattle.instruction.specs.declared.Kind.{Kind}
-use Rattle.instruction.specs.declared.Instruction.{Instruction}
-use Rattle.instruction.specs.declared.InstructionRead.{InstructionRead}
+use Rattle.instruction.specs.Descriptor.{Instruction, InstructionRead}
 use Rattle.instruction.specs.declared.InstructionWord.{InstructionWord}
 use Rattle.instruction.specs.declared.Fields.{Fields}
 use Rattle.instruction.specs.declared.FieldsRead.{FieldsRead}
 use Rattle.instruction.proofs.NamingLaws.{own, same, fieldsAt}
-
--- a refusal's reason is not 0
-refuse : {A : Type 0} {a : InstructionWord} → a ≡ noWord → a .reason ≡ 0 → A
-refuse p e = let z : _≡_ {A = ℕ} 12 0 = ap (λ (x : InstructionWord). x .reason) (sym p) ∙ e in absurd (omega arith)
 
 module _ (kind : Kind) (ws sp : Bool) where
   abbrev rule : Instruction → Bool
@@ -55,21 +50,11 @@ module _ (kind : Kind) (ws sp : Bool) where
       → v < 2 ^ 32 → w < 2 ^ 32 → decoded kind ws sp v ≡ found d → decoded kind ws sp w ≡ found d → v ≡ w
   sole v w d a b p q = ap (λ (x : InstructionWord). x .word) (sym (word v d a p) ∙ word w d b q)
 
-  -- the word of numbers is that of the descriptor that they name
-  by-name : (f : Fields) (b : Bool) (x : Option Instruction)
-      → all (ranges layout (values f)) ≡ b → named kind (values f) ≡ x → encodedNumbers kind ws sp (values f) .reason ≡ 0
-      → fieldsRead (decoded kind ws sp (encodedNumbers kind ws sp (values f) .word)) ≡ good f
-  by-name f true (some d) h n e =
-      let q : encodedNumbers kind ws sp (values f) ≡ encoded kind ws sp d = numbers-some kind ws sp (values f) d h n in
-      ap (λ (a : InstructionWord). fieldsRead (decoded kind ws sp (a .word))) q
-      ∙ ap fieldsRead (back d (rw q at e))
-      ∙ ap (λ (l : List ℕ). good (fieldsIn l)) (same kind f d h n)
-  by-name f true none h n e = refuse (numbers-none kind ws sp (values f) n) e
-  by-name f false x h n e = refuse (numbers-out kind ws sp (values f) h) e
-
-  fields-back : (f : Fields) → encodedNumbers kind ws sp (values f) .reason ≡ 0
-      → fieldsRead (decoded kind ws sp (encodedNumbers kind ws sp (values f) .word)) ≡ good f
-  fields-back f e = by-name f (all (ranges layout (values f))) (named kind (values f)) refl refl e
+  -- the word of a descriptor is that of its numbers
+  as-numbers : (d : Instruction) → encoded kind ws sp d .reason ≡ 0 → encodedNumbers kind ws sp (numbers d) ≡ encoded kind ws sp d
+  as-numbers d e =
+      let k : Writing layout numbers rule d = writes d e .0 in
+      word-numbers kind ws sp (numbers d) true true (k .range) (ap (keeps kind ws sp) (own kind ws sp d (k .keeps)) ∙ k .keeps) ∙ sym (writes d e .1)
 
   -- a word that reads as some numbers is the word of those numbers
   fields-word : (w : ℕ) (f : Fields) → w < 2 ^ 32 → fieldsRead (decoded kind ws sp w) ≡ good f → encodedNumbers kind ws sp (values f) ≡ made w
@@ -77,14 +62,18 @@ module _ (kind : Kind) (ws sp : Bool) where
   fields-word w f b e =
       let r : (x : Instruction) × Reading layout (named kind) rule w x × (decoded kind ws sp w ≡ found x) =
       reading layout (named kind) rule found noDescriptor (λ a. a .reason ≡ 0) (λ z. omega arith) w (ap (λ (a : FieldsRead). a .reason) e) in
-      let d : Instruction = r .0 in
-      let q : fields d ≡ f = ap (λ (a : FieldsRead). a .fields) (sym (ap fieldsRead (r .2)) ∙ e) in
-      let u : encoded kind ws sp d ≡ made w = word w d b (r .2) in
-      let k : Writing layout numbers rule d = writes d (ap (λ (a : InstructionWord). a .reason) u) .0 in
-      ap (λ (x : Fields). encodedNumbers kind ws sp (values x)) (sym q)
-      ∙ numbers-some kind ws sp (numbers d) d (k .range) (own kind ws sp d (k .keeps))
+      let u : encoded kind ws sp (r .0) ≡ made w = word w (r .0) b (r .2) in
+      ap (λ (a : FieldsRead). encodedNumbers kind ws sp (values (a .fields))) (sym e ∙ ap fieldsRead (r .2))
+      ∙ as-numbers (r .0) (ap (λ (a : InstructionWord). a .reason) u)
       ∙ u
 
 -- DEMAND 2 on instruction descriptors, under every opcode
 pub instruction-exact : (kind : Kind) (ws sp : Bool) → InstructionExact kind ws sp
-instruction-exact kind ws sp = record { back = back kind ws sp; word = word kind ws sp; sole = sole kind ws sp; fields-back = fields-back kind ws sp; fields-word = fields-word kind ws sp }
+instruction-exact kind ws sp = record {
+  back = back kind ws sp;
+  word = word kind ws sp;
+  sole = sole kind ws sp;
+  as-numbers = as-numbers kind ws sp;
+  fields-back = numbers-back kind ws sp;
+  fields-word = fields-word kind ws sp;
+}

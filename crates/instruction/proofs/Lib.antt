@@ -1,4 +1,3 @@
-pub mod InstructionLaws
 pub mod NamingLaws
 pub mod NumberLaws
 pub mod Exact

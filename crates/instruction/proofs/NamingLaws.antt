@@ -14,9 +14,7 @@ use Rattle.laws.proofs.TestLaws.{and-split, find-passes, Each, each}
 use Rattle.laws.proofs.LayoutLaws.{Inside, within}
 use Rattle.instruction.specs.Instruction.{layout, kindNumber, kindOf, code, ofKind, elements, dtypeCode, dtypes, dtypeOf, elementOf, bit, values, numbers, filled, named3, named, rules}
 use Rattle.instruction.specs.declared.Kind.{Kind}
-use Rattle.instruction.specs.declared.Dtype.{Dtype}
-use Rattle.instruction.specs.declared.Element.{Element}
-use Rattle.instruction.specs.declared.Instruction.{Instruction}
+use Rattle.instruction.specs.Descriptor.{Dtype, Element, Instruction}
 use Rattle.instruction.specs.declared.Fields.{Fields}
 
 -- the kind of a number

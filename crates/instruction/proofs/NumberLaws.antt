@@ -4,23 +4,24 @@ use mathlib.Core.Path.{_≡_, refl, ap, sym, _∙_, subst}
 use mathlib.Core.Bool.{Bool, true, false, _&&_, _||_, not, cond, Bool·beq}
 use mathlib.Core.List.{List, [], _∷_}
 use mathlib.Core.Option.{Option, none, some, Option·getD}
+use native.Mathlib.Omega.{arith}
 use lib.Dec.{eqb}
 use lib.ListN.{getD}
+use borrow.Author.Tests.{eqb-false}
 use Rattle.laws.specs.Tests.{all, isSome}
 use Rattle.laws.specs.Layout.{says, stands, ranges, pack}
 use Rattle.laws.specs.Rules.{firstBroken}
-use Rattle.laws.proofs.TestLaws.{never, and-split, find-passes, never-all}
-use Rattle.laws.proofs.LayoutLaws.{unpacked}
-use Rattle.instruction.proofs.InstructionLaws.{decoded-none, decoded-both, encoded-both, numbers-none, numbers-out, numbers-some}
+use Rattle.laws.proofs.BoolLaws.{never, and-split, and-l, cond-and}
+use Rattle.laws.proofs.TestLaws.{find-passes, never-all}
+use Rattle.laws.proofs.FormatLaws.{read-both, read-none}
+use Rattle.laws.proofs.LayoutLaws.{packed, unpacked}
 use Rattle.instruction.proofs.NamingLaws.{same}
-use Rattle.instruction.specs.Instruction.{layout, fields, values, fieldsIn, numbers, good, fieldsRead, named3, named, rules, keeps, dtypeOf, elementOf, ofKind, code, elements, isI8, zero, found, made, noDescriptor, noWord, decoded, encodedNumbers, listing, listedBy, readReason, wordReason}
+use Rattle.instruction.specs.Instruction.{layout, fields, values, fieldsIn, good, fieldsRead, named3, named, rules, keeps, dtypeOf, elementOf, ofKind, code, elements, isI8, zero, found, made, noDescriptor, noWord, decoded, encodedNumbers, mListed, nListed, typesListed, listing, fieldsReason, judged}
 use Rattle.instruction.specs.declared.Kind.{Kind}
-use Rattle.instruction.specs.declared.Dtype.{Dtype}
-use Rattle.instruction.specs.declared.Element.{Element}
-use Rattle.instruction.specs.declared.Instruction.{Instruction}
+use Rattle.instruction.specs.Descriptor.{Dtype, Element, Instruction, InstructionRead}
 use Rattle.instruction.specs.declared.Fields.{Fields}
 use Rattle.instruction.specs.declared.FieldsRead.{FieldsRead}
-use Rattle.instruction.specs.declared.InstructionRead.{InstructionRead}
+use Rattle.instruction.specs.declared.Judged.{Judged}
 use Rattle.instruction.specs.declared.InstructionWord.{InstructionWord}
 
 -- the rules that do not look at the types, on numbers
@@ -57,12 +58,13 @@ admitted kind ws sp l =
 -- reading goes by the fixed parts and the tests on numbers
 by-name : (kind : Kind) (ws sp : Bool) (w : ℕ) (x : Option Instruction) → named kind (says layout w) ≡ x
     → decoded kind ws sp w ≡ cond (all (stands layout w) && keeps kind ws sp x) (found (Option·getD x zero)) noDescriptor
-by-name kind ws sp w none e = decoded-none kind ws sp w e ∙ sym (refused-both (all (stands layout w)))
+unfolding decoded
+by-name kind ws sp w none e = read-none layout (named kind) (λ d. all (rules kind ws sp d)) found noDescriptor w e ∙ sym (refused-both (all (stands layout w)))
   where
     refused-both : (b : Bool) → cond (b && false) (found zero) noDescriptor ≡ noDescriptor
     refused-both true = refl
     refused-both false = refl
-by-name kind ws sp w (some d) e = decoded-both kind ws sp w d e
+by-name kind ws sp w (some d) e = read-both layout (named kind) (λ d'. all (rules kind ws sp d')) found noDescriptor w d e
 
 reading : (kind : Kind) (ws sp : Bool) (w : ℕ) (l : List ℕ) (t : Bool) → l ≡ says layout w → (all (stands layout w) && keeps kind ws sp (named kind l)) ≡ t
     → decoded kind ws sp w ≡ cond t (found (Option·getD (named kind l) zero)) noDescriptor
@@ -75,15 +77,18 @@ kept-same : (kind : Kind) (ws sp : Bool) (f : Fields) (x : Option Instruction)
 kept-same kind ws sp f none h e k = never k
 kept-same kind ws sp f (some d) h e k = ap fieldsIn (same kind f d h e)
 
--- the fields of a word that is read, and of one that is not
+-- the fields of a word that is read: they are in range, by themselves or since the word has 32 bits
+read-kept : (kind : Kind) (ws sp : Bool) (w : ℕ) (f : Fields) → all (ranges layout (values f)) ≡ true → values f ≡ says layout w
+    → (all (stands layout w) && keeps kind ws sp (named kind (values f))) ≡ true → fieldsRead (decoded kind ws sp w) ≡ good f
+read-kept kind ws sp w f h e t =
+    ap fieldsRead (reading kind ws sp w (values f) true e t)
+    ∙ ap good (kept-same kind ws sp f (named kind (values f)) h refl (and-split (all (stands layout w)) (keeps kind ws sp (named kind (values f))) t .1))
+
 pub read-fields : (kind : Kind) (ws sp : Bool) (w : ℕ) (f : Fields) → w < 2 ^ 32 → values f ≡ says layout w
     → (all (stands layout w) && keeps kind ws sp (named kind (values f))) ≡ true → fieldsRead (decoded kind ws sp w) ≡ good f
 read-fields kind ws sp w f b e t =
-    let s : (all (stands layout w) ≡ true) × (keeps kind ws sp (named kind (values f)) ≡ true) = and-split _ _ t in
-    let h : all (ranges layout (values f)) ≡ true =
-    subst (λ (l : List ℕ). all (ranges layout l) ≡ true) (sym e) (unpacked 32 layout w refl b (s .0) .0) in
-    ap fieldsRead (reading kind ws sp w (values f) true e t)
-    ∙ ap good (kept-same kind ws sp f (named kind (values f)) h refl (s .1))
+    let s : all (stands layout w) ≡ true = and-l (all (stands layout w)) (keeps kind ws sp (named kind (values f))) t in
+    read-kept kind ws sp w f (subst (λ (l : List ℕ). all (ranges layout l) ≡ true) (sym e) (unpacked 32 layout w refl b s .0)) e t
 
 pub read-refused : (kind : Kind) (ws sp : Bool) (w : ℕ) (f : Fields) → values f ≡ says layout w
     → (all (stands layout w) && keeps kind ws sp (named kind (values f))) ≡ false → decoded kind ws sp w ≡ noDescriptor
@@ -97,49 +102,71 @@ unread kind ws sp w n = by-test (all (stands layout w) && keeps kind ws sp (name
     by-test true e = absurd (n (ap (λ (a : InstructionRead). a .reason) e))
     by-test false e = e
 
--- the word of numbers goes by their ranges and the tests on numbers
-word-named : (kind : Kind) (ws sp : Bool) (f : Fields) (b : Bool) (x : Option Instruction)
-    → all (ranges layout (values f)) ≡ b → named kind (values f) ≡ x
-    → encodedNumbers kind ws sp (values f) ≡ cond (b && keeps kind ws sp x) (made (pack layout (values f))) noWord
-word-named kind ws sp f true (some d) h e =
-    let q : numbers d ≡ values f = same kind f d h e in
-    numbers-some kind ws sp (values f) d h e
-    ∙ encoded-both kind ws sp (values f) d (sym q)
-    ∙ ap (λ (b : Bool). cond (b && all (rules kind ws sp d)) (made (pack layout (values f))) noWord) h
-word-named kind ws sp f true none h e = numbers-none kind ws sp (values f) e
-word-named kind ws sp f false x h e = numbers-out kind ws sp (values f) h
+-- the word of numbers by the code's two tests
+pub word-numbers : (kind : Kind) (ws sp : Bool) (l : List ℕ) (b k : Bool)
+    → all (ranges layout l) ≡ b → keeps kind ws sp (named kind l) ≡ k → encodedNumbers kind ws sp l ≡ cond (b && k) (made (pack layout l)) noWord
+unfolding encodedNumbers
+word-numbers kind ws sp l b k h e = rw (h, e)
 
-pub word-numbers : (kind : Kind) (ws sp : Bool) (f : Fields) (b k : Bool)
+-- and their reason
+pub numbers-reason : (kind : Kind) (ws sp : Bool) (f : Fields) (b k : Bool)
     → all (ranges layout (values f)) ≡ b → keeps kind ws sp (named kind (values f)) ≡ k
-    → encodedNumbers kind ws sp (values f) ≡ cond (b && k) (made (pack layout (values f))) noWord
-word-numbers kind ws sp f b k h e =
-    word-named kind ws sp f b (named kind (values f)) h refl ∙ ap (λ (t : Bool). cond (b && t) (made (pack layout (values f))) noWord) e
+    → fieldsReason kind ws sp f ≡ cond (b && k) (firstBroken (listing kind ws f)) 12
+numbers-reason kind ws sp f b k h e =
+    ap (λ (a : InstructionWord). cond (eqb (a .reason) 0) (firstBroken (listing kind ws f)) 12) (word-numbers kind ws sp (values f) b k h e) ∙ by-test (b && k)
+  where
+    by-test : (t : Bool) → cond (eqb (cond t (made (pack layout (values f))) noWord .reason) 0) (firstBroken (listing kind ws f)) 12 ≡ cond t (firstBroken (listing kind ws f)) 12
+    by-test true = refl
+    by-test false = refl
 
--- the reason of a word from its fields
-judged-by : (kind : Kind) (ws : Bool) (b : Bool) (a : InstructionRead) → eqb (a .reason) 0 ≡ b
-    → readReason kind ws a ≡ cond b (firstBroken (listing kind ws (fields (a .descriptor)))) (a .reason)
-judged-by kind ws b a e = ap (λ (t : Bool). cond t (firstBroken (listing kind ws (fields (a .descriptor)))) (a .reason)) e
+-- the word of some numbers reads as those numbers
+word-back : (kind : Kind) (ws sp : Bool) (f : Fields) (b k : Bool)
+    → all (ranges layout (values f)) ≡ b → keeps kind ws sp (named kind (values f)) ≡ k → cond (b && k) (made (pack layout (values f))) noWord .reason ≡ 0
+    → fieldsRead (decoded kind ws sp (cond (b && k) (made (pack layout (values f))) noWord .word)) ≡ good f
+word-back kind ws sp f true true h k e =
+    let p : (all (stands layout (pack layout (values f))) ≡ true) × (says layout (pack layout (values f)) ≡ values f) = packed 32 layout (values f) refl h in
+    read-kept kind ws sp (pack layout (values f)) f h (sym (p .1)) (simp (p .0, k))
+word-back kind ws sp f true false h k e = absurd (omega arith)
+word-back kind ws sp f false k h q e = absurd (omega arith)
 
-pub judging : (kind : Kind) (ws sp : Bool) (w : ℕ) (r : FieldsRead) → r ≡ fieldsRead (decoded kind ws sp w) → eqb (r .reason) 0 ≡ true
-    → firstBroken (listing kind ws (r .fields)) ≡ wordReason kind ws sp w
-judging kind ws sp w r e t =
-    ap (λ (x : FieldsRead). firstBroken (listing kind ws (x .fields))) e
-    ∙ sym (judged-by kind ws true (decoded kind ws sp w) (ap (λ (x : FieldsRead). eqb (x .reason) 0) (sym e) ∙ t))
+pub numbers-back : (kind : Kind) (ws sp : Bool) (f : Fields)
+    → encodedNumbers kind ws sp (values f) .reason ≡ 0 → fieldsRead (decoded kind ws sp (encodedNumbers kind ws sp (values f) .word)) ≡ good f
+unfolding encodedNumbers
+numbers-back kind ws sp f e = word-back kind ws sp f (all (ranges layout (values f))) (keeps kind ws sp (named kind (values f))) refl refl e
 
-pub judged : (kind : Kind) (ws sp : Bool) (w : ℕ) (r : FieldsRead) → r ≡ fieldsRead (decoded kind ws sp w) → eqb (r .reason) 0 ≡ false
-    → r .reason ≡ wordReason kind ws sp w
-judged kind ws sp w r e t =
-    ap (λ (x : FieldsRead). x .reason) e
-    ∙ sym (judged-by kind ws false (decoded kind ws sp w) (ap (λ (x : FieldsRead). eqb (x .reason) 0) (sym e) ∙ t))
+-- ---- what is judged goes by the fields that were read
+abbrev judgedFields : Kind → Bool → FieldsRead → Judged
+judgedFields kind ws a = record { reason = cond (eqb (a .reason) 0) (firstBroken (listing kind ws (a .fields))) (a .reason); n = a .fields .n }
 
--- the reason of a descriptor from its word: listed or not, and no word
-pub listed-made : (kind : Kind) (ws : Bool) {w v : InstructionWord} {f g : Fields} {r : ℕ}
-    → w ≡ v → eqb (w .reason) 0 ≡ true → r ≡ firstBroken (listing kind ws f) → f ≡ g → r ≡ listedBy kind ws v g
-listed-made kind ws {w} {v} {f} {g} p t e q =
-    e
-    ∙ ap (λ (x : Fields). firstBroken (listing kind ws x)) q
-    ∙ sym (ap (λ (b : Bool). cond b (firstBroken (listing kind ws g)) 12) (ap (λ (x : InstructionWord). eqb (x .reason) 0) (sym p) ∙ t))
+pub judged-read : (kind : Kind) (ws sp : Bool) (w : ℕ) (f : Fields) → fieldsRead (decoded kind ws sp w) ≡ good f
+    → judged kind ws sp w ≡ record { reason = firstBroken (listing kind ws f); n = f .n }
+judged-read kind ws sp w f e = ap (judgedFields kind ws) e
 
-pub listed-none : (kind : Kind) (ws : Bool) {w v : InstructionWord} (g : Fields) → w ≡ v → eqb (w .reason) 0 ≡ false → 12 ≡ listedBy kind ws v g
-listed-none kind ws g p t =
-    sym (ap (λ (b : Bool). cond b (firstBroken (listing kind ws g)) 12) (ap (λ (x : InstructionWord). eqb (x .reason) 0) (sym p) ∙ t))
+pub judged-refused : (kind : Kind) (ws sp : Bool) (w : ℕ) → decoded kind ws sp w ≡ noDescriptor → judged kind ws sp w ≡ record { reason = 12; n = 0 }
+judged-refused kind ws sp w e = ap (λ (a : InstructionRead). judgedFields kind ws (fieldsRead a)) e
+
+-- no listing rule has the number of a word with no reading: the reason 12 says that there is none
+unlisted : (kind : Kind) (ws : Bool) (f : Fields) (a b c : Bool)
+    → mListed ws (f .m) ≡ a → nListed kind ws (f .n) ≡ b → typesListed kind (f .dtype) (f .atype) (f .btype) ≡ c
+    → eqb (firstBroken (listing kind ws f)) 12 ≡ false
+unlisted kind ws f false b c p q r = rw p
+unlisted kind ws f true false c p q r = rw (p, q)
+unlisted kind ws f true true false p q r = rw (p, q, r)
+unlisted kind ws f true true true p q r = rw (p, q, r)
+
+by-reading : (kind : Kind) (ws : Bool) (f : Fields) (x : ℕ) (t : Bool) → eqb x 0 ≡ t → (eqb x 0 ≡ false → x ≡ 12)
+    → eqb (cond (eqb x 0) (firstBroken (listing kind ws f)) x) 12 ≡ not (eqb x 0)
+by-reading kind ws f x true e h =
+    rw e (unlisted kind ws f (mListed ws (f .m)) (nListed kind ws (f .n)) (typesListed kind (f .dtype) (f .atype) (f .btype)) refl refl refl)
+by-reading kind ws f x false e h = rw (e, h e)
+
+pub judged-reads : (kind : Kind) (ws sp : Bool) (w : ℕ) → eqb (judged kind ws sp w .reason) 12 ≡ not (eqb (decoded kind ws sp w .reason) 0)
+judged-reads kind ws sp w =
+    by-reading kind ws (fields (decoded kind ws sp w .descriptor)) (decoded kind ws sp w .reason) (eqb (decoded kind ws sp w .reason) 0) refl
+    (λ e. ap (λ (a : InstructionRead). a .reason) (unread kind ws sp w (eqb-false (decoded kind ws sp w .reason) 0 e)))
+
+-- and of a word that reads the reason is that of the listing
+pub judged-lists : (kind : Kind) (ws sp : Bool) (w : ℕ) → eqb (decoded kind ws sp w .reason) 0 ≡ true
+    → judged kind ws sp w .reason ≡ firstBroken (listing kind ws (fields (decoded kind ws sp w .descriptor)))
+judged-lists kind ws sp w e =
+    ap (λ (t : Bool). cond t (firstBroken (listing kind ws (fields (decoded kind ws sp w .descriptor)))) (decoded kind ws sp w .reason)) e

@@ -2,9 +2,9 @@
 use Prim.Native.Nat.{ℕ, _^_, _<_}
 use mathlib.Core.Path.{_≡_}
 use mathlib.Core.Bool.{Bool}
-use Rattle.instruction.specs.Instruction.{decoded, encoded, encodedNumbers, found, made, values, fieldsRead, good}
+use Rattle.instruction.specs.Instruction.{decoded, encoded, encodedNumbers, found, made, values, numbers, fieldsRead, good}
 use Rattle.instruction.specs.declared.Kind.{Kind}
-use Rattle.instruction.specs.declared.Instruction.{Instruction}
+use Rattle.instruction.specs.Descriptor.{Instruction}
 use Rattle.instruction.specs.declared.Fields.{Fields}
 
 -- Under an opcode. Demand 2: what we write as a descriptor reads back the same, and no other word reads as it.
@@ -16,6 +16,8 @@ pub record InstructionExact (kind : Kind) (ws sp : Bool) : Type 0 where
   -- so no two words read as one descriptor
   pub sole : (v w : ℕ) (d : Instruction)
       → v < 2 ^ 32 → w < 2 ^ 32 → decoded kind ws sp v ≡ found d → decoded kind ws sp w ≡ found d → v ≡ w
+  -- the word of a descriptor is the word of its numbers
+  pub as-numbers : (d : Instruction) → encoded kind ws sp d .reason ≡ 0 → encodedNumbers kind ws sp (numbers d) ≡ encoded kind ws sp d
   -- the same of fields as numbers: the word of some numbers reads as those numbers, and no other word does
   pub fields-back : (f : Fields)
       → encodedNumbers kind ws sp (values f) .reason ≡ 0 → fieldsRead (decoded kind ws sp (encodedNumbers kind ws sp (values f) .word)) ≡ good f

@@ -1,4 +1,5 @@
--- Document 01, 'Instruction descriptor': 32 bits, read under an opcode, that is a kind, `.ws` and `.sp`. Assumes nothing.
+-- The instruction descriptor (docs/FORMAT.md, 'Descriptor words'): 32 bits, read under an opcode, that is a kind, `.ws` and `.sp`. The code goes by
+-- the fields as numbers; a descriptor with named types is a view of them. Assumes nothing.
 use Prim.Native.Nat.{ℕ, _*_, _%_}
 use mathlib.Core.Bool.{Bool, true, false, _&&_, _||_, not, cond, Bool·beq}
 use mathlib.Core.List.{List, [], _∷_}
@@ -6,19 +7,14 @@ use mathlib.Core.Option.{Option, none, some}
 use lib.Dec.{eqb, leb}
 use lib.ListN.{getD}
 use Rattle.laws.specs.Tests.{all, among, find}
-use Rattle.laws.specs.Layout.{Part, plain, scaled, fixed, ranges}
+use Rattle.laws.specs.Layout.{Part, plain, scaled, fixed, ranges, pack}
 use Rattle.laws.specs.Format.{readBy, wordBy}
 use Rattle.laws.specs.Rules.{Rule, rule, firstBroken}
+use Rattle.instruction.specs.Descriptor.{Dtype, Element, Instruction, InstructionRead}
 use Rattle.instruction.specs.declared.Kind.{Kind}
-use Rattle.instruction.specs.declared.Dtype.{Dtype}
-use Rattle.instruction.specs.declared.Element.{Element}
-use Rattle.instruction.specs.declared.Instruction.{Instruction}
 use Rattle.instruction.specs.declared.Fields.{Fields}
-use Rattle.instruction.specs.declared.DtypeCoded.{DtypeCoded}
-use Rattle.instruction.specs.declared.ElementCoded.{ElementCoded}
-use Rattle.instruction.specs.declared.Named.{Named}
-use Rattle.instruction.specs.declared.InstructionRead.{InstructionRead}
 use Rattle.instruction.specs.declared.FieldsRead.{FieldsRead}
+use Rattle.instruction.specs.declared.Judged.{Judged}
 use Rattle.instruction.specs.declared.InstructionWord.{InstructionWord}
 
 -- Bits 0-1 sparsity selector, 2 sparse, 3 saturate, 4-5 dtype, 7-9 atype, 10-12 btype, 13 and 14 negate A and B, 15 and 16 transpose A and B,
@@ -52,7 +48,7 @@ dtypeCode Dtype.S32 = 2
 abbrev pub dtypes : List Dtype
 dtypes = Dtype.F16 ∷ Dtype.F32 ∷ Dtype.S32 ∷ []
 
--- the kinds by number, in document 01's order
+-- the kinds by number
 abbrev pub kindNumber : Kind → ℕ
 kindNumber Kind.F16 = 0
 kindNumber Kind.Tf32 = 1
@@ -219,19 +215,6 @@ abbrev pub keeps : Kind → Bool → Bool → Option Instruction → Bool
 keeps kind ws sp none = false
 keeps kind ws sp (some d) = all (rules kind ws sp d)
 
--- what the code's answers stand for
-abbrev pub dtypeSeen : DtypeCoded → Option Dtype
-dtypeSeen (DtypeCoded.Is d) = some d
-dtypeSeen DtypeCoded.Unknown = none
-
-abbrev pub elementSeen : ElementCoded → Option Element
-elementSeen (ElementCoded.Is t) = some t
-elementSeen ElementCoded.Unknown = none
-
-abbrev pub namedSeen : Named → Option Instruction
-namedSeen (Named.Is d) = some d
-namedSeen Named.Unknown = none
-
 -- Answers: 0 with the descriptor or the word, or 12 with a zero value.
 abbrev pub found : Instruction → InstructionRead
 found d = record { reason = 0; descriptor = d }
@@ -264,13 +247,9 @@ decoded kind ws sp = readBy layout (named kind) (λ d. all (rules kind ws sp d))
 unfoldable pub encoded : Kind → Bool → Bool → Instruction → InstructionWord
 encoded kind ws sp = wordBy layout numbers (λ d. all (rules kind ws sp d)) made noWord
 
--- the word of thirteen numbers under an opcode: that of the descriptor that they name
-abbrev pub wordOfNamed : Kind → Bool → Bool → Option Instruction → InstructionWord
-wordOfNamed kind ws sp none = noWord
-wordOfNamed kind ws sp (some d) = encoded kind ws sp d
-
+-- the word of thirteen numbers under an opcode: they are in range, and name a descriptor that keeps the rules
 unfoldable pub encodedNumbers : Kind → Bool → Bool → List ℕ → InstructionWord
-encodedNumbers kind ws sp l = cond (all (ranges layout l)) (wordOfNamed kind ws sp (named kind l)) noWord
+encodedNumbers kind ws sp l = cond (all (ranges layout l) && keeps kind ws sp (named kind l)) (made (pack layout l)) noWord
 
 -- a number from a least to a most in steps
 abbrev pub steps : ℕ → ℕ → ℕ → ℕ → Bool
@@ -292,19 +271,17 @@ typesListed Kind.Tf32 d a b = eqb d (dtypeCode Dtype.F32)
 typesListed Kind.F8f6f4 d a b = eqb d (dtypeCode Dtype.F16) || eqb d (dtypeCode Dtype.F32)
 typesListed Kind.I8 d a b = eqb d (dtypeCode Dtype.S32)
 
--- the listing rules in their order, each with its reason: M, then N for that M, then the types
+-- the listing rules in their order, each with its reason: M, N and the types
 abbrev pub listing : Kind → Bool → Fields → List Rule
-listing kind ws f = rule 13 (mListed ws (f .m)) ∷ rule 13 (nListed kind ws (f .n)) ∷ rule 13 (typesListed kind (f .dtype) (f .atype) (f .btype)) ∷ []
+listing kind ws f =
+    rule 13 (mListed ws (f .m))
+    ∷ rule 13 (nListed kind ws (f .n))
+    ∷ rule 13 (typesListed kind (f .dtype) (f .atype) (f .btype))
+    ∷ []
 
--- the reason of a descriptor, and of some numbers, under an opcode: 12 if no word reads as it, else the first listing rule that it breaks
-abbrev pub listedBy : Kind → Bool → InstructionWord → Fields → ℕ
-listedBy kind ws w f = cond (eqb (w .reason) 0) (firstBroken (listing kind ws f)) 12
-
-abbrev pub descriptorReason : Kind → Bool → Bool → Instruction → ℕ
-descriptorReason kind ws sp d = listedBy kind ws (encoded kind ws sp d) (fields d)
-
+-- the reason of some numbers under an opcode: 12 if no word reads as them, else the first listing rule that they break
 abbrev pub fieldsReason : Kind → Bool → Bool → Fields → ℕ
-fieldsReason kind ws sp f = listedBy kind ws (encodedNumbers kind ws sp (values f)) f
+fieldsReason kind ws sp f = cond (eqb (encodedNumbers kind ws sp (values f) .reason) 0) (firstBroken (listing kind ws f)) 12
 
 -- K is 16, 8, 32, 32 in the order of the kinds, doubled when sparse.
 abbrev pub denseK : Kind → ℕ
@@ -322,3 +299,7 @@ readReason kind ws a = cond (eqb (a .reason) 0) (firstBroken (listing kind ws (f
 
 abbrev pub wordReason : Kind → Bool → Bool → ℕ → ℕ
 wordReason kind ws sp word = readReason kind ws (decoded kind ws sp word)
+
+-- what an mma needs of a word: its reason, and N where it reads
+abbrev pub judged : Kind → Bool → Bool → ℕ → Judged
+judged kind ws sp word = record { reason = wordReason kind ws sp word; n = decoded kind ws sp word .descriptor .n }

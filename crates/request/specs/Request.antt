@@ -1,4 +1,4 @@
--- Document 01, 'Booking': what a legal request for columns is. Assumes nothing.
+-- What a legal request for columns is (docs/FORMAT.md, 'Booking'). Assumes nothing.
 use Prim.Native.Nat.{ℕ, _^_, _≤_}
 use mathlib.Core.Path.{_≡_}
 use mathlib.Core.Bool.{Bool, cond}

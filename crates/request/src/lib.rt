@@ -7,8 +7,8 @@ pub fn reason(columns: u32) -> u32
     ensures { λ r. ⌜ r ≡ requestReason columns ⌝ }
 {
     if (32 <= columns) & (columns <= 512) & (u32::count_ones(columns) == 1) {
-        0
+        reasons::PASSED
     } else {
-        9
+        reasons::COLUMNS
     }
 }

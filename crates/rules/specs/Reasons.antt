@@ -9,7 +9,7 @@ use lib.ListN.{length}
 use Rattle.laws.specs.Tests.{all, isSome}
 use Rattle.laws.specs.Rules.{Rule, rule, firstBroken}
 use Rattle.tokens.specs.declared.Name.{Name}
-use Rattle.instruction.specs.declared.InstructionRead.{InstructionRead}
+use Rattle.instruction.specs.Descriptor.{InstructionRead}
 use Rattle.instruction.specs.Instruction as instruction
 use Rattle.shared_memory.specs.Shared as shared
 use Rattle.request.specs.Request.{legal}

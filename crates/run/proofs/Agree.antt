@@ -17,9 +17,7 @@ use Rattle.laws.proofs.TestLaws.{each}
 use Rattle.tokens.specs.declared.Name.{Name}
 use Rattle.tokens.specs.Names.{sameName}
 use Rattle.instruction.specs.declared.Kind.{Kind}
-use Rattle.instruction.specs.declared.Dtype.{Dtype}
-use Rattle.instruction.specs.declared.Element.{Element}
-use Rattle.instruction.specs.declared.Instruction.{Instruction}
+use Rattle.instruction.specs.Descriptor.{Dtype, Element, Instruction}
 use Rattle.instruction.specs.Instruction as instruction
 use Rattle.statement.specs.declared.Address.{Address}
 use Rattle.statement.specs.declared.Operand.{Operand}

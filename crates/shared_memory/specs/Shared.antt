@@ -1,4 +1,4 @@
--- Document 01, 'Shared memory descriptor': 64 bits. Assumes nothing.
+-- The shared memory descriptor (docs/FORMAT.md, 'Descriptor words'): 64 bits. Assumes nothing.
 use Prim.Native.Nat.{ℕ}
 use mathlib.Core.Bool.{Bool, _||_, not}
 use mathlib.Core.List.{List, [], _∷_}

@@ -123,7 +123,7 @@ pub fn decode(word: u64) -> SharedRead
     ensures { λ r. ⌜ r ≡ decoded word ⌝ }
 {
     let refused = SharedRead {
-        reason: 12,
+        reason: reasons::DESCRIPTOR,
         descriptor: nothing(),
     };
     if !fixed_stand(word) {
@@ -134,7 +134,7 @@ pub fn decode(word: u64) -> SharedRead
         return refused;
     }
     SharedRead {
-        reason: 0,
+        reason: reasons::PASSED,
         descriptor: d,
     }
 }
@@ -144,7 +144,7 @@ pub fn encode(d: Shared) -> SharedWord
     ensures { λ r. ⌜ r ≡ encoded d ⌝ }
 {
     let refused = SharedWord {
-        reason: 12,
+        reason: reasons::DESCRIPTOR,
         word: 0,
     };
     if !in_range(d) {
@@ -154,7 +154,7 @@ pub fn encode(d: Shared) -> SharedWord
         return refused;
     }
     SharedWord {
-        reason: 0,
+        reason: reasons::PASSED,
         word: join(d),
     }
 }

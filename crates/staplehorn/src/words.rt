@@ -88,7 +88,7 @@ fn encode_numbers(kind: u32, ws: u32, sp: u32, f: Fields) -> InstructionWord
 {
     let OpcodeRead::Is(o) = opcode_of(kind, ws, sp) else {
         return InstructionWord {
-            reason: 12,
+            reason: reasons::DESCRIPTOR,
             word: 0,
         };
     };
@@ -151,10 +151,10 @@ pub extern "C" fn staplehorn_instruction_decode(
     ensures fields { λ _. ⌜ now (fields .exit) ≡ I.numbers (decodedFor (opcodeOf kind ws sp) word .descriptor) ⌝ }
 {
     let r = decode_word(kind, ws, sp, word);
-    if r.reason == 0 {
+    if r.reason == reasons::PASSED {
         let f = r.fields;
         *fields = array_of(f);
-        return 0;
+        return reasons::PASSED;
     }
     *fields = [0; 13];
     r.reason
@@ -182,10 +182,11 @@ fn judge_word(kind: u32, ws: u32, sp: u32, word: u32) -> u32
     ensures { λ r. ⌜ r ≡ judgedFor (opcodeOf kind ws sp) word ⌝ }
 {
     let OpcodeRead::Is(o) = opcode_of(kind, ws, sp) else {
-        return 12;
+        return reasons::DESCRIPTOR;
     };
     let k = o.kind;
-    instruction::judge(k, o.ws, o.sp, word)
+    let r = instruction::judge_word(k, o.ws, o.sp, word);
+    r.reason
 }
 
 // The reason of a word: 12 with no reading, 13 not listed, else 0.
@@ -201,7 +202,7 @@ fn judge_fields(kind: u32, ws: u32, sp: u32, f: Fields) -> u32
     ensures { λ r. ⌜ r ≡ listedFor (opcodeOf kind ws sp) f ⌝ }
 {
     let OpcodeRead::Is(o) = opcode_of(kind, ws, sp) else {
-        return 12;
+        return reasons::DESCRIPTOR;
     };
     let k = o.kind;
     instruction::listed_fields(k, o.ws, o.sp, f)
@@ -225,11 +226,14 @@ fn k_of(kind: u32, sp: u32) -> KRead
     ensures { λ r. ⌜ r ≡ kFor (opcodeOf kind 0 sp) ⌝ }
 {
     let OpcodeRead::Is(o) = opcode_of(kind, 0, sp) else {
-        return KRead { reason: 12, k: 0 };
+        return KRead {
+            reason: reasons::DESCRIPTOR,
+            k: 0,
+        };
     };
     let k = o.kind;
     KRead {
-        reason: 0,
+        reason: reasons::PASSED,
         k: instruction::k(k, o.sp),
     }
 }

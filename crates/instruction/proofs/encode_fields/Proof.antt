@@ -13,19 +13,19 @@ in-range-requires : tie.Need-in-range-requires
 in-range-requires c κs = search needs
 
 returns : tie.Need-returns
-returns c = sym (word-numbers _ _ _ (c .before .before .args .f) false _ (sym (c .before .in-range .ensures) ∙ not-true _ (c .if1 .taken)) refl)
+returns c = sym (word-numbers _ _ _ (values (c .before .before .args .f)) false _ (sym (c .before .in-range .ensures) ∙ not-true _ (c .if1 .taken)) refl)
 
 admits-requires : tie.Need-admits-requires
 admits-requires c κs = search needs
 
 returns-2 : tie.Need-returns-2
-returns-2 c = sym (word-numbers _ _ _ (c .before .before .before .before .args .f) true false (sym (c .before .before .before .in-range .ensures) ∙ not-false _ (c .before .before .if1 .left)) (sym (c .before .admits .ensures) ∙ not-true _ (c .if2 .taken)))
+returns-2 c = sym (word-numbers _ _ _ (values (c .before .before .before .before .args .f)) true false (sym (c .before .before .before .in-range .ensures) ∙ not-false _ (c .before .before .if1 .left)) (sym (c .before .admits .ensures) ∙ not-true _ (c .if2 .taken)))
 
 join-requires : tie.Need-join-requires
 join-requires c κs = within layout (values (c .before .before .before .before .args .f)) (sym (c .before .before .before .in-range .ensures) ∙ not-false _ (c .before .before .if1 .left))
 
 returns-3 : tie.Need-returns-3
-returns-3 c = ap made (c .join .ensures) ∙ sym (word-numbers _ _ _ (c .before .before .before .before .before .args .f) true true (sym (c .before .before .before .before .in-range .ensures) ∙ not-false _ (c .before .before .before .if1 .left)) (sym (c .before .before .admits .ensures) ∙ not-false _ (c .before .if2 .left)))
+returns-3 c = ap made (c .join .ensures) ∙ sym (word-numbers _ _ _ (values (c .before .before .before .before .before .args .f)) true true (sym (c .before .before .before .before .in-range .ensures) ∙ not-false _ (c .before .before .before .if1 .left)) (sym (c .before .before .admits .ensures) ∙ not-false _ (c .before .if2 .left)))
 
 pub encode-fields-spec : {M : Type 1} → statement M
 encode-fields-spec =

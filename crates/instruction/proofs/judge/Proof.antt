@@ -1,38 +1,15 @@
--- `instruction::judge` meets its contract: the fields of a word that is read are judged by the listing. Assumes nothing.
-use mathlib.Core.Path.{refl, sym, _∙_, ap, ap₂}
-use mathlib.Core.Bool.{_&&_}
-use borrow.Author.Tests.{not-true, not-false}
-use Rattle.instruction.specs.Instruction.{fieldsRead}
-use Rattle.instruction.proofs.NumberLaws.{read-fields, read-refused, judged, judging}
+-- `instruction::judge` meets its contract: the reason of what is judged. Assumes nothing.
+use mathlib.Core.Path.{ap}
+use Rattle.instruction.specs.declared.Judged.{Judged}
 use borrow.Author.Needs.{needs}
 use Rattle.instruction.proofs.judge.Statement.{statement}
 use Rattle.instruction.proofs.judge.Tie as tie
 
-split-requires : tie.Need-split-requires
-split-requires c κs = search needs
-
-fixed-stand-requires : tie.Need-fixed-stand-requires
-fixed-stand-requires c κs = search needs
-
-admits-requires : tie.Need-admits-requires
-admits-requires c κs = search needs
-
-listing-reason-requires : tie.Need-listing-reason-requires
-listing-reason-requires c κs = search needs
+judge-word-requires : tie.Need-judge-word-requires
+judge-word-requires c κs = search needs
 
 returns : tie.Need-returns
-returns c = judged _ _ _ _ _ (sym (ap fieldsRead (read-refused _ _ _ _ (c .before .before .before .split .result) (c .before .before .before .split .ensures) (ap₂ _&&_ (sym (c .before .before .fixed-stand .ensures)) (sym (c .before .admits .ensures)) ∙ not-true _ (c .if1 .taken))))) refl
-
-returns-2 : tie.Need-returns-2
-returns-2 c = c .listing-reason .ensures ∙ judging _ _ _ _ _ (sym (read-fields _ _ _ _ (c .before .before .before .before .split .result) (c .before .before .before .before .before .fits .word .fits) (c .before .before .before .before .split .ensures) (ap₂ _&&_ (sym (c .before .before .before .fixed-stand .ensures)) (sym (c .before .before .admits .ensures)) ∙ not-false _ (c .before .if1 .left)))) refl
+returns c = ap (λ (a : Judged). a .reason) (c .judge-word .ensures)
 
 pub judge-spec : {M : Type 1} → statement M
-judge-spec =
-    tie.close
-    (tie.spec
-    split-requires
-    fixed-stand-requires
-    admits-requires
-    returns
-    listing-reason-requires
-    returns-2)
+judge-spec = tie.close (tie.spec judge-word-requires returns)

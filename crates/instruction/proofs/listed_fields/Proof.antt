@@ -1,8 +1,8 @@
--- `instruction::listed_fields` meets its contract: the numbers have a word or none, by `word-numbers`, and then the listing decides. Assumes nothing.
+-- `instruction::listed_fields` meets its contract: the numbers have a word or none, and then the listing decides, by `numbers-reason`. Assumes nothing.
 use mathlib.Core.Path.{refl, sym, _∙_}
 use mathlib.Core.Bool.{true, false}
 use borrow.Author.Tests.{not-true, not-false}
-use Rattle.instruction.proofs.NumberLaws.{word-numbers, listed-made, listed-none}
+use Rattle.instruction.proofs.NumberLaws.{numbers-reason}
 use borrow.Author.Needs.{needs}
 use Rattle.instruction.proofs.listed_fields.Statement.{statement}
 use Rattle.instruction.proofs.listed_fields.Tie as tie
@@ -17,13 +17,13 @@ listing-reason-requires : tie.Need-listing-reason-requires
 listing-reason-requires c κs = search needs
 
 returns : tie.Need-returns
-returns c = listed-none (c .before .before .args .kind) (c .before .before .args .ws) (c .before .before .args .f) (sym (word-numbers _ _ _ (c .before .before .args .f) false _ (sym (c .before .in-range .ensures) ∙ not-true _ (c .if1 .taken)) refl)) refl
+returns c = sym (numbers-reason _ _ _ (c .before .before .args .f) false _ (sym (c .before .in-range .ensures) ∙ not-true _ (c .if1 .taken)) refl)
 
 returns-2 : tie.Need-returns-2
-returns-2 c = listed-none (c .before .before .before .before .args .kind) (c .before .before .before .before .args .ws) (c .before .before .before .before .args .f) (sym (word-numbers _ _ _ (c .before .before .before .before .args .f) true false (sym (c .before .before .before .in-range .ensures) ∙ not-false _ (c .before .before .if1 .left)) (sym (c .before .admits .ensures) ∙ not-true _ (c .if2 .taken)))) refl
+returns-2 c = sym (numbers-reason _ _ _ (c .before .before .before .before .args .f) true false (sym (c .before .before .before .in-range .ensures) ∙ not-false _ (c .before .before .if1 .left)) (sym (c .before .admits .ensures) ∙ not-true _ (c .if2 .taken)))
 
 returns-3 : tie.Need-returns-3
-returns-3 c = listed-made (c .before .before .before .before .before .args .kind) (c .before .before .before .before .before .args .ws) {f = c .before .before .before .before .before .args .f} (sym (word-numbers _ _ _ (c .before .before .before .before .before .args .f) true true (sym (c .before .before .before .before .in-range .ensures) ∙ not-false _ (c .before .before .before .if1 .left)) (sym (c .before .before .admits .ensures) ∙ not-false _ (c .before .if2 .left)))) refl (c .listing-reason .ensures) refl
+returns-3 c = c .listing-reason .ensures ∙ sym (numbers-reason _ _ _ (c .before .before .before .before .before .args .f) true true (sym (c .before .before .before .before .in-range .ensures) ∙ not-false _ (c .before .before .before .if1 .left)) (sym (c .before .before .admits .ensures) ∙ not-false _ (c .before .if2 .left)))
 
 pub listed-fields-spec : {M : Type 1} → statement M
 listed-fields-spec =

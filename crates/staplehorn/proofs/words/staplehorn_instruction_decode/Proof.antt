@@ -6,7 +6,7 @@ use mathlib.Core.Option.{Option, none, some}
 use Rattle.instruction.proofs.NumberLaws.{unread}
 use Rattle.instruction.specs.Instruction.{values, numbers, noDescriptor}
 use Rattle.instruction.specs.declared.FieldsRead.{FieldsRead}
-use Rattle.instruction.specs.declared.InstructionRead.{InstructionRead}
+use Rattle.instruction.specs.Descriptor.{InstructionRead}
 use Rattle.staplehorn.specs.declared.words.Opcode.{Opcode}
 use Rattle.staplehorn.specs.Words.{decodedFor, opcodeOf}
 use borrow.Author.Needs.{needs}
