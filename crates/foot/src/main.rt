@@ -1,29 +1,72 @@
 // foot: reads a sheet from standard input and prints its report. It prints nothing where reading failed.
 use libc::STDIN_FILENO;
 use libc::STDOUT_FILENO;
+ghost use Prim.Native.Nat.{_-_, _≤_};
+ghost use mathlib.Core.Path.{_≡_};
+ghost use lib.ListN.{length, take};
+ghost use Rattle.libc.specs.Io.{Moved};
+ghost use Rattle.foot.specs.Input.{takenOf, Over, shownOf};
 
-// Whether the input is at its end. After a read that failed, this one fails too or gives a byte, as it does on files, pipes
-// and terminals.
-fn at_end() -> bool {
-    let mut one = [0u8; 1];
-    let got = libc::read(STDIN_FILENO, &mut one);
-    got == 0
+// How reading stands after so many bytes: more are to be read, all came, or a read failed.
+pub enum Input {
+    More(usize),
+    All(usize),
+    Failed,
 }
 
-// The room is what any report needs.
-fn report(sheet: &[u8]) {
-    let mut room = [0u8; 102391];
-    let r = printed::print(sheet, &mut room);
-    let length = r.length;
-    io::write_all(STDOUT_FILENO, &room[..length]);
+// What an answer of `read` makes of the bytes that came before it.
+fn taken(before: usize, got: isize) -> Input
+    requires { ⌜ (before ≤ 65537) × Moved (65537 - before) got ⌝ }
+    ensures { λ r. ⌜ r ≡ takenOf before got ⌝ }
+{
+    if got < 0 {
+        return Input::Failed;
+    }
+    let more = got as usize;
+    let length = before + more;
+    if (more == 0) | (65536 < length) {
+        return Input::All(length);
+    }
+    Input::More(length)
 }
 
-// 65,537 bytes are read, so that a sheet over 65,536 is known.
+// Reads until no more is to be read. 65,537 bytes are enough to know a sheet over 65,536.
+fn read_sheet(sheet: &mut [u8]) -> Input
+    requires { ⌜ length (now sheet) ≡ 65537 ⌝ }
+    ensures { λ r. ⌜ Over (length (now (sheet .exit))) r ⌝ }
+{
+    let mut length = 0;
+    loop {
+        let got = libc::read(STDIN_FILENO, &mut sheet[length..]);
+        let input = taken(length, got);
+        match input {
+            Input::More(n) => length = n,
+            Input::All(n) => return Input::All(n),
+            Input::Failed => return Input::Failed,
+        }
+    }
+}
+
+// Puts what is printed into the room, and gives its length.
+fn output(input: Input, sheet: &[u8], room: &mut [u8]) -> usize
+    requires { ⌜ Over (length (now sheet)) input × (102391 ≤ length (now room)) ⌝ }
+    ensures { λ r. ⌜ r ≡ length (shownOf input (now (sheet .entry))) ⌝ }
+    ensures { λ r. ⌜ take r (now (room .exit)) ≡ shownOf input (now (sheet .entry)) ⌝ }
+{
+    match input {
+        Input::More(_) => 0,
+        Input::All(n) => {
+            let p = printed::print(&sheet[..n], room);
+            p.length
+        }
+        Input::Failed => 0,
+    }
+}
+
 fn main() {
     let mut sheet = [0u8; 65537];
-    let n = io::read_full(STDIN_FILENO, &mut sheet);
-    let over = 65536 < n;
-    if over | at_end() {
-        report(&sheet[..n]);
-    }
+    let mut room = [0u8; 102391];
+    let input = read_sheet(&mut sheet);
+    let length = output(input, &sheet, &mut room);
+    io::write_all(STDOUT_FILENO, &room[..length]);
 }
