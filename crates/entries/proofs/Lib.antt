@@ -1,1 +1,2 @@
 pub mod EntriesProved
+pub mod WorkedProved

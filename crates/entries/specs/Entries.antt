@@ -1,4 +1,4 @@
--- Document 01, 'Entries on both sides': the proved set, one table under one claim. Assumes nothing.
+-- Descriptors, words and requests that are given whole: one table under one claim. Assumes nothing.
 use Prim.Native.Nat.{ℕ}
 use mathlib.Core.Path.{_≡_}
 use mathlib.Core.Bool.{Bool, false}
