@@ -1,10 +1,17 @@
 /*
  * Staplehorn: tcgen05 sheets judged, statements and descriptor words read and written, by proved functions.
  *
- * Every function returns a reason: 0 for good, else the number given beside it; docs/FORMAT.md explains each. Arrays have
- * the sizes written here. A pointer is aligned and not null, also where its length is 0, and what one call writes overlaps
- * nothing else that it is lent. No function keeps a pointer, has a state, or takes memory from the heap; 256 KiB of stack
- * are enough. Any numbers and any bytes may be passed.
+ * Every function returns a reason: 0 for good, else one of enum staplehorn_reason; docs/FORMAT.md explains each. Arrays have
+ * the sizes written here. A pointer is aligned, and what one call writes overlaps nothing else that it is lent. A pointer to
+ * bytes or to starts may be null where its length is 0. Any numbers and any bytes may be passed.
+ *
+ * Threads: no function keeps a pointer, has a state, or takes memory from the heap, so any number of threads may call any of
+ * them at once, each with its own memory. Stack: STAPLEHORN_STACK bytes are enough for every function (tests/stack measures it).
+ *
+ * Versions: within one major number (and, while that is 0, one minor number) functions, numbers of reasons and fields keep their
+ * meaning and their places; functions, reasons and rules may be added, and a program must bear a reason that it does not know.
+ * A sheet that passes may be refused by a later minor version, and the other way round, where the rules of the hardware are
+ * known better: docs/CHANGES.md says so each time. The shared library's soname changes with what would break a caller.
  *
  * An opcode is three numbers: kind 0 f16, 1 tf32, 2 f8f6f4, 3 i8; ws and sp, 0 or 1, say whether `.ws` and `.sp`
  * stand. Any other number is refused with 12.
@@ -18,6 +25,65 @@
 #ifdef __cplusplus
 extern "C" {
 #endif
+
+/* The version of this header, and the same as major * 10,000 + minor * 100 + patch. */
+#define STAPLEHORN_VERSION "0.2.0"
+#define STAPLEHORN_VERSION_NUMBER 200
+
+/* Bytes of stack that are enough for any call. */
+#define STAPLEHORN_STACK 65536
+
+/* The version of the library that is linked, as a number: to be compared with STAPLEHORN_VERSION_NUMBER. */
+uint32_t staplehorn_version(void);
+
+/* The reasons. */
+enum staplehorn_reason {
+    STAPLEHORN_REASON_PASSED = 0,
+    STAPLEHORN_REASON_SIZE = 1,
+    STAPLEHORN_REASON_LAYOUT = 2,
+    STAPLEHORN_REASON_FORM = 3,
+    STAPLEHORN_REASON_NUMBER = 4,
+    STAPLEHORN_REASON_REGISTERS = 5,
+    STAPLEHORN_REASON_NAME = 6,
+    STAPLEHORN_REASON_VALUES = 7,
+    STAPLEHORN_REASON_WARP = 8,
+    STAPLEHORN_REASON_COLUMNS = 9,
+    STAPLEHORN_REASON_RELINQUISHED = 10,
+    STAPLEHORN_REASON_SPACE = 11,
+    STAPLEHORN_REASON_DESCRIPTOR = 12,
+    STAPLEHORN_REASON_SHAPE_M = 13, /* one number for the three today */
+    STAPLEHORN_REASON_SHAPE_N = 13,
+    STAPLEHORN_REASON_TYPES = 13,
+    STAPLEHORN_REASON_CELLS = 14,
+    STAPLEHORN_REASON_EXIT = 15,
+    STAPLEHORN_REASON_STARTS = 16,
+    STAPLEHORN_REASON_ROOM = 19
+};
+
+/* A sentence for a reason, without a full stop; never null. */
+static inline const char *staplehorn_reason_text(uint32_t reason) {
+    static const char *const texts[] = {
+        "passed",
+        "the sheet has over 65,536 bytes or 4,096 lines",
+        "line 1 is not the header, or a line's layout is wrong",
+        "the statement matches no form",
+        "a number is too large",
+        "N is over the largest of its shape, or the count of registers differs",
+        "a name is unbound, of the wrong sort or width, or taken",
+        "a 129th value name is bound",
+        "the warp is wrong, or the lane is not the warp's",
+        "the request is illegal, or the size of a dealloc differs",
+        "an alloc follows relinquish",
+        "no free run of that length starts at a multiple of 32",
+        "a descriptor has no reading under the opcode",
+        "the shape or the types are not listed",
+        "the lane of an mma is not 0, or columns go past the end of the allocation",
+        "exit while columns are held, a line after exit, or no exit",
+        "the lent list has fewer places than there are allocs",
+    };
+    if (reason < sizeof texts / sizeof texts[0]) return texts[reason];
+    return reason == STAPLEHORN_REASON_ROOM ? "the lent room is too short" : "a reason that this header does not know";
+}
 
 /* Sheets. Any bytes are a sheet: over 65,536 of them, or over 4,096 lines, is reason 1. */
 

@@ -282,7 +282,8 @@ impl Maker<'_> {
         }
         let warp = self.booker();
         if self.one_in(2) {
-            let columns = self.r.pick(&[0, 1, 2, 16, 31, 33, 48, 96, 160, 511, 513, 544, 1_024, 2_048, 65_568, 1 << 31, u64::from(u32::MAX)]);
+            let columns =
+                self.r.pick(&[0, 1, 2, 16, 31, 33, 48, 96, 160, 511, 513, 544, 1_024, 2_048, 65_568, 1 << 31, u64::from(u32::MAX)]);
             let name = self.new_name();
             let text = self.alloc_text(&name, columns);
             self.line(warp, &text);
@@ -369,7 +370,7 @@ impl Maker<'_> {
         let bad = match self.r.below(8) {
             0 => word | 1 << self.r.pick(&[6, 23, 29]),
             1 => word ^ 4,
-            2 if !mma.sp => word | 1 + self.r.below(3) as u32,
+            2 if !mma.sp => word | (1 + self.r.below(3) as u32),
             3 if kind != I8 => word | 8,
             4 if kind == I8 => word | 1 << self.r.pick(&[13, 14]),
             5 if !mma.ws => word | 1 << self.r.pick(&[30, 31]),
@@ -391,8 +392,8 @@ impl Maker<'_> {
         };
         let unlisted_m: &[u32] = if mma.ws { &[0, 16, 48, 96, 144, 256] } else { &[0, 16, 32, 48, 96, 192, 256, 496] };
         let bad = match self.r.below(3) {
-            0 => mma.word & !(63 << 17) | self.r.pick(unlisted_n) / 8 << 17,
-            1 => mma.word & !(31 << 24) | self.r.pick(unlisted_m) / 16 << 24,
+            0 => mma.word & !(63 << 17) | (self.r.pick(unlisted_n) / 8) << 17,
+            1 => mma.word & !(31 << 24) | (self.r.pick(unlisted_m) / 16) << 24,
             _ => self.wrong_types(mma.kind, mma.word),
         };
         self.bind_name(&mma.idesc.clone(), Word::Narrow(bad));

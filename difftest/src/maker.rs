@@ -183,7 +183,11 @@ impl<'a> Maker<'a> {
             2 => (limit + 1) << self.r.below(60),
             _ => return format!("1{}", "0".repeat(20 + self.r.below(40) as usize)),
         };
-        if self.one_in(2) { format!("{n:#x}") } else { n.to_string() }
+        if self.one_in(2) {
+            format!("{n:#x}")
+        } else {
+            n.to_string()
+        }
     }
 
     /// A name that is bound to nothing.
@@ -195,7 +199,11 @@ impl<'a> Maker<'a> {
         self.names_made += 1;
         let head = self.r.pick(&["t", "h", "T", "%r", "$a", "_n", "exit"]);
         let name = format!("{head}{}", self.names_made);
-        if self.one_in(10) { format!("{name:z<16}") } else { name }
+        if self.one_in(10) {
+            format!("{name:z<16}")
+        } else {
+            name
+        }
     }
 
     pub fn unit_for(&self, columns: u32) -> Option<u32> {
@@ -513,7 +521,7 @@ fn idesc_word(r: &mut Random, kind: usize, ws: bool, sp: bool, most: u32) -> u32
         I8 => 2,
         _ => 1,
     };
-    let mut word = dtype << 4 | a << 7 | b << 10 | n / 8 << 17 | m / 16 << 24;
+    let mut word = dtype << 4 | a << 7 | b << 10 | (n / 8) << 17 | (m / 16) << 24;
     word |= (r.below(4) as u32) << 15;
     word |= if sp { 4 | r.below(4) as u32 } else { 0 };
     word |= if kind == I8 { (r.below(2) as u32) << 3 } else { (r.below(4) as u32) << 13 };

@@ -1,40 +1,7 @@
 //! The functions of include/staplehorn.h. Every array has the size that the header gives, so each call is sound.
 
 /// The C declarations themselves.
-pub mod c {
-    extern "C" {
-        pub fn staplehorn_instruction_decode(kind: u32, ws: u32, sp: u32, word: u32, fields: *mut [u32; 13]) -> u32;
-        pub fn staplehorn_instruction_encode(kind: u32, ws: u32, sp: u32, fields: *const [u32; 13], word: *mut u32) -> u32;
-        pub fn staplehorn_instruction_judge(kind: u32, ws: u32, sp: u32, word: u32) -> u32;
-        pub fn staplehorn_instruction_listed(kind: u32, ws: u32, sp: u32, fields: *const [u32; 13]) -> u32;
-        pub fn staplehorn_instruction_k(kind: u32, sp: u32, k: *mut u32) -> u32;
-        pub fn staplehorn_shared_decode(word: u64, fields: *mut [u64; 6]) -> u32;
-        pub fn staplehorn_shared_encode(fields: *const [u64; 6], word: *mut u64) -> u32;
-        pub fn staplehorn_request(columns: u32) -> u32;
-        pub fn staplehorn_statement_reason(text: *const u8, text_length: usize) -> u32;
-        pub fn staplehorn_statement_canonical(
-            text: *const u8,
-            text_length: usize,
-            room: *mut u8,
-            room_length: usize,
-            length: *mut usize,
-        ) -> u32;
-        pub fn staplehorn_judge(
-            sheet: *const u8,
-            sheet_length: usize,
-            starts: *mut u16,
-            starts_length: usize,
-            answer: *mut [u32; 4],
-        ) -> u32;
-        pub fn staplehorn_report(
-            sheet: *const u8,
-            sheet_length: usize,
-            room: *mut u8,
-            room_length: usize,
-            length: *mut usize,
-        ) -> u32;
-    }
-}
+pub use staplehorn::c;
 
 /// What stands in an out-parameter before a call: a place that the callee leaves alone shows.
 const UNTOUCHED: u32 = 0xA5A5_A5A5;
@@ -57,53 +24,63 @@ impl Opcode {
 
 pub fn instruction_decode(o: Opcode, word: u32) -> (u32, [u32; 13]) {
     let mut fields = [UNTOUCHED; 13];
+    // SAFETY: numbers, locals and slices alone; each array has the header's size.
     let reason = unsafe { c::staplehorn_instruction_decode(o.kind, o.ws, o.sp, word, &mut fields) };
     (reason, fields)
 }
 
 pub fn instruction_encode(o: Opcode, fields: &[u32; 13]) -> (u32, u32) {
     let mut word = UNTOUCHED;
+    // SAFETY: numbers, locals and slices alone; each array has the header's size.
     let reason = unsafe { c::staplehorn_instruction_encode(o.kind, o.ws, o.sp, fields, &mut word) };
     (reason, word)
 }
 
 pub fn instruction_judge(o: Opcode, word: u32) -> u32 {
+    // SAFETY: numbers, locals and slices alone; each array has the header's size.
     unsafe { c::staplehorn_instruction_judge(o.kind, o.ws, o.sp, word) }
 }
 
 pub fn instruction_listed(o: Opcode, fields: &[u32; 13]) -> u32 {
+    // SAFETY: numbers, locals and slices alone; each array has the header's size.
     unsafe { c::staplehorn_instruction_listed(o.kind, o.ws, o.sp, fields) }
 }
 
 pub fn instruction_k(kind: u32, sp: u32) -> (u32, u32) {
     let mut k = UNTOUCHED;
+    // SAFETY: numbers, locals and slices alone; each array has the header's size.
     let reason = unsafe { c::staplehorn_instruction_k(kind, sp, &mut k) };
     (reason, k)
 }
 
 pub fn shared_decode(word: u64) -> (u32, [u64; 6]) {
     let mut fields = [UNTOUCHED_64; 6];
+    // SAFETY: numbers, locals and slices alone; each array has the header's size.
     let reason = unsafe { c::staplehorn_shared_decode(word, &mut fields) };
     (reason, fields)
 }
 
 pub fn shared_encode(fields: &[u64; 6]) -> (u32, u64) {
     let mut word = UNTOUCHED_64;
+    // SAFETY: numbers, locals and slices alone; each array has the header's size.
     let reason = unsafe { c::staplehorn_shared_encode(fields, &mut word) };
     (reason, word)
 }
 
 pub fn request(columns: u32) -> u32 {
+    // SAFETY: numbers, locals and slices alone; each array has the header's size.
     unsafe { c::staplehorn_request(columns) }
 }
 
 pub fn statement_reason(text: &[u8]) -> u32 {
+    // SAFETY: numbers, locals and slices alone; each array has the header's size.
     unsafe { c::staplehorn_statement_reason(text.as_ptr(), text.len()) }
 }
 
 /// The reason, and the length of the canonical text in the room.
 pub fn statement_canonical(text: &[u8], room: &mut [u8]) -> (u32, usize) {
     let mut length = usize::MAX;
+    // SAFETY: numbers, locals and slices alone; each array has the header's size.
     let reason = unsafe { c::staplehorn_statement_canonical(text.as_ptr(), text.len(), room.as_mut_ptr(), room.len(), &mut length) };
     (reason, length)
 }
@@ -111,6 +88,7 @@ pub fn statement_canonical(text: &[u8], room: &mut [u8]) -> (u32, usize) {
 /// The reason, and the answer: reason, line, held, peak.
 pub fn judge(sheet: &[u8], starts: &mut [u16]) -> (u32, [u32; 4]) {
     let mut answer = [UNTOUCHED; 4];
+    // SAFETY: numbers, locals and slices alone; each array has the header's size.
     let reason = unsafe { c::staplehorn_judge(sheet.as_ptr(), sheet.len(), starts.as_mut_ptr(), starts.len(), &mut answer) };
     (reason, answer)
 }
@@ -118,6 +96,7 @@ pub fn judge(sheet: &[u8], starts: &mut [u16]) -> (u32, [u32; 4]) {
 /// The reason of the sheet, and the length of its report in the room.
 pub fn report(sheet: &[u8], room: &mut [u8]) -> (u32, usize) {
     let mut length = usize::MAX;
+    // SAFETY: numbers, locals and slices alone; each array has the header's size.
     let reason = unsafe { c::staplehorn_report(sheet.as_ptr(), sheet.len(), room.as_mut_ptr(), room.len(), &mut length) };
     (reason, length)
 }

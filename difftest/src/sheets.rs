@@ -202,11 +202,8 @@ impl<'a, S: Side> Comparison<'a, S> {
     /// Starts that were each free when chosen: the run stops only where there was none.
     fn placed(&mut self, what: &'static str, sheet: &[u8], steps: &[Step], starts: &[u32], allocs: usize) {
         let outcome = run_steps(steps, starts);
-        let (wanted, outcome_kind) = if starts.len() == allocs {
-            (End::Exited(steps.len() + 1), 0)
-        } else {
-            (End::Stopped(line_of_alloc(steps, starts.len())), 1)
-        };
+        let (wanted, outcome_kind) =
+            if starts.len() == allocs { (End::Exited(steps.len() + 1), 0) } else { (End::Stopped(line_of_alloc(steps, starts.len())), 1) };
         self.counts.compare(what, outcome_kind, (outcome.end, is_sound(&outcome)), (wanted, true), || shown(sheet, starts.len()));
         if outcome_kind == 1 {
             let line = line_of_alloc(steps, starts.len());
@@ -222,7 +219,8 @@ impl<'a, S: Side> Comparison<'a, S> {
             Some(line) => (End::Stopped(line), 1),
             None => (End::Exited(steps.len() + 1), 0),
         };
-        self.counts.compare(what, outcome_kind, (outcome.end, is_sound(&outcome)), (wanted, true), || format!("{starts:?} {}", shown(sheet, 0)));
+        self.counts
+            .compare(what, outcome_kind, (outcome.end, is_sound(&outcome)), (wanted, true), || format!("{starts:?} {}", shown(sheet, 0)));
     }
 }
 
@@ -659,6 +657,10 @@ mod tests {
         }
     }
 
+    /// What a fault does to an answer and its list, and to a report.
+    type AnswerFault = fn(&[u8], &mut [u16], &mut [u32; 4]);
+    type ReportFault = fn(&mut [u8], &mut (u32, usize));
+
     fn is_found(side: &impl Side) -> bool {
         compare(side, ROUNDS).differences() > 0
     }
@@ -670,16 +672,52 @@ mod tests {
 
     #[test]
     fn faults_in_answers_are_found() {
-        let faults: [(&str, fn(&[u8], &mut [u16], &mut [u32; 4])); 9] = [
-            ("13 for 12", |_, _, a| if a[0] == 12 { a[0] = 13 }),
-            ("11 passed over", |_, _, a| if a[0] == 11 { *a = [0, a[1], 0, a[3]] }),
-            ("held at exit", |_, _, a| if a[0] == 15 { a[2] = 0 }),
-            ("peak of a pass", |_, _, a| if a[0] == 0 && a[3] == 512 { a[3] = 480 }),
-            ("line of 16", |_, _, a| if a[0] == 16 { a[1] -= 1 }),
-            ("4,096 lines", |s, _, a| if count_lines(s) == 4_096 { *a = [1, 0, 0, 0] }),
-            ("65,536 bytes", |s, _, a| if s.len() == 65_536 { *a = [1, 0, 0, 0] }),
-            ("line of 2,048 bytes", |s, _, a| if Lines::new(s).any(|l| l.bytes.len() == 2_048) { *a = [2, 2, 0, 0] }),
-            ("16 for a list that is long enough", |_, l, a| if a[0] == 0 && l.len() == 1 { a[0] = 16 }),
+        let faults: [(&str, AnswerFault); 9] = [
+            ("13 for 12", |_, _, a| {
+                if a[0] == 12 {
+                    a[0] = 13
+                }
+            }),
+            ("11 passed over", |_, _, a| {
+                if a[0] == 11 {
+                    *a = [0, a[1], 0, a[3]]
+                }
+            }),
+            ("held at exit", |_, _, a| {
+                if a[0] == 15 {
+                    a[2] = 0
+                }
+            }),
+            ("peak of a pass", |_, _, a| {
+                if a[0] == 0 && a[3] == 512 {
+                    a[3] = 480
+                }
+            }),
+            ("line of 16", |_, _, a| {
+                if a[0] == 16 {
+                    a[1] -= 1
+                }
+            }),
+            ("4,096 lines", |s, _, a| {
+                if count_lines(s) == 4_096 {
+                    *a = [1, 0, 0, 0]
+                }
+            }),
+            ("65,536 bytes", |s, _, a| {
+                if s.len() == 65_536 {
+                    *a = [1, 0, 0, 0]
+                }
+            }),
+            ("line of 2,048 bytes", |s, _, a| {
+                if Lines::new(s).any(|l| l.bytes.len() == 2_048) {
+                    *a = [2, 2, 0, 0]
+                }
+            }),
+            ("16 for a list that is long enough", |_, l, a| {
+                if a[0] == 0 && l.len() == 1 {
+                    a[0] = 16
+                }
+            }),
         ];
         for (name, fault) in faults {
             assert!(is_found(&Faulty(fault)), "{name}");
@@ -689,9 +727,17 @@ mod tests {
 
     #[test]
     fn faults_in_lists_are_found() {
-        let faults: [(&str, fn(&[u8], &mut [u16], &mut [u32; 4])); 4] = [
-            ("list touched on a refusal", |_, l, a| if a[0] == 14 && !l.is_empty() { l[0] = 0 }),
-            ("list touched on 16", |_, l, a| if a[0] == 16 && !l.is_empty() { l[0] = 0 }),
+        let faults: [(&str, AnswerFault); 4] = [
+            ("list touched on a refusal", |_, l, a| {
+                if a[0] == 14 && !l.is_empty() {
+                    l[0] = 0
+                }
+            }),
+            ("list touched on 16", |_, l, a| {
+                if a[0] == 16 && !l.is_empty() {
+                    l[0] = 0
+                }
+            }),
             ("one place too many", |_, l, a| {
                 if let (0, Some(place)) = (a[0], l.iter_mut().find(|place| **place == BEFORE)) {
                     *place = 0;
@@ -710,11 +756,27 @@ mod tests {
 
     #[test]
     fn faults_in_reports_are_found() {
-        let faults: [(&str, fn(&mut [u8], &mut (u32, usize))); 4] = [
-            ("a byte", |room, a| if a.1 > 20 { room[a.1 - 2] ^= 1 }),
-            ("the length", |_, a| if a.0 == 6 { a.1 -= 1 }),
-            ("the reason", |_, a| if a.0 == 9 { a.0 = 8 }),
-            ("a byte behind the report", |room, a| if a.0 == 0 { room[a.1] = 0 }),
+        let faults: [(&str, ReportFault); 4] = [
+            ("a byte", |room, a| {
+                if a.1 > 20 {
+                    room[a.1 - 2] ^= 1
+                }
+            }),
+            ("the length", |_, a| {
+                if a.0 == 6 {
+                    a.1 -= 1
+                }
+            }),
+            ("the reason", |_, a| {
+                if a.0 == 9 {
+                    a.0 = 8
+                }
+            }),
+            ("a byte behind the report", |room, a| {
+                if a.0 == 0 {
+                    room[a.1] = 0
+                }
+            }),
         ];
         for (name, fault) in faults {
             assert!(is_found(&FaultyReport(fault)), "{name}");

@@ -126,7 +126,14 @@ fn statement(r: &mut Random, form: u64, over: bool) -> Vec<String> {
         }
         2 => {
             let shared = r.pick(&["", ".shared::cta"]);
-            t.extend([format!("tcgen05.alloc.cta_group::1.sync.aligned{shared}.b32"), "[".into(), name(r), "]".into(), comma(), number(r, false, over)]);
+            t.extend([
+                format!("tcgen05.alloc.cta_group::1.sync.aligned{shared}.b32"),
+                "[".into(),
+                name(r),
+                "]".into(),
+                comma(),
+                number(r, false, over),
+            ]);
         }
         3 => t.extend(["tcgen05.dealloc.cta_group::1.sync.aligned.b32".into(), name(r), comma(), number(r, false, over)]),
         4 => t.push("tcgen05.relinquish_alloc_permit.cta_group::1.sync.aligned".into()),
@@ -191,7 +198,9 @@ fn spaced(tokens: &[String], mut spaces: impl FnMut(usize) -> usize) -> Vec<u8> 
     let mut text = String::new();
     for (i, token) in tokens.iter().enumerate() {
         if i > 0 {
-            let n = spaces(i).max(usize::from(glued(&tokens[i - 1], token) || tokens[i - 1].starts_with("mov.") || tokens[i - 1] == "exit" && token != ";"));
+            let n = spaces(i).max(usize::from(
+                glued(&tokens[i - 1], token) || tokens[i - 1].starts_with("mov.") || tokens[i - 1] == "exit" && token != ";",
+            ));
             text.extend(std::iter::repeat_n(' ', n));
         }
         text.push_str(token);
@@ -253,7 +262,25 @@ fn limits(c: &mut Comparison) {
         c.text(format!("mov.b64 x, {};", "9".repeat(n - "mov.b64 x, ;".len())).as_bytes());
         c.text(format!("mov.b64 x, 0x{}1;", "0".repeat(n - "mov.b64 x, 0x1;".len())).as_bytes());
     }
-    for edge in ["4294967295", "4294967296", "18446744073709551615", "18446744073709551616", "0xffffffff", "0x100000000", "0xFFFFFFFFFFFFFFFF", "0x10000000000000000", "00", "064", "0x", "0X", "0b1", "64U", "-1", "+1", "0"] {
+    for edge in [
+        "4294967295",
+        "4294967296",
+        "18446744073709551615",
+        "18446744073709551616",
+        "0xffffffff",
+        "0x100000000",
+        "0xFFFFFFFFFFFFFFFF",
+        "0x10000000000000000",
+        "00",
+        "064",
+        "0x",
+        "0X",
+        "0b1",
+        "64U",
+        "-1",
+        "+1",
+        "0",
+    ] {
         c.text(format!("mov.b32 x, {edge};").as_bytes());
         c.text(format!("mov.b64 x, {edge};").as_bytes());
         c.text(format!("tcgen05.alloc.cta_group::1.sync.aligned.b32 [t], {edge};").as_bytes());
@@ -299,7 +326,8 @@ pub fn run() -> bool {
         }
         // bytes that are no statement
         let n = r.below(40) as usize;
-        let noise: Vec<u8> = (0..n).map(|_| if turn % 2 == 0 { r.next() as u8 } else { r.pick(b"exit mov.b32 tcgen05;,[]{}+0x1") }).collect();
+        let noise: Vec<u8> =
+            (0..n).map(|_| if turn % 2 == 0 { r.next() as u8 } else { r.pick(b"exit mov.b32 tcgen05;,[]{}+0x1") }).collect();
         c.text(&noise);
     }
     let mut wanted = vec![

@@ -85,7 +85,11 @@ fn listed_base(kind: Kind, sp: bool) -> u32 {
 
 /// The dtype that goes with these types.
 fn listed_dtype(kind: Kind) -> u32 {
-    if kind == Kind::I8 { 2 } else { 1 }
+    if kind == Kind::I8 {
+        2
+    } else {
+        1
+    }
 }
 
 fn instructions(counts: &mut Counts, r: &mut Random) {
@@ -271,29 +275,35 @@ pub fn run() -> bool {
     shared(&mut counts, &mut r);
     requests(&mut counts, &mut r);
     let mut wanted = vec![
-            ("instruction decode", 0, 100_000),
-            ("instruction decode", 12, 100_000),
-            ("instruction judge", 0, 20_000),
-            ("instruction judge", 12, 100_000),
-            ("instruction judge", 13, 10_000),
-            ("instruction encode", 0, 50_000),
-            ("instruction encode", 12, 50_000),
-            ("instruction listed", 0, 10_000),
-            ("instruction listed", 12, 50_000),
-            ("instruction listed", 13, 10_000),
-            ("wrong opcode", 12, 10_000),
-            ("k", 0, 8),
-            ("k", 12, 4),
-            ("shared decode", 0, 50_000),
-            ("shared decode", 12, 50_000),
-            ("shared encode", 0, 50_000),
-            ("shared encode", 12, 50_000),
-            ("request", 0, 10),
-            ("request", 9, 100_000),
+        ("instruction decode", 0, 100_000),
+        ("instruction decode", 12, 100_000),
+        ("instruction judge", 0, 20_000),
+        ("instruction judge", 12, 100_000),
+        ("instruction judge", 13, 10_000),
+        ("instruction encode", 0, 50_000),
+        ("instruction encode", 12, 50_000),
+        ("instruction listed", 0, 10_000),
+        ("instruction listed", 12, 50_000),
+        ("instruction listed", 13, 10_000),
+        ("wrong opcode", 12, 10_000),
+        ("k", 0, 8),
+        ("k", 12, 4),
+        ("shared decode", 0, 50_000),
+        ("shared decode", 12, 50_000),
+        ("shared encode", 0, 50_000),
+        ("shared encode", 12, 50_000),
+        ("request", 0, 10),
+        ("request", 9, 100_000),
     ];
     for (o, _, ws, _) in opcodes() {
         // every listed shape of the opcode at least once: three by three with `.ws`, else 32 N (18 for i8) by two M
-        let shapes = if ws { 9 } else if o.kind == 3 { 36 } else { 64 };
+        let shapes = if ws {
+            9
+        } else if o.kind == 3 {
+            36
+        } else {
+            64
+        };
         wanted.push(("opcodes judged 0", o.number(), shapes));
         wanted.push(("opcodes listed", o.number(), shapes));
     }

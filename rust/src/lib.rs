@@ -1,125 +1,136 @@
-//! Safe functions over the proved library. Each takes any bytes or numbers; the answers are those of
-//! `include/staplehorn.h`.
+//! Safe functions over the proved library: one for each function of `include/staplehorn.h`. Each takes any bytes and any
+//! numbers.
+//!
+//! ```
+//! let sheet = b"sheet\t1\tsm_100a\n0\texit;\n";
+//! assert_eq!(staplehorn::judge(sheet).unwrap().starts, []);
+//! let refused = staplehorn::judge(b"sheet\n").unwrap_err();
+//! assert_eq!(refused.reason, staplehorn::Reason::Layout);
+//! assert_eq!(refused.to_string(), "line 1: line 1 is not the header, or a line's layout is wrong");
+//! ```
+#![deny(clippy::undocumented_unsafe_blocks)]
 
-mod c;
+pub mod c;
+mod reason;
+mod words;
 
-/// The answer for a sheet. `line` counts from 1; it is 0 with reason 1 alone.
-#[derive(Clone, Copy, PartialEq, Eq, Debug)]
-pub struct Answer {
-    /// 0 passed, else the reason.
-    pub reason: u32,
+pub use reason::Reason;
+pub use words::{request, InstructionFields, Kind, Opcode, SharedFields};
+
+use std::fmt;
+
+/// The most bytes that a sheet may have: a reader that stops one byte later knows all that it needs.
+pub const MOST_BYTES: usize = 65_536;
+
+/// No sheet has more allocs.
+pub const MOST_ALLOCS: usize = 4_095;
+
+/// The version of the linked library: major * 10,000 + minor * 100 + patch.
+pub fn version() -> u32 {
+    // SAFETY: the function takes nothing.
+    unsafe { c::staplehorn_version() }
+}
+
+/// A sheet that passed.
+#[derive(Clone, PartialEq, Eq, Debug)]
+pub struct Passed {
+    /// The last line, from 1.
     pub line: u32,
-    /// Columns held before that line (after it where exit is missing); 0 on a pass.
+    /// The most columns held after any line.
+    pub peak: u32,
+    /// The first column of each alloc, in order.
+    pub starts: Vec<u16>,
+}
+
+/// A sheet that is refused.
+#[derive(Clone, Copy, PartialEq, Eq, Debug)]
+pub struct Refused {
+    pub reason: Reason,
+    /// The line of the reason, from 1; 0 for `Reason::Size`.
+    pub line: u32,
+    /// Columns held before that line (after it where exit is missing).
     pub held: u32,
     /// The most columns held after any accepted line.
     pub peak: u32,
 }
 
-/// No sheet has more allocs.
-pub const MOST_ALLOCS: usize = 4095;
+impl fmt::Display for Refused {
+    fn fmt(&self, f: &mut fmt::Formatter<'_>) -> fmt::Result {
+        match self.line {
+            0 => write!(f, "{}", self.reason),
+            line => write!(f, "line {line}: {}", self.reason),
+        }
+    }
+}
 
-/// Judges a sheet. On a pass the front of `starts` has the first column of each alloc, in order; on any refusal, 16 (too few
-/// places) included, `starts` is left as it is.
-pub fn judge(sheet: &[u8], starts: &mut [u16]) -> Answer {
-    let mut answer = [0; 4];
+impl std::error::Error for Refused {}
+
+/// The answer for a sheet as the library gives it.
+#[derive(Clone, Copy, PartialEq, Eq, Debug)]
+pub struct Answer {
+    /// None: passed.
+    pub reason: Option<Reason>,
+    pub line: u32,
+    pub held: u32,
+    pub peak: u32,
+}
+
+/// Judges a sheet.
+pub fn judge(sheet: &[u8]) -> Result<Passed, Refused> {
+    // no start is as large as this mark, so the starts end where it stands
+    const MARK: u16 = u16::MAX;
+    let mut starts = vec![MARK; MOST_ALLOCS];
+    let Answer { reason, line, held, peak } = judge_into(sheet, &mut starts);
+    match reason {
+        None => {
+            starts.truncate(starts.iter().position(|&start| start == MARK).unwrap_or(MOST_ALLOCS));
+            Ok(Passed { line, peak, starts })
+        }
+        Some(reason) => Err(Refused { reason, line, held, peak }),
+    }
+}
+
+/// Judges a sheet without taking memory. On a pass the front of `starts` has the first column of each alloc, in order, and the
+/// places past them are left as they are; on any refusal, `Reason::Starts` (too few places) included, all places are.
+pub fn judge_into(sheet: &[u8], starts: &mut [u16]) -> Answer {
+    let mut answer = [0; c::ANSWER_FIELDS];
+    // SAFETY: each pointer is that of a slice or an array of the length given; the lent parts are exclusive.
     unsafe { c::staplehorn_judge(sheet.as_ptr(), sheet.len(), starts.as_mut_ptr(), starts.len(), &mut answer) };
     let [reason, line, held, peak] = answer;
-    Answer { reason, line, held, peak }
+    Answer { reason: Reason::from_number(reason), line, held, peak }
 }
 
-/// The bytes that `foot` prints for a sheet.
-pub fn report(sheet: &[u8]) -> Vec<u8> {
-    let mut room = vec![0; c::REPORT_ROOM];
+/// A sheet's report: the bytes that `foot` prints, and the reason that they begin with.
+#[derive(Clone, PartialEq, Eq, Debug)]
+pub struct Report {
+    /// None: passed.
+    pub reason: Option<Reason>,
+    pub text: Vec<u8>,
+}
+
+/// The report of a sheet.
+pub fn report(sheet: &[u8]) -> Report {
+    let mut text = vec![0; c::REPORT_ROOM];
     let mut length = 0;
-    unsafe { c::staplehorn_report(sheet.as_ptr(), sheet.len(), room.as_mut_ptr(), room.len(), &mut length) };
-    room.truncate(length);
-    room
+    // SAFETY: each pointer is that of a slice of the length given, or of a local; the lent parts are exclusive.
+    let reason = unsafe { c::staplehorn_report(sheet.as_ptr(), sheet.len(), text.as_mut_ptr(), text.len(), &mut length) };
+    text.truncate(length);
+    Report { reason: Reason::from_number(reason), text }
 }
 
-/// The reason of a statement by itself: 3, 4 or 5, else 0.
-pub fn statement_reason(text: &[u8]) -> u32 {
-    unsafe { c::staplehorn_statement_reason(text.as_ptr(), text.len()) }
+/// Whether a statement reads, and its count of registers is right: else `Form`, `Number` or `Registers`.
+pub fn statement(text: &[u8]) -> Result<(), Reason> {
+    // SAFETY: the pointer is that of a slice of the length given.
+    Reason::check(unsafe { c::staplehorn_statement_reason(text.as_ptr(), text.len()) })
 }
 
-/// The canonical text of a statement, or 3 or 4.
-pub fn canonical(text: &[u8]) -> Result<Vec<u8>, u32> {
+/// The canonical text of a statement, or `Form` or `Number`.
+pub fn canonical(text: &[u8]) -> Result<Vec<u8>, Reason> {
     let mut room = vec![0; c::STATEMENT_ROOM];
     let mut length = 0;
-    match unsafe { c::staplehorn_statement_canonical(text.as_ptr(), text.len(), room.as_mut_ptr(), room.len(), &mut length) } {
-        0 => {
-            room.truncate(length);
-            Ok(room)
-        }
-        reason => Err(reason),
-    }
-}
-
-/// The kinds of an mma.
-#[derive(Clone, Copy, PartialEq, Eq, Debug)]
-pub enum Kind {
-    F16,
-    Tf32,
-    F8f6f4,
-    I8,
-}
-
-/// An mma's kind, with `.ws` and `.sp`.
-#[derive(Clone, Copy, PartialEq, Eq, Debug)]
-pub struct Opcode {
-    pub kind: Kind,
-    pub ws: bool,
-    pub sp: bool,
-}
-
-/// The fields of an instruction descriptor, in the order of the header's `staplehorn_instruction_field`.
-pub type InstructionFields = [u32; 13];
-
-/// The fields of a shared memory descriptor, in the order of the header's `staplehorn_shared_field`.
-pub type SharedFields = [u64; 6];
-
-fn checked<T>(reason: u32, value: T) -> Result<T, u32> {
-    if reason == 0 { Ok(value) } else { Err(reason) }
-}
-
-impl Opcode {
-    /// What an instruction descriptor says, or 12.
-    pub fn decode(self, word: u32) -> Result<InstructionFields, u32> {
-        let mut fields = [0; 13];
-        checked(unsafe { c::staplehorn_instruction_decode(self.kind as u32, self.ws.into(), self.sp.into(), word, &mut fields) }, fields)
-    }
-
-    /// The word of an instruction descriptor's fields, or 12.
-    pub fn encode(self, fields: &InstructionFields) -> Result<u32, u32> {
-        let mut word = 0;
-        checked(unsafe { c::staplehorn_instruction_encode(self.kind as u32, self.ws.into(), self.sp.into(), fields, &mut word) }, word)
-    }
-
-    /// 12 if a word has no reading, 13 if its shape or types are not listed, else 0.
-    pub fn judge(self, word: u32) -> u32 {
-        unsafe { c::staplehorn_instruction_judge(self.kind as u32, self.ws.into(), self.sp.into(), word) }
-    }
-
-    /// K.
-    pub fn k(self) -> u32 {
-        let mut k = 0;
-        unsafe { c::staplehorn_instruction_k(self.kind as u32, self.sp.into(), &mut k) };
-        k
-    }
-}
-
-/// What a shared memory descriptor says, or 12.
-pub fn shared_decode(word: u64) -> Result<SharedFields, u32> {
-    let mut fields = [0; 6];
-    checked(unsafe { c::staplehorn_shared_decode(word, &mut fields) }, fields)
-}
-
-/// The word of a shared memory descriptor's fields, or 12.
-pub fn shared_encode(fields: &SharedFields) -> Result<u64, u32> {
-    let mut word = 0;
-    checked(unsafe { c::staplehorn_shared_encode(fields, &mut word) }, word)
-}
-
-/// Whether a request for that many columns is legal.
-pub fn is_request(columns: u32) -> bool {
-    unsafe { c::staplehorn_request(columns) == 0 }
+    // SAFETY: each pointer is that of a slice of the length given, or of a local; the lent parts are exclusive.
+    let reason = unsafe { c::staplehorn_statement_canonical(text.as_ptr(), text.len(), room.as_mut_ptr(), room.len(), &mut length) };
+    Reason::check(reason)?;
+    room.truncate(length);
+    Ok(room)
 }

@@ -1,6 +1,7 @@
 //! The wrapper gives the library's answers, and leaves lent places alone where it must.
 
-use staplehorn::{canonical, is_request, judge, report, shared_decode, shared_encode, statement_reason, Answer, Kind, Opcode, MOST_ALLOCS};
+use staplehorn::{canonical, judge, judge_into, report, request, statement, version};
+use staplehorn::{Answer, InstructionFields, Kind, Opcode, Passed, Reason, Refused, SharedFields, MOST_ALLOCS};
 
 const PASSED: &[u8] = include_bytes!("../../crates/foot/stdin");
 const PRINTED: &[u8] = include_bytes!("../../crates/foot/stdout");
@@ -8,46 +9,120 @@ const LEAK: &[u8] = include_bytes!("../../examples/leak.sheet");
 
 #[test]
 fn a_pass_has_its_starts() {
+    assert_eq!(judge(PASSED), Ok(Passed { line: 9, peak: 96, starts: vec![0, 64, 0] }));
     let mut starts = [7; 5];
-    assert_eq!(judge(PASSED, &mut starts), Answer { reason: 0, line: 9, held: 0, peak: 96 });
+    assert_eq!(judge_into(PASSED, &mut starts), Answer { reason: None, line: 9, held: 0, peak: 96 });
     assert_eq!(starts, [0, 64, 0, 7, 7]);
+}
+
+#[test]
+fn as_many_starts_as_a_sheet_has_lines() {
+    let alloc = "0\ttcgen05.alloc.cta_group::1.sync.aligned.b32 [a], 32;\n0\ttcgen05.dealloc.cta_group::1.sync.aligned.b32 a, 32;\n";
+    let sheet = format!("sheet\t1\tsm_100a\n{}0\texit;\n", alloc.repeat(590));
+    assert_eq!(judge(sheet.as_bytes()), Ok(Passed { line: 1182, peak: 32, starts: vec![0; 590] }));
 }
 
 #[test]
 fn a_refusal_writes_nothing() {
     let mut starts = [7; MOST_ALLOCS];
-    assert_eq!(judge(LEAK, &mut starts), Answer { reason: 15, line: 6, held: 32, peak: 96 });
-    assert_eq!(judge(PASSED, &mut starts[..2]), Answer { reason: 16, line: 9, held: 0, peak: 96 });
-    assert_eq!(judge(b"", &mut []), Answer { reason: 2, line: 1, held: 0, peak: 0 });
+    let leak = Refused { reason: Reason::Exit, line: 6, held: 32, peak: 96 };
+    assert_eq!(judge(LEAK), Err(leak));
+    assert_eq!(leak.to_string(), "line 6: exit while columns are held, a line after exit, or no exit");
+    assert_eq!(judge_into(LEAK, &mut starts), Answer { reason: Some(Reason::Exit), line: 6, held: 32, peak: 96 });
+    assert_eq!(judge_into(PASSED, &mut starts[..2]), Answer { reason: Some(Reason::Starts), line: 9, held: 0, peak: 96 });
+    assert_eq!(judge_into(b"", &mut []), Answer { reason: Some(Reason::Layout), line: 1, held: 0, peak: 0 });
+    assert_eq!(judge(&[b'x'; 65_537]).unwrap_err().to_string(), "the sheet has over 65,536 bytes or 4,096 lines");
     assert_eq!(starts, [7; MOST_ALLOCS]);
 }
 
 #[test]
 fn reports_are_those_of_foot() {
-    assert_eq!(report(PASSED), PRINTED);
-    assert_eq!(report(LEAK), b"15\t6\t32\t96\n");
-    assert_eq!(report(&[b'x'; 65_537]), b"1\t0\t0\t0\n");
+    assert_eq!(report(PASSED).text, PRINTED);
+    assert_eq!(report(PASSED).reason, None);
+    assert_eq!(report(LEAK).text, b"15\t6\t32\t96\n");
+    assert_eq!(report(LEAK).reason, Some(Reason::Exit));
+    assert_eq!(report(&[b'x'; 65_537]).text, b"1\t0\t0\t0\n");
 }
 
 #[test]
 fn statements() {
     assert_eq!(canonical(b"mov.b32  x ,0x10 ;").unwrap(), b"mov.b32 x, 16;");
-    assert_eq!(canonical(b"mov.b32 x, 4294967296;"), Err(4));
-    assert_eq!(statement_reason(b"exit"), 3);
-    assert_eq!(statement_reason(b"exit;"), 0);
+    assert_eq!(canonical(b"mov.b32 x, 4294967296;"), Err(Reason::Number));
+    assert_eq!(statement(b"exit"), Err(Reason::Form));
+    assert_eq!(statement(b"exit;"), Ok(()));
+    assert_eq!(statement(b"tcgen05.ld.sync.aligned.32x32b.x2.b32 {r}, [t];"), Err(Reason::Registers));
 }
 
 #[test]
 fn words() {
     let dense = Opcode { kind: Kind::F16, ws: false, sp: false };
-    let fields = dense.decode(0x0810_0010).unwrap();
-    assert_eq!((fields[10], fields[11]), (64, 128));
-    assert_eq!(dense.encode(&fields), Ok(0x0810_0010));
-    assert_eq!(dense.decode(1), Err(12));
-    assert_eq!(Opcode { kind: Kind::I8, ws: false, sp: false }.judge(0x080A_00A0), 13);
+    let fields = InstructionFields { dtype: 1, n: 64, m: 128, ..Default::default() };
+    assert_eq!(dense.decode(0x0810_0010), Ok(fields));
+    assert_eq!(dense.encode(fields), Ok(0x0810_0010));
+    assert_eq!(dense.listed(fields), Ok(()));
+    assert_eq!(dense.encode(InstructionFields { n: 7, ..fields }), Err(Reason::Descriptor));
+    assert_eq!(dense.decode(1), Err(Reason::Descriptor));
+    let i8 = Opcode { kind: Kind::I8, ws: false, sp: false };
+    assert_eq!(i8.judge(0x080A_00A0), Err(Reason::Shape));
+    assert_eq!(i8.listed(i8.decode(0x080A_00A0).unwrap()), Err(Reason::Shape));
     assert_eq!(Opcode { kind: Kind::Tf32, ws: false, sp: true }.k(), 16);
-    let shared = shared_decode(0x0000_4008_0010_0000).unwrap();
-    assert_eq!(shared_encode(&shared), Ok(0x0000_4008_0010_0000));
-    assert_eq!(shared_decode(0), Err(12));
-    assert!(is_request(32) && !is_request(96));
+    let shared = SharedFields { leading: 256, stride: 128, ..Default::default() };
+    assert_eq!(SharedFields::decode(0x0000_4008_0010_0000), Ok(shared));
+    assert_eq!(shared.encode(), Ok(0x0000_4008_0010_0000));
+    assert_eq!(SharedFields::decode(0), Err(Reason::Descriptor));
+    assert_eq!((request(32), request(96)), (Ok(()), Err(Reason::Columns)));
+}
+
+/// Each field by itself keeps its place: the word of a field's value has it in that field's bits, and reads as the same fields.
+#[test]
+fn every_field_has_its_place() {
+    let sparse = Opcode { kind: Kind::F8f6f4, ws: true, sp: true };
+    let zero = InstructionFields { sparse: true, ..Default::default() };
+    for (fields, bit) in [
+        (InstructionFields { selector: 1, ..zero }, 0),
+        (InstructionFields { dtype: 1, ..zero }, 4),
+        (InstructionFields { atype: 1, ..zero }, 7),
+        (InstructionFields { btype: 1, ..zero }, 10),
+        (InstructionFields { negate_a: true, ..zero }, 13),
+        (InstructionFields { negate_b: true, ..zero }, 14),
+        (InstructionFields { transpose_a: true, ..zero }, 15),
+        (InstructionFields { transpose_b: true, ..zero }, 16),
+        (InstructionFields { n: 8, ..zero }, 17),
+        (InstructionFields { m: 16, ..zero }, 24),
+        (InstructionFields { max_shift: 1, ..zero }, 30),
+    ] {
+        assert_eq!(sparse.encode(fields), Ok(1 << 2 | 1 << bit), "{fields:?}");
+        assert_eq!(sparse.decode(1 << 2 | 1 << bit), Ok(fields));
+    }
+    let i8 = Opcode { kind: Kind::I8, ws: false, sp: false };
+    assert_eq!(i8.encode(InstructionFields { saturate: true, ..Default::default() }), Ok(1 << 3));
+    for (fields, bit) in [
+        (SharedFields { start: 16, ..Default::default() }, 0),
+        (SharedFields { leading: 16, ..Default::default() }, 16),
+        (SharedFields { stride: 16, ..Default::default() }, 32),
+        (SharedFields { mode: 1, ..Default::default() }, 52),
+        (SharedFields { swizzle: 1, ..Default::default() }, 61),
+    ] {
+        assert_eq!(fields.encode(), Ok(1 << 46 | 1u64 << bit), "{fields:?}");
+        assert_eq!(SharedFields::decode(1 << 46 | 1u64 << bit), Ok(fields));
+    }
+    assert_eq!(SharedFields { base: 1, swizzle: 2, ..Default::default() }.encode(), Ok(1 << 46 | 1 << 49 | 2 << 61));
+}
+
+#[test]
+fn reasons_have_numbers_and_words() {
+    for number in 1..40 {
+        let reason = Reason::from_number(number).unwrap();
+        assert_eq!(reason.number(), number);
+        let known = (1..=16).contains(&number) || number == 19;
+        assert_eq!(matches!(reason, Reason::Other(_)), !known);
+        assert_eq!(reason.to_string() == format!("reason {number}"), !known);
+    }
+    assert_eq!(Reason::from_number(0), None);
+}
+
+#[test]
+fn the_version_is_the_crates() {
+    let text = format!("{}.{}.{}", version() / 10_000, version() / 100 % 100, version() % 100);
+    assert_eq!(text, env!("CARGO_PKG_VERSION"));
 }

@@ -1,6 +1,7 @@
 //! One measured run: `bench FUNCTION SIDE`, the side `proved` or `reference`. Under callgrind only `measured` counts
 //! (bench/words). Both sides are called through the same C signatures. Prints how many calls it made and a sum over
 //! the answers, which must be the same for both sides. For a sheet it prints its bytes as well.
+#![deny(clippy::undocumented_unsafe_blocks)]
 
 use staplehorn_difftest::proved::c;
 use staplehorn_difftest::random::Random;
@@ -17,8 +18,16 @@ fn words() -> Vec<u32> {
     let types = &[0, 1]; // of kind f16
     (0..CALLS)
         .map(|i| {
-            let w = (r.below(3) as u32) << 4 | r.pick(types) << 7 | r.pick(types) << 10 | (r.below(64) as u32) << 17 | (r.below(32) as u32) << 24;
-            if i % 2 == 0 { w } else { w ^ 1 << r.below(32) }
+            let w = (r.below(3) as u32) << 4
+                | r.pick(types) << 7
+                | r.pick(types) << 10
+                | (r.below(64) as u32) << 17
+                | (r.below(32) as u32) << 24;
+            if i % 2 == 0 {
+                w
+            } else {
+                w ^ 1 << r.below(32)
+            }
         })
         .collect()
 }
@@ -27,8 +36,17 @@ fn shared_words() -> Vec<u64> {
     let mut r = Random::new(8);
     (0..CALLS)
         .map(|i| {
-            let w = r.below(1 << 14) | r.below(1 << 14) << 16 | r.below(1 << 14) << 32 | 1 << 46 | r.below(8) << 49 | r.pick(&[1, 2, 4, 6]) << 61;
-            if i % 2 == 0 { w } else { w ^ 1 << r.below(64) }
+            let w = r.below(1 << 14)
+                | r.below(1 << 14) << 16
+                | r.below(1 << 14) << 32
+                | 1 << 46
+                | r.below(8) << 49
+                | r.pick(&[1, 2, 4, 6]) << 61;
+            if i % 2 == 0 {
+                w
+            } else {
+                w ^ 1 << r.below(64)
+            }
         })
         .collect()
 }
@@ -37,7 +55,21 @@ fn instruction_fields() -> Vec<[u32; 13]> {
     let mut r = Random::new(9);
     (0..CALLS)
         .map(|i| {
-            let mut f = [0, 0, 0, r.below(3) as u32, r.below(2) as u32, r.below(2) as u32, 0, 0, 1, 0, r.below(64) as u32 * 8, r.below(32) as u32 * 16, 0];
+            let mut f = [
+                0,
+                0,
+                0,
+                r.below(3) as u32,
+                r.below(2) as u32,
+                r.below(2) as u32,
+                0,
+                0,
+                1,
+                0,
+                r.below(64) as u32 * 8,
+                r.below(32) as u32 * 16,
+                0,
+            ];
             if i % 2 == 1 {
                 f[r.below(13) as usize] = r.below(9) as u32;
             }
@@ -50,7 +82,8 @@ fn shared_fields() -> Vec<[u64; 6]> {
     let mut r = Random::new(10);
     (0..CALLS)
         .map(|i| {
-            let mut f = [r.below(1 << 14) * 16, r.below(1 << 14) * 16, r.below(1 << 14) * 16, r.below(8), r.below(2), r.pick(&[1, 2, 4, 6])];
+            let mut f =
+                [r.below(1 << 14) * 16, r.below(1 << 14) * 16, r.below(1 << 14) * 16, r.below(8), r.below(2), r.pick(&[1, 2, 4, 6])];
             if i % 2 == 1 {
                 f[r.below(6) as usize] = r.below(300_000);
             }
@@ -256,55 +289,72 @@ fn main() {
     let mut work: Box<dyn FnMut() -> u64> = match function {
         "instruction_decode" => {
             let f = if proved { c::staplehorn_instruction_decode } else { behind::instruction_decode };
-            Box::new(move || words.iter().fold(0, |s, &w| {
-                let mut out = [0; 13];
-                let reason = unsafe { f(0, 0, 0, w, &mut out) };
-                mixed(s, reason, out[10].into(), out[12].into())
-            }))
+            Box::new(move || {
+                words.iter().fold(0, |s, &w| {
+                    let mut out = [0; 13];
+                    // SAFETY: numbers, locals and slices alone; each array has the header's size.
+                    let reason = unsafe { f(0, 0, 0, w, &mut out) };
+                    mixed(s, reason, out[10].into(), out[12].into())
+                })
+            })
         }
         "instruction_encode" => {
             let f = if proved { c::staplehorn_instruction_encode } else { behind::instruction_encode };
-            Box::new(move || fields.iter().fold(0, |s, x| {
-                let mut word = 0;
-                let reason = unsafe { f(0, 0, 0, x, &mut word) };
-                mixed(s, reason, word.into(), 0)
-            }))
+            Box::new(move || {
+                fields.iter().fold(0, |s, x| {
+                    let mut word = 0;
+                    // SAFETY: numbers, locals and slices alone; each array has the header's size.
+                    let reason = unsafe { f(0, 0, 0, x, &mut word) };
+                    mixed(s, reason, word.into(), 0)
+                })
+            })
         }
         "instruction_judge" => {
             let f = if proved { c::staplehorn_instruction_judge } else { behind::instruction_judge };
+            // SAFETY: numbers, locals and slices alone; each array has the header's size.
             Box::new(move || words.iter().fold(0, |s, &w| mixed(s, unsafe { f(0, 0, 0, w) }, 0, 0)))
         }
         "shared_decode" => {
             let f = if proved { c::staplehorn_shared_decode } else { behind::shared_decode };
-            Box::new(move || shared.iter().fold(0, |s, &w| {
-                let mut out = [0; 6];
-                let reason = unsafe { f(w, &mut out) };
-                mixed(s, reason, out[0], out[5])
-            }))
+            Box::new(move || {
+                shared.iter().fold(0, |s, &w| {
+                    let mut out = [0; 6];
+                    // SAFETY: numbers, locals and slices alone; each array has the header's size.
+                    let reason = unsafe { f(w, &mut out) };
+                    mixed(s, reason, out[0], out[5])
+                })
+            })
         }
         "shared_encode" => {
             let f = if proved { c::staplehorn_shared_encode } else { behind::shared_encode };
-            Box::new(move || six.iter().fold(0, |s, x| {
-                let mut word = 0;
-                let reason = unsafe { f(x, &mut word) };
-                mixed(s, reason, word, 0)
-            }))
+            Box::new(move || {
+                six.iter().fold(0, |s, x| {
+                    let mut word = 0;
+                    // SAFETY: numbers, locals and slices alone; each array has the header's size.
+                    let reason = unsafe { f(x, &mut word) };
+                    mixed(s, reason, word, 0)
+                })
+            })
         }
         _ => match function.split_once(':') {
             Some(("reason", name)) => {
                 let t = text(name).unwrap_or_else(|| usage());
                 let f = if proved { c::staplehorn_statement_reason } else { behind::statement_reason };
+                // SAFETY: numbers, locals and slices alone; each array has the header's size.
                 Box::new(move || (0..CALLS).fold(0, |s, _| mixed(s, unsafe { f(t.as_ptr(), t.len()) }, t.len() as u64, 0)))
             }
             Some(("canonical", name)) => {
                 let t = text(name).unwrap_or_else(|| usage());
                 let mut room = vec![0; 4096];
                 let f = if proved { c::staplehorn_statement_canonical } else { behind::statement_canonical };
-                Box::new(move || (0..CALLS).fold(0, |s, _| {
-                    let mut n = 0;
-                    let reason = unsafe { f(t.as_ptr(), t.len(), room.as_mut_ptr(), room.len(), &mut n) };
-                    mixed(s, reason, n as u64, room[n / 2].into())
-                }))
+                Box::new(move || {
+                    (0..CALLS).fold(0, |s, _| {
+                        let mut n = 0;
+                        // SAFETY: numbers, locals and slices alone; each array has the header's size.
+                        let reason = unsafe { f(t.as_ptr(), t.len(), room.as_mut_ptr(), room.len(), &mut n) };
+                        mixed(s, reason, n as u64, room[n / 2].into())
+                    })
+                })
             }
             Some(("sheet", kind_and_size)) => {
                 let (kind, size) = kind_and_size.split_once(':').unwrap_or_else(|| usage());
@@ -314,12 +364,15 @@ fn main() {
                 bytes = Some(t.len());
                 let mut starts = vec![0; 4096];
                 let f = if proved { c::staplehorn_judge } else { behind::judge };
-                Box::new(move || (0..calls).fold(0, |s, _| {
-                    let mut answer = [0; 4];
-                    let reason = unsafe { f(t.as_ptr(), t.len(), starts.as_mut_ptr(), starts.len(), &mut answer) };
-                    assert_eq!(reason, 0, "a sheet to be measured passes");
-                    mixed(s, reason, answer[1].into(), u64::from(answer[3]) ^ u64::from(starts[1]) << 16)
-                }))
+                Box::new(move || {
+                    (0..calls).fold(0, |s, _| {
+                        let mut answer = [0; 4];
+                        // SAFETY: numbers, locals and slices alone; each array has the header's size.
+                        let reason = unsafe { f(t.as_ptr(), t.len(), starts.as_mut_ptr(), starts.len(), &mut answer) };
+                        assert_eq!(reason, 0, "a sheet to be measured passes");
+                        mixed(s, reason, answer[1].into(), u64::from(answer[3]) ^ u64::from(starts[1]) << 16)
+                    })
+                })
             }
             _ => usage(),
         },

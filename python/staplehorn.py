@@ -1,0 +1,256 @@
+"""Staplehorn from Python: tcgen05 sheets judged, statements and descriptor words read and written, by the proved library.
+
+    >>> import staplehorn
+    >>> staplehorn.judge(b"sheet\\t1\\tsm_100a\\n0\\texit;\\n")
+    Passed(line=2, peak=0, starts=[])
+
+Every function takes any bytes and any numbers. What is refused raises `Refused`, whose `reason` is the number and whose text
+says why. The shared library is the one that STAPLEHORN_LIBRARY names; else the one that was installed with this file or
+built beside it; else the one that the system finds. Any number of threads may call at once.
+"""
+import ctypes
+import enum
+import os
+from typing import List, NamedTuple
+
+SONAME = "libstaplehorn.so.0"
+REPORT_ROOM = 102391
+STATEMENT_ROOM = 2560
+MOST_ALLOCS = 4095
+
+
+class Reason(enum.IntEnum):
+    """Why something is refused. SHAPE_N and TYPES have SHAPE_M's number."""
+
+    PASSED = 0
+    SIZE = 1
+    LAYOUT = 2
+    FORM = 3
+    NUMBER = 4
+    REGISTERS = 5
+    NAME = 6
+    VALUES = 7
+    WARP = 8
+    COLUMNS = 9
+    RELINQUISHED = 10
+    SPACE = 11
+    DESCRIPTOR = 12
+    SHAPE_M = 13
+    SHAPE_N = 13
+    TYPES = 13
+    CELLS = 14
+    EXIT = 15
+    STARTS = 16
+    ROOM = 19
+
+
+TEXTS = {
+    1: "the sheet has over 65,536 bytes or 4,096 lines",
+    2: "line 1 is not the header, or a line's layout is wrong",
+    3: "the statement matches no form",
+    4: "a number is too large",
+    5: "N is over the largest of its shape, or the count of registers differs",
+    6: "a name is unbound, of the wrong sort or width, or taken",
+    7: "a 129th value name is bound",
+    8: "the warp is wrong, or the lane is not the warp's",
+    9: "the request is illegal, or the size of a dealloc differs",
+    10: "an alloc follows relinquish",
+    11: "no free run of that length starts at a multiple of 32",
+    12: "a descriptor has no reading under the opcode",
+    13: "the shape or the types are not listed",
+    14: "the lane of an mma is not 0, or columns go past the end of the allocation",
+    15: "exit while columns are held, a line after exit, or no exit",
+    16: "the lent list has fewer places than there are allocs",
+    19: "the lent room is too short",
+}
+
+
+class Refused(ValueError):
+    """What is refused: `reason`, and for a sheet `line` (from 1; 0 with reason 1), `held` and `peak`; else they are None."""
+
+    def __init__(self, reason, line=None, held=None, peak=None):
+        self.reason, self.line, self.held, self.peak = reason, line, held, peak
+        text = TEXTS.get(reason, f"reason {reason}")
+        super().__init__(f"line {line}: {text}" if line else text)
+
+
+class Passed(NamedTuple):
+    """A sheet that passed: its last line, the most columns held, and the first column of each alloc."""
+
+    line: int
+    peak: int
+    starts: List[int]
+
+
+class Instruction(NamedTuple):
+    """The fields of an instruction descriptor, in the order of its bits. Types are codes; n and m are the real N and M."""
+
+    selector: int = 0
+    sparse: int = 0
+    saturate: int = 0
+    dtype: int = 0
+    atype: int = 0
+    btype: int = 0
+    negate_a: int = 0
+    negate_b: int = 0
+    transpose_a: int = 0
+    transpose_b: int = 0
+    n: int = 0
+    m: int = 0
+    max_shift: int = 0
+
+
+class Shared(NamedTuple):
+    """The fields of a shared memory descriptor. Start, leading and stride are in bytes."""
+
+    start: int = 0
+    leading: int = 0
+    stride: int = 0
+    base: int = 0
+    mode: int = 0
+    swizzle: int = 0
+
+
+KINDS = {"f16": 0, "tf32": 1, "f8f6f4": 2, "i8": 3}
+
+
+def _load():
+    here = os.path.dirname(os.path.abspath(__file__))
+    named = os.environ.get("STAPLEHORN_LIBRARY")
+    beside = [os.path.join(here, *way, SONAME) for way in (["..", "..", "..", "lib"], ["..", "target", "shared"])]
+    path = named or next((p for p in beside if os.path.exists(p)), SONAME)
+    library = ctypes.CDLL(path)
+    size, byte, u32, u64 = ctypes.c_size_t, ctypes.c_char_p, ctypes.c_uint32, ctypes.c_uint64
+    pointer = ctypes.POINTER
+    for name, arguments in {
+        "version": [],
+        "judge": [byte, size, pointer(ctypes.c_uint16), size, pointer(u32)],
+        "report": [byte, size, byte, size, pointer(size)],
+        "statement_reason": [byte, size],
+        "statement_canonical": [byte, size, byte, size, pointer(size)],
+        "instruction_decode": [u32, u32, u32, u32, pointer(u32)],
+        "instruction_encode": [u32, u32, u32, pointer(u32), pointer(u32)],
+        "instruction_judge": [u32, u32, u32, u32],
+        "instruction_listed": [u32, u32, u32, pointer(u32)],
+        "instruction_k": [u32, u32, pointer(u32)],
+        "shared_decode": [u64, pointer(u64)],
+        "shared_encode": [pointer(u64), pointer(u64)],
+        "request": [u32],
+    }.items():
+        function = getattr(library, "staplehorn_" + name)
+        function.argtypes, function.restype = arguments, u32
+    return library
+
+
+_c = _load()
+
+
+def version():
+    """The library's version: major * 10,000 + minor * 100 + patch."""
+    return _c.staplehorn_version()
+
+
+def _check(reason):
+    if reason:
+        raise Refused(reason)
+
+
+def _number(value, bits, name):
+    """ctypes would cut a number that is too wide; no word has such a field."""
+    if not isinstance(value, int):
+        raise TypeError(f"{name}: not an integer")
+    if not 0 <= value < 1 << bits:
+        raise Refused(Reason.DESCRIPTOR)
+    return value
+
+
+def judge(sheet):
+    """Judges a sheet: Passed, or raises Refused."""
+    mark = 0xFFFF  # larger than any start, so the starts end where it stands
+    starts = (ctypes.c_uint16 * MOST_ALLOCS)(*[mark] * MOST_ALLOCS)
+    answer = (ctypes.c_uint32 * 4)()
+    sheet = bytes(sheet)
+    if _c.staplehorn_judge(sheet, len(sheet), starts, MOST_ALLOCS, answer):
+        raise Refused(*answer)
+    found = list(starts)
+    return Passed(answer[1], answer[3], found[: found.index(mark)] if mark in found else found)
+
+
+def report(sheet):
+    """The bytes that foot prints for a sheet. A refusal raises nothing: its number stands first in the report."""
+    sheet, room, length = bytes(sheet), ctypes.create_string_buffer(REPORT_ROOM), ctypes.c_size_t()
+    _c.staplehorn_report(sheet, len(sheet), room, REPORT_ROOM, length)
+    return room.raw[: length.value]
+
+
+def statement(text):
+    """Raises Refused (3, 4 or 5) for a text that is no statement by itself."""
+    text = bytes(text)
+    _check(_c.staplehorn_statement_reason(text, len(text)))
+
+
+def canonical(text):
+    """The canonical text of a statement, or raises Refused (3 or 4)."""
+    text, room, length = bytes(text), ctypes.create_string_buffer(STATEMENT_ROOM), ctypes.c_size_t()
+    _check(_c.staplehorn_statement_canonical(text, len(text), room, STATEMENT_ROOM, length))
+    return room.raw[: length.value]
+
+
+def _opcode(kind, ws, sp):
+    if kind not in KINDS:
+        raise Refused(Reason.DESCRIPTOR)
+    return KINDS[kind], int(bool(ws)), int(bool(sp))
+
+
+def instruction_decode(kind, word, ws=False, sp=False):
+    """What an instruction descriptor says under an opcode ('f16', 'tf32', 'f8f6f4' or 'i8')."""
+    fields = (ctypes.c_uint32 * 13)()
+    _check(_c.staplehorn_instruction_decode(*_opcode(kind, ws, sp), _number(word, 32, "word"), fields))
+    return Instruction(*fields)
+
+
+def instruction_encode(kind, fields, ws=False, sp=False):
+    """The word of an instruction descriptor's fields."""
+    array, word = (ctypes.c_uint32 * 13)(*[_number(v, 32, n) for n, v in fields._asdict().items()]), ctypes.c_uint32()
+    _check(_c.staplehorn_instruction_encode(*_opcode(kind, ws, sp), array, word))
+    return word.value
+
+
+def instruction_judge(kind, word, ws=False, sp=False):
+    """Raises Refused: 12 if a word has no reading, 13 if its shape or types are not listed."""
+    _check(_c.staplehorn_instruction_judge(*_opcode(kind, ws, sp), _number(word, 32, "word")))
+
+
+def instruction_listed(kind, fields, ws=False, sp=False):
+    """The same of fields."""
+    array = (ctypes.c_uint32 * 13)(*[_number(v, 32, n) for n, v in fields._asdict().items()])
+    _check(_c.staplehorn_instruction_listed(*_opcode(kind, ws, sp), array))
+
+
+def instruction_k(kind, sp=False):
+    """K of a kind, dense or sparse."""
+    k = ctypes.c_uint32()
+    number, _, sparse = _opcode(kind, False, sp)
+    _check(_c.staplehorn_instruction_k(number, sparse, k))
+    return k.value
+
+
+def shared_decode(word):
+    """What a shared memory descriptor says."""
+    fields = (ctypes.c_uint64 * 6)()
+    _check(_c.staplehorn_shared_decode(_number(word, 64, "word"), fields))
+    return Shared(*fields)
+
+
+def shared_encode(fields):
+    """The word of a shared memory descriptor's fields."""
+    array, word = (ctypes.c_uint64 * 6)(*[_number(v, 64, n) for n, v in fields._asdict().items()]), ctypes.c_uint64()
+    _check(_c.staplehorn_shared_encode(array, word))
+    return word.value
+
+
+def request(columns):
+    """Raises Refused (9) unless a request for that many columns is legal."""
+    if not 0 <= columns < 1 << 32:
+        raise Refused(Reason.COLUMNS)
+    _check(_c.staplehorn_request(columns))

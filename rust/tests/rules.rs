@@ -1,0 +1,142 @@
+//! `describe` names a broken rule exactly where the library refuses: over words, over fields, and over every value of each field.
+#![deny(clippy::undocumented_unsafe_blocks)]
+
+#[allow(dead_code)]
+#[path = "../src/bin/describe/rules.rs"]
+mod rules;
+
+use rules::*;
+use staplehorn::Kind::{self, F8f6f4, Tf32, F16, I8};
+use staplehorn::{Opcode, Reason, SharedFields};
+
+const KINDS: [Kind; 4] = [F16, Tf32, F8f6f4, I8];
+
+fn opcodes() -> impl Iterator<Item = Opcode> {
+    KINDS.into_iter().flat_map(|kind| (0..4).map(move |i| Opcode { kind, ws: i & 1 != 0, sp: i & 2 != 0 }))
+}
+
+/// xorshift64*
+struct Random(u64);
+
+impl Random {
+    fn next(&mut self) -> u64 {
+        self.0 ^= self.0 >> 12;
+        self.0 ^= self.0 << 25;
+        self.0 ^= self.0 >> 27;
+        self.0.wrapping_mul(0x2545_F491_4F6C_DD1D)
+    }
+
+    fn pick(&mut self, from: &[u64]) -> u64 {
+        from[self.next() as usize % from.len()]
+    }
+}
+
+fn values(word: u32) -> [u64; 13] {
+    std::array::from_fn(|i| INSTRUCTION[i].of(word.into()))
+}
+
+/// The library and the rules agree on a word.
+fn agree(o: Opcode, word: u32) -> Option<Reason> {
+    let v = values(word);
+    let said = o.judge(word).err();
+    let expected = match (no_reading(o, &v, rest(&INSTRUCTION, word.into())), not_listed(o, &v)) {
+        (broken, _) if !broken.is_empty() => Some(Reason::Descriptor),
+        (_, broken) if !broken.is_empty() => Some(Reason::Shape),
+        _ => None,
+    };
+    assert_eq!(said, expected, "{o:?} {word:#010x}");
+    assert_eq!(o.decode(word).is_err(), said == Some(Reason::Descriptor));
+    said
+}
+
+#[test]
+fn every_refused_word_has_a_rule() {
+    let mut r = Random(7);
+    let mut seen = [0; 3];
+    for o in opcodes() {
+        for i in 0..40_000 {
+            // a word that may be good, and the same with some bits turned
+            let good = (o.sp as u64) << 2
+                | r.pick(&[0, 1, 2]) << 4
+                | r.pick(&[0, 1, 2, 3, 4, 5]) << 7
+                | r.pick(&[0, 1, 2, 3, 4, 5]) << 10
+                | (r.next() & 3) << 15
+                | (r.next() & 63) << 17
+                | r.pick(&[2, 4, 8, 1, 16, 12]) << 24;
+            let turned = (0..i % 3).fold(good, |w, _| w ^ 1 << (r.next() % 32));
+            let same = if o.kind == Tf32 { turned & !(0x3F << 7) | 2 << 7 | 2 << 10 } else { turned };
+            for word in [turned, same, r.next()] {
+                let said = agree(o, word as u32);
+                seen[said.map_or(0, |s| if s == Reason::Shape { 1 } else { 2 })] += 1;
+            }
+        }
+    }
+    assert!(seen.iter().all(|&n| n > 10_000), "{seen:?}");
+}
+
+#[test]
+fn every_value_of_every_field() {
+    for o in opcodes() {
+        for start in [0x0810_0010, 0x0402_0910, 0x080C_00A0, 0x0810_0014] {
+            for f in &INSTRUCTION {
+                for v in 0..=f.mask() {
+                    agree(o, start & !((f.mask() as u32) << f.low) | (v as u32) << f.low);
+                }
+            }
+        }
+    }
+}
+
+#[test]
+fn every_refused_fields_have_a_rule() {
+    let mut r = Random(11);
+    let mut seen = [0; 2];
+    for o in opcodes() {
+        for _ in 0..20_000 {
+            let v: [u64; 13] = std::array::from_fn(|i| {
+                let f = &INSTRUCTION[i];
+                match i {
+                    N | M => (r.next() & f.mask()) * f.unit + r.pick(&[0, 0, 0, 0, 0, 0, 0, 1, 8, 512]),
+                    SPARSE => o.sp as u64 ^ r.pick(&[0, 0, 0, 0, 0, 1]),
+                    ATYPE | BTYPE => r.pick(&[0, 1, 2, 2, 3, 5]),
+                    _ => r.pick(&[0, 0, 0, 0, 0, 1, 2, 4]),
+                }
+            });
+            let fields: [u32; 13] = v.map(|x| x as u32);
+            let broken = no_reading(o, &v, 0);
+            let mut word = 0;
+            // SAFETY: the pointers are those of an array of the header's size and of a local.
+            let reason =
+                unsafe { staplehorn::c::staplehorn_instruction_encode(o.kind as u32, o.ws.into(), o.sp.into(), &fields, &mut word) };
+            assert_eq!(reason != 0, !broken.is_empty(), "{o:?} {v:?} {broken:?}");
+            seen[usize::from(reason != 0)] += 1;
+        }
+    }
+    assert!(seen.iter().all(|&n| n > 1_000), "{seen:?}");
+}
+
+#[test]
+fn every_refused_shared_word_has_a_rule() {
+    let mut r = Random(3);
+    let mut seen = [0; 2];
+    for i in 0..400_000 {
+        let good = r.next() & 0x3FFF_3FFF_3FFF | 1 << 46 | (r.next() & 1) << 52 | (r.next() & 7) << 61 | r.pick(&[0, 0, 1, 7]) << 49;
+        let word = (0..i % 3).fold(good, |w, _| w ^ 1 << (r.next() % 64));
+        for word in [word, word & !(7 << 61), r.next()] {
+            let v: [u64; 6] = std::array::from_fn(|i| SHARED[i].of(word));
+            let (fixed, rest) = shared_rest(word);
+            let refused = SharedFields::decode(word).is_err();
+            assert_eq!(refused, !no_shared(&v, fixed, rest).is_empty(), "{word:#018x}");
+            let fields = SharedFields { start: v[0], leading: v[1], stride: v[2], base: v[3], mode: v[4], swizzle: v[5] };
+            assert_eq!(fields.encode().is_err(), !no_shared(&v, 1, 0).is_empty(), "{fields:?}");
+            seen[usize::from(refused)] += 1;
+        }
+    }
+    for (at, by) in [(0, 1), (1, 8), (2, 16), (0, 262_144), (3, 8), (4, 2), (5, 8), (5, 3)] {
+        let mut v = [16, 32, 48, 0, 1, 2];
+        v[at] += by;
+        let fields = SharedFields { start: v[0], leading: v[1], stride: v[2], base: v[3], mode: v[4], swizzle: v[5] };
+        assert_eq!(fields.encode().is_err(), !no_shared(&v, 1, 0).is_empty(), "{fields:?}");
+    }
+    assert!(seen.iter().all(|&n| n > 10_000), "{seen:?}");
+}
