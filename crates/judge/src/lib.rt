@@ -187,7 +187,7 @@ fn judge_lines(sheet: &[u8], room: usize, given: &mut [u16; 4096]) -> Judged
     let mut requests: usize = 0;
     let mut held: u32 = 0;
     let mut peak: u32 = 0;
-    let mut at: usize = 16;
+    let mut at = lines::HEADER;
     let mut line: usize = 1;
     while at < sheet.len() {
         line += 1;

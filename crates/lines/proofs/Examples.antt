@@ -1,4 +1,4 @@
--- Lines of document 01, worked out: what each is. Assumes nothing.
+-- Lines, worked out: what each is. Assumes nothing.
 use Prim.Native.Nat.{ℕ}
 use mathlib.Core.Path.{_≡_, refl}
 use mathlib.Core.List.{[], _∷_}

@@ -11,10 +11,10 @@ use lib.ListN.{length, getD, take, drop, drop-of-length-le, length-drop}
 use lib.Seq.{drop-cons, drop-drop, length-take-le, getD-drop, getD-take, take-all, take-nil}
 use lib.Dec.{ltb, leb, eqb}
 use borrow.Author.Tests.{lt-ltb, le-ltb, eq-eqb, ne-eqb, ltb-true, ltb-false, eqb-true, leb-true}
-use Rattle.laws.proofs.TestLaws.{never, and-split}
+use Rattle.laws.proofs.BoolLaws.{never, and-split, and-swap}
 use Rattle.tokens.specs.Bytes.{pick, all, runLen}
 use Rattle.lines.specs.declared.Line.{Line}
-use Rattle.lines.specs.Sheet.{upto, textOf, endedOf, rest, after, bit, countFrom, lineCount, lfs, header, sameBytes, headed, warpByte, warpOf, plain, laidOut, contentOf, noLine, lineAt, nextAt, contentSeen}
+use Rattle.lines.specs.Sheet.{upto, textOf, endedOf, rest, after, bit, countFrom, lineCount, lfs, header, bodyAt, sameBytes, headed, warpByte, warpOf, plain, laidOut, contentOf, noLine, lineAt, contentSeen}
 
 and-false : (a : Bool) → (a && false) ≡ false
 and-false true = refl
@@ -27,10 +27,6 @@ and-true false = refl
 and-assoc : (a b c : Bool) → ((a && b) && c) ≡ (a && (b && c))
 and-assoc true b c = refl
 and-assoc false b c = refl
-
-and-swap : (a b c : Bool) → (a && (b && c)) ≡ (b && (a && c))
-and-swap true b c = refl
-and-swap false b c = sym (and-false b)
 
 -- ---- the first line
 
@@ -503,16 +499,6 @@ module _ (s : List ℕ) (at : ℕ) where
   pub line-seen : contentSeen s (lineAt s at) ≡ contentOf (drop at s)
   line-seen = seen-by (lineAt s at .ok) refl
 
-  module _ (r : Line) (e : r ≡ lineAt s at) where
-    -- after a line that is ok the next one starts where it says; after any other, at the same place
-    pub next-ok : r .ok ≡ true → r .next ≡ nextAt s at
-    unfolding nextAt
-    next-ok h = let k : lineAt s at .ok ≡ true = ap (λ (l : Line). l .ok) (sym e) ∙ h in rw k (ap (λ (l : Line). l .next) e)
-
-    pub next-same : r .ok ≡ false → at ≡ nextAt s at
-    unfolding nextAt
-    next-same h = let k : lineAt s at .ok ≡ false = ap (λ (l : Line). l .ok) (sym e) ∙ h in rw k
-
 -- ---- after the header
 
 same-by : (t u : Bool) (x y : ℕ) (l m : List ℕ) → eqb x y ≡ t → (t && u) ≡ true → (u ≡ true → l ≡ m) → x ∷ l ≡ y ∷ m
@@ -526,26 +512,26 @@ same-is [] (y ∷ m) e = never e
 same-is (x ∷ l) [] e = never e
 same-is (x ∷ l) (y ∷ m) e = same-by (eqb x y) (sameBytes l m) x y l m refl e (same-is l m)
 
--- a sheet that begins with its header: line 2 starts at 16
+-- a sheet that begins with its header: line 2 starts after it
 module _ (s : List ℕ) (h : headed s ≡ true) where
   headed-split : (endedOf s ≡ true) × (textOf s ≡ header)
   unfolding headed
   headed-split = let a = and-split (endedOf s) (sameBytes (textOf s) header) h in (a .0, same-is (textOf s) header (a .1))
 
-  header-end : upto s ≡ 15
-  header-end = sym (text-length s) ∙ ap length (headed-split .1)
+  header-end : suc (upto s) ≡ bodyAt
+  header-end = ap suc (sym (text-length s) ∙ ap length (headed-split .1))
 
-  pub header-inside : 16 ≤ length s
+  pub header-inside : bodyAt ≤ length s
   unfolding endedOf
   header-inside = omega (arith, ltb-true (upto s) (length s) (headed-split .0), header-end)
 
-  header-rest : drop 16 s ≡ rest s
+  header-rest : drop bodyAt s ≡ rest s
   unfolding rest
   header-rest = rw header-end
 
-  pub header-after : drop 16 s ≡ after 1 s
+  pub header-after : drop bodyAt s ≡ after 1 s
   unfolding after
   header-after = header-rest
 
-  pub header-counted : lineCount s ≡ suc (lineCount (drop 16 s))
+  pub header-counted : lineCount s ≡ suc (lineCount (drop bodyAt s))
   header-counted = count-line s (omega (arith, header-inside)) ∙ ap (λ (l : List ℕ). suc (lineCount l)) (sym header-rest)

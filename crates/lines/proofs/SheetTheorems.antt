@@ -8,9 +8,9 @@ use mathlib.Core.Bool.{Bool, true, false, _&&_, _||_}
 use lib.ListN.{length, getD, take, drop, length-drop}
 use lib.Dec.{leb, eqb}
 use borrow.Author.Tests.{eqb-true, leb-true, le-leb}
-use Rattle.laws.proofs.TestLaws.{never, and-split}
+use Rattle.laws.proofs.BoolLaws.{never, and-split}
 use Rattle.tokens.specs.Bytes.{pick, all}
-use Rattle.lines.specs.Sheet.{textOf, endedOf, rest, after, countFrom, lineCount, warpByte, warpOf, plain, laidOut, Content, fault, laid, contentOf, contentAfter, headed, lineAt, contentSeen}
+use Rattle.lines.specs.Sheet.{textOf, endedOf, rest, after, countFrom, lineCount, warpByte, warpOf, plain, laidOut, Content, fault, laid, contentOf, contentAfter, headed, bodyAt, lineAt, contentSeen}
 use Rattle.lines.specs.declared.Line.{Line}
 use Rattle.lines.specs.Written.{Written}
 use Rattle.lines.proofs.SheetLaws.{count-line, count-none, bit-le, header-inside, header-after, header-counted, line-seen, line-inside, line-next, line-after, line-counted}
@@ -106,7 +106,7 @@ pub record After (s : List ℕ) (k at : ℕ) : Type 0 where
   pub counted : k + lineCount (drop at s) ≡ lineCount s
 
 -- after the header one line is done
-pub after-header : (s : List ℕ) → headed s ≡ true → After s 1 16
+pub after-header : (s : List ℕ) → headed s ≡ true → After s 1 bodyAt
 after-header s h = record { inside = header-inside s h; here = header-after s h; counted = omega (arith, header-counted s h) }
 
 module _ (s : List ℕ) (k at : ℕ) (p : After s k at) (r : Line) (e : r ≡ lineAt s at) where

@@ -54,6 +54,10 @@ lfs (x ∷ l) = bit (eqb x 10) + lfs l
 abbrev pub header : List ℕ
 header = 115 ∷ 104 ∷ 101 ∷ 101 ∷ 116 ∷ 9 ∷ 49 ∷ 9 ∷ 115 ∷ 109 ∷ 95 ∷ 49 ∷ 48 ∷ 48 ∷ 97 ∷ []
 
+-- where line 2 starts: after the header and its LF
+abbrev pub bodyAt : ℕ
+bodyAt = suc (length header)
+
 -- two lists have the same bytes
 unfoldable pub sameBytes : List ℕ → List ℕ → Bool
 sameBytes [] [] = true
@@ -117,9 +121,10 @@ lineAt s at =
     let l = drop at s in
     pick (laidOut l) (record { ok = true; warp = warpOf (getD l 0 0); start = at + 2; end = at + upto l; next = at + upto l + 1 }) noLine
 
--- where the line after the one at a place starts; after a layout fault, the same place
-unfoldable pub nextAt : List ℕ → ℕ → ℕ
-nextAt s at = pick (lineAt s at .ok) (lineAt s at .next) at
+-- where a reader stands after k lines from a place on: each line says where the next one starts
+unfoldable pub placeAfter : List ℕ → ℕ → ℕ → ℕ
+placeAfter s at zero = at
+placeAfter s at (suc k) = lineAt s (placeAfter s at k) .next
 
 -- what a line found by places is
 unfoldable pub contentSeen : List ℕ → Line → Content

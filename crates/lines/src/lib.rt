@@ -4,7 +4,10 @@ ghost use mathlib.Core.Bool.{true};
 ghost use Prim.Native.Nat.{_+_, _<_, _≤_, _^_};
 ghost use lib.ListN.{length, getD, take, drop};
 ghost use Rattle.tokens.specs.Bytes.{pick, all, runLen};
-ghost use Rattle.lines.specs.Sheet.{bit, upto, lfs, lineCount, oversize, headed, warpByte, warpOf, plain, laidOut, lineAt, nextAt};
+ghost use Rattle.lines.specs.Sheet.{bit, upto, lfs, lineCount, oversize, headed, warpByte, warpOf, plain, laidOut, lineAt};
+
+// The bytes of line 1, its LF among them: where line 2 starts.
+pub const HEADER: usize = 16;
 
 // A line after the first: its warp, where its statement starts and ends, and where the next line starts. Not ok: its
 // layout is wrong, and all numbers are 0.
@@ -103,7 +106,7 @@ pub fn is_headed(sheet: &[u8]) -> bool
 {
     let h = b"sheet\t1\tsm_100a\n";
     let mut i: usize = 0;
-    while i < 16 {
+    while i < HEADER {
         if byte_at(sheet, i) != h[i] {
             return false;
         }
@@ -229,16 +232,8 @@ fn find_line(s: &[u8], at: usize) -> Line
     }
 }
 
-// Where the line after the one at a place starts: the same place where the layout of that one is wrong.
-fn next_start(s: &[u8], at: usize) -> usize
-    ensures { λ r. ⌜ r ≡ nextAt (now (s .entry)) at ⌝ }
-{
-    let line = find_line(s, at);
-    if line.ok { line.next } else { at }
-}
-
-// A sheet and a place in it. Few functions are over it, each proved by a walk; the work is in `find_line`
-// and `next_start`.
+// A sheet and a place in it: it gives out a line at a time. Few functions are over it, each proved by a walk; the work is in
+// `find_line`.
 pub struct LineReader<'a> {
     pub src: &'a [u8],
     pub at: usize,
@@ -257,18 +252,25 @@ pub fn next<'a>(r: LineReader<'a>) -> Line
     find_line(r.src, r.at)
 }
 
-// The reader after its line: of the same sheet, at the place where the next line starts; at the same place where the
-// line's layout is wrong.
-pub fn advance<'a>(r: LineReader<'a>) -> LineReader<'a>
-    ensures { λ n. ⌜ (n .src ≡ r .entry .src) × (n .at ≡ nextAt (now (r .entry .src)) (r .entry .at)) ⌝ }
+// The reader of the same sheet at another place, where its line says that the next one starts.
+pub fn advance<'a>(r: LineReader<'a>, at: usize) -> LineReader<'a>
+    ensures { λ n. ⌜ (n .src ≡ r .entry .src) × (n .at ≡ at) ⌝ }
 {
-    let at = next_start(r.src, r.at);
     LineReader { src: r.src, at }
 }
 
-// The line that starts at a place, by a reader: who calls this needs no walk.
+// The line that starts at a place, and where the reader stands after it. Who calls this needs no walk.
 pub fn line_at(sheet: &[u8], at: usize) -> Line
     ensures { λ r. ⌜ r ≡ lineAt (now (sheet .entry)) at ⌝ }
 {
-    next(new(sheet, at))
+    let r = new(sheet, at);
+    let line = next(r);
+    let after = advance(r, line.next);
+    Line {
+        ok: line.ok,
+        warp: line.warp,
+        start: line.start,
+        end: line.end,
+        next: after.at,
+    }
 }

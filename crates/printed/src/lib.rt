@@ -93,7 +93,7 @@ fn rows(sheet: &[u8], starts: &[u16], room: &mut [u8], from: usize) -> usize
     ensures next { λ r. ⌜ r ≡ from + length (rowsText (rowsUpTo (linesOf (now (sheet .entry))) (now (starts .entry)) (lineCount (now (sheet .entry)) - 1))) ⌝ }
     ensures places { λ r. ⌜ now (room .exit) ≡ sets (now (room .entry)) from (rowsText (rowsUpTo (linesOf (now (sheet .entry))) (now (starts .entry)) (lineCount (now (sheet .entry)) - 1))) ⌝ }
 {
-    let mut at: usize = 16;
+    let mut at = lines::HEADER;
     let mut next = from;
     let mut k: usize = 0;
     while at < sheet.len() {
