@@ -16,10 +16,10 @@ use Rattle.tokens.specs.Names.{sameName}
 use Rattle.statement.specs.declared.Statement.the-variants.{Mov32, Mov64}
 use Rattle.rules.specs.Counting.{count}
 use Rattle.rules.specs.State.{State, Binding, lowest, isLive, isBound, widthOf, numberOf, bind}
-use Rattle.rules.specs.Reasons.{roomFor, openRules, named, roomed, warped, sized, permitted, placed, reads, listed, inside, cleared}
-use Rattle.statement.specs.Cells.{counted}
+use Rattle.rules.specs.Reasons.{roomFor, openRules}
 use Rattle.rules.specs.Sheet.{effect}
 use Rattle.rules.proofs.CountingLaws.{bool, clash}
+use Rattle.rules.proofs.ByForm.{mov32-first, mov64-first}
 use Rattle.search.proofs.NameLaws.{same-true, same-name, other-name}
 use Rattle.bindings.specs.declared.Bindings.{Bindings}
 use Rattle.bindings.specs.declared.Value.{Value}
@@ -396,13 +396,11 @@ module _ (t : Bindings) (s : State) (h : Shows t (s .values)) where
       mov-order (isLive n (s .live)) (roomFor s n)
       ∙ ap (cond (isLive n (s .live)) 6) (sym (bind-reason t n width v (roomFor s n) (sym (room n))))
 
-  reason32 : (n : Name) (w v : ℕ) → firstBroken (openRules lowest s w (Mov32 n v)) ≡ cond (isLive n (s .live)) 6 (bindOf t n 32 v .reason)
-  unfolding openRules counted named roomed warped sized permitted placed reads listed inside cleared
-  reason32 n w v = mov-reason n 32 v
+  reason32 : (n : Name) (held w v : ℕ) → firstBroken (openRules lowest s held w (Mov32 n v)) ≡ cond (isLive n (s .live)) 6 (bindOf t n 32 v .reason)
+  reason32 n held w v = mov32-first lowest s held w n v ∙ mov-reason n 32 v
 
-  reason64 : (n : Name) (w v : ℕ) → firstBroken (openRules lowest s w (Mov64 n v)) ≡ cond (isLive n (s .live)) 6 (bindOf t n 64 v .reason)
-  unfolding openRules counted named roomed warped sized permitted placed reads listed inside cleared
-  reason64 n w v = mov-reason n 64 v
+  reason64 : (n : Name) (held w v : ℕ) → firstBroken (openRules lowest s held w (Mov64 n v)) ≡ cond (isLive n (s .live)) 6 (bindOf t n 64 v .reason)
+  reason64 n held w v = mov64-first lowest s held w n v ∙ mov-reason n 64 v
 
   next-shows : (n : Name) (width v : ℕ) → 0 < width → bindOf t n width v .reason ≡ 0
       → Shows (bindOf t n width v .next) (bind (record { name = n; width = width; number = v }) (s .values))

@@ -48,8 +48,8 @@ pub record Tells (t : Bindings) (s : State) : Type 0 where
   pub lookup : (n : Name) → lookupOf t n ≡ valueOf n (s .values)
   pub bound : (n : Name) → not (eqb (lookupOf t n .width) 0) ≡ isBound n (s .values)
   -- the reason of a mov, if the name is not that of a live allocation
-  pub bind32 : (n : Name) (w v : ℕ) → firstBroken (openRules lowest s w (Mov32 n v)) ≡ cond (isLive n (s .live)) 6 (bindOf t n 32 v .reason)
-  pub bind64 : (n : Name) (w v : ℕ) → firstBroken (openRules lowest s w (Mov64 n v)) ≡ cond (isLive n (s .live)) 6 (bindOf t n 64 v .reason)
+  pub bind32 : (n : Name) (held w v : ℕ) → firstBroken (openRules lowest s held w (Mov32 n v)) ≡ cond (isLive n (s .live)) 6 (bindOf t n 32 v .reason)
+  pub bind64 : (n : Name) (held w v : ℕ) → firstBroken (openRules lowest s held w (Mov64 n v)) ≡ cond (isLive n (s .live)) 6 (bindOf t n 64 v .reason)
   -- the next table of a bind that is accepted shows what the line does
   pub bound32 : (n : Name) (w v : ℕ) → bindOf t n 32 v .reason ≡ 0 → Shows (bindOf t n 32 v .next) (effect lowest s w (Mov32 n v) .values)
   pub bound64 : (n : Name) (w v : ℕ) → bindOf t n 64 v .reason ≡ 0 → Shows (bindOf t n 64 v .next) (effect lowest s w (Mov64 n v) .values)

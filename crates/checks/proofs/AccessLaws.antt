@@ -20,8 +20,8 @@ use Rattle.statement.specs.declared.Statement.the-variants.{Load, Store}
 use Rattle.statement.specs.Cells as cells
 use Rattle.statement.specs.Cells.{times}
 use Rattle.rules.specs.State.{State, Allocation, lowest, isLive, columnsOf}
-use Rattle.rules.specs.Reasons.{laneOf, columnOf, laneOfWarp, ends, openRules, named, roomed, warped, sized, permitted, placed, reads, listed, inside, cleared}
-use Rattle.statement.specs.Cells.{counted}
+use Rattle.rules.specs.Reasons.{laneOf, columnOf, laneOfWarp, openRules}
+use Rattle.rules.proofs.ByForm.{accessRules, load-first, store-first}
 use Rattle.ledger.specs.declared.Ledger.{Ledger}
 use Rattle.ledger.specs.declared.Span.{Span}
 use Rattle.ledger.specs.Booking.{findIn}
@@ -67,30 +67,16 @@ module _ (hi lo columns : List ℕ) (live : List Allocation) (h : Slots hi lo co
   found-live n = tells ledger state shown .live n
 
 -- ---- the rules of a ld or st
-abbrev ordered : Bool → Bool → Bool → Bool → ℕ
-ordered count live lane end = cond count (cond live (cond lane (cond end 0 14) 8) 6) 5
-
-module _ (s : State) (w : ℕ) (a : Access) where
+module _ (s : State) (held w : ℕ) (a : Access) where
   abbrev lives : Bool
   lives = isLive (a .address .base) (s .live)
 
-  abbrev fits : Bool
-  fits = ends s (a .address) (cells.columnsOf (a .shape) (a .num))
-
-  load-rules : firstBroken (openRules lowest s w (Load a)) ≡ ordered (not (cells.miscounted a)) lives (laneOfWarp w a) fits
-  unfolding openRules counted named roomed warped sized permitted placed reads listed inside cleared
-  load-rules = refl
-
-  store-rules : firstBroken (openRules lowest s w (Store a)) ≡ ordered (not (cells.miscounted a)) lives (laneOfWarp w a) fits
-  unfolding openRules counted named roomed warped sized permitted placed reads listed inside cleared
-  store-rules = refl
-
   -- the reason of both
   abbrev pub Both : ℕ → Type 0
-  Both r = (r ≡ firstBroken (openRules lowest s w (Load a))) × (r ≡ firstBroken (openRules lowest s w (Store a)))
+  Both r = (r ≡ firstBroken (openRules lowest s held w (Load a))) × (r ≡ firstBroken (openRules lowest s held w (Store a)))
 
-  both : (r : ℕ) → r ≡ ordered (not (cells.miscounted a)) lives (laneOfWarp w a) fits → Both r
-  both r e = (e ∙ sym load-rules, e ∙ sym store-rules)
+  both : (r : ℕ) → r ≡ firstBroken (accessRules s w a) → Both r
+  both r e = (e ∙ sym (load-first lowest s held w a), e ∙ sym (store-first lowest s held w a))
 
   pub access-5 : cells.miscounted a ≡ true → Both 5
   access-5 m = both 5 (rw m)

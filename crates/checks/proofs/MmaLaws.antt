@@ -19,8 +19,8 @@ use Rattle.statement.specs.declared.Mma.{Mma}
 use Rattle.statement.specs.declared.Statement.the-variants.{Multiply}
 use Rattle.statement.specs.Canonical.{sparse}
 use Rattle.rules.specs.State.{State, lowest, isLive, columnsOf, widthOf, numberOf}
-use Rattle.rules.specs.Reasons.{laneOf, columnOf, sharedReads, mmaEnds, operandNamed, metadataNamed, operandReads, operandEnds, metadataEnds, mmaNamed, mmaReads, allEnd, instructionOf, openRules, named, roomed, warped, sized, permitted, placed, reads, listed, inside, cleared}
-use Rattle.statement.specs.Cells.{counted}
+use Rattle.rules.specs.Reasons.{laneOf, columnOf, sharedReads, mmaEnds, operandNamed, metadataNamed, operandReads, operandEnds, metadataEnds, mmaNamed, mmaReads, allEnd, instructionOf, fieldsOf, openRules}
+use Rattle.rules.proofs.ByForm.{mmaOrder, mma-listed}
 use Rattle.rules.proofs.CountingLaws.{clash}
 use Rattle.ledger.specs.declared.Span.{Span}
 use Rattle.ledger.specs.Booking.{findIn}
@@ -59,14 +59,6 @@ descriptor-asked s hi lo numbers widths h n v p d q =
     refl
 
 -- ---- the rules of an mma
-abbrev ordered : Bool → Bool → Bool → Bool → ℕ
-ordered name read list end = cond name (cond read (cond list (cond end 0 14) 13) 12) 6
-
-mma-rules : (s : State) (w : ℕ) (m : Mma)
-    → firstBroken (openRules lowest s w (Multiply m)) ≡ ordered (named s (Multiply m)) (reads s (Multiply m)) (listed s (Multiply m)) (inside s (Multiply m))
-unfolding openRules counted roomed warped sized permitted placed cleared
-mma-rules s w m = refl
-
 both : (a b c d : Bool) → a ≡ c → b ≡ d → a && b ≡ c && d
 both a b c d p q = cc
 
@@ -98,13 +90,16 @@ operands s hi lo columns valueHi valueLo numbers widths h m d pd a pa b pb e pe 
     number-is : v .number ≡ numberOf (m .idesc) (s .values)
     number-is = ap (λ (x : Value). x .number) (pv ∙ h .values .value (m .idesc))
 
-module _ (s : State) (w : ℕ) (m : Mma) (columns : ℕ) (a b e : Asked) (v : Value) (o : Operands m columns a b e v s) where
+module _ (s : State) (held w : ℕ) (m : Mma) (columns : ℕ) (a b e : Asked) (v : Value) (o : Operands m columns a b e v s) where
+  -- the number of the first rule of listing that is broken
+  abbrev listingOf : ℕ
+  listingOf = firstBroken (instruction.listing (m .kind) (m .ws) (fieldsOf s m))
+
   -- reason 6
   abbrev names : Bool
   names = (((not (eqb columns 0) && a .named) && b .named) && e .named) && eqb (v .width) 32
 
-  named-is : names ≡ named s (Multiply m)
-  unfolding named
+  named-is : names ≡ all (mmaNamed s m)
   named-is =
       both _ _ _ _
       (both _ _ _ _
@@ -114,9 +109,9 @@ module _ (s : State) (w : ℕ) (m : Mma) (columns : ℕ) (a b e : Asked) (v : Va
       (ap (λ (x : Asked). x .named) (o .metadata)))
       (ap (λ (x : ℕ). eqb x 32) (o .width))
 
-  pub mma-6 : names ≡ false → 6 ≡ firstBroken (openRules lowest s w (Multiply m))
+  pub mma-6 : names ≡ false → 6 ≡ firstBroken (openRules lowest s held w (Multiply m))
   mma-6 t =
-      ap (λ (x : Bool). ordered x (reads s (Multiply m)) (listed s (Multiply m)) (inside s (Multiply m))) (sym t ∙ named-is) ∙ sym (mma-rules s w m)
+      ap (λ (x : Bool). mmaOrder x (all (mmaReads s m)) listingOf (all (allEnd s m))) (sym t ∙ named-is) ∙ sym (mma-listed lowest s held w m)
 
   -- reason 12: a 32-bit value is the word
   module _ (n : names ≡ true) (word : ℕ) (pw : word ≡ v .number % 2 ^ 32) (sp : Bool) (ps : sp ≡ sparse (m .metadata))
@@ -137,43 +132,41 @@ module _ (s : State) (w : ℕ) (m : Mma) (columns : ℕ) (a b e : Asked) (v : Va
     abbrev descriptors : Bool
     descriptors = (a .reads && b .reads) && eqb (i .reason) 0
 
-    reads-is : descriptors ≡ reads s (Multiply m)
-    unfolding reads
+    reads-is : descriptors ≡ all (mmaReads s m)
     reads-is =
         both _ _ _ _
         (both _ _ _ _ (ap (λ (x : Asked). x .reads) (o .operand)) (ap (λ (x : Asked). x .reads) (o .descriptor)))
         (ap (λ (x : FieldsRead). eqb (x .reason) 0) read-is)
 
-    after-6 : (x : ℕ) → x ≡ ordered true descriptors (listed s (Multiply m)) (inside s (Multiply m)) → x ≡ firstBroken (openRules lowest s w (Multiply m))
+    after-6 : (x : ℕ) → x ≡ mmaOrder true descriptors listingOf (all (allEnd s m)) → x ≡ firstBroken (openRules lowest s held w (Multiply m))
     after-6 x p =
         p
-        ∙ ap (λ (y : Bool). ordered y descriptors (listed s (Multiply m)) (inside s (Multiply m))) (sym n ∙ named-is)
-        ∙ ap (λ (y : Bool). ordered (named s (Multiply m)) y (listed s (Multiply m)) (inside s (Multiply m))) reads-is
-        ∙ sym (mma-rules s w m)
+        ∙ ap (λ (y : Bool). mmaOrder y descriptors listingOf (all (allEnd s m))) (sym n ∙ named-is)
+        ∙ ap (λ (y : Bool). mmaOrder (all (mmaNamed s m)) y listingOf (all (allEnd s m))) reads-is
+        ∙ sym (mma-listed lowest s held w m)
 
-    pub mma-12 : descriptors ≡ false → 12 ≡ firstBroken (openRules lowest s w (Multiply m))
-    mma-12 t = after-6 12 (ap (λ (y : Bool). ordered true y (listed s (Multiply m)) (inside s (Multiply m))) (sym t))
+    pub mma-12 : descriptors ≡ false → 12 ≡ firstBroken (openRules lowest s held w (Multiply m))
+    mma-12 t = after-6 12 (ap (λ (y : Bool). mmaOrder true y listingOf (all (allEnd s m))) (sym t))
 
     -- reason 13: the word has a reading, so its reason is that of the listing
     module _ (r : descriptors ≡ true) (j : ℕ) (pj : j ≡ instruction.wordReason (m .kind) (m .ws) sp word) where
       reason-is : eqb (instructionOf s m .reason) 0 ≡ true
       reason-is = sym (ap (λ (x : FieldsRead). eqb (x .reason) 0) read-is) ∙ last (a .reads && b .reads) (eqb (i .reason) 0) r
 
-      listed-is : eqb j 0 ≡ listed s (Multiply m)
-      unfolding listed
-      listed-is =
-          ap (λ (x : ℕ). eqb x 0) pj
-          ∙ ap (λ (x : InstructionRead). eqb (instruction.readReason (m .kind) (m .ws) x) 0) decoded-is
-          ∙ ap (λ (x : Bool). eqb (cond x (firstBroken (instruction.listing (m .kind) (m .ws) (instruction.fields (instructionOf s m .descriptor)))) (instructionOf s m .reason)) 0) reason-is
+      listing-is : j ≡ listingOf
+      listing-is =
+          pj
+          ∙ ap (instruction.readReason (m .kind) (m .ws)) decoded-is
+          ∙ ap (λ (x : Bool). cond x listingOf (instructionOf s m .reason)) reason-is
 
-      after-12 : (x : ℕ) → x ≡ ordered true true (eqb j 0) (inside s (Multiply m)) → x ≡ firstBroken (openRules lowest s w (Multiply m))
+      after-12 : (x : ℕ) → x ≡ mmaOrder true true j (all (allEnd s m)) → x ≡ firstBroken (openRules lowest s held w (Multiply m))
       after-12 x p =
           after-6 x (p
-          ∙ ap (λ (y : Bool). ordered true y (eqb j 0) (inside s (Multiply m))) (sym r)
-          ∙ ap (λ (y : Bool). ordered true descriptors y (inside s (Multiply m))) listed-is)
+          ∙ ap (λ (y : Bool). mmaOrder true y j (all (allEnd s m))) (sym r)
+          ∙ ap (λ (y : ℕ). mmaOrder true descriptors y (all (allEnd s m))) listing-is)
 
-      pub mma-13 : eqb j 0 ≡ false → 13 ≡ firstBroken (openRules lowest s w (Multiply m))
-      mma-13 t = after-12 13 (ap (λ (y : Bool). ordered true true y (inside s (Multiply m))) (sym t))
+      pub mma-13 : eqb j 0 ≡ false → j ≡ firstBroken (openRules lowest s held w (Multiply m))
+      mma-13 t = after-12 j (ap (λ (y : Bool). cond y (cond (all (allEnd s m)) 0 14) j) (sym t))
 
       -- reason 14, or none
       module _ (within : Bool) (q : within ≡ eqb (laneOf (m .d)) 0 && leb (columnOf (m .d) + i .fields .n) columns) where
@@ -183,12 +176,11 @@ module _ (s : State) (w : ℕ) (m : Mma) (columns : ℕ) (a b e : Asked) (v : Va
             ∙ ap (λ (x : FieldsRead). eqb (laneOf (m .d)) 0 && leb (columnOf (m .d) + x .fields .n) columns) read-is
             ∙ ap (λ (x : ℕ). eqb (laneOf (m .d)) 0 && leb (columnOf (m .d) + instructionOf s m .descriptor .n) x) (o .size)
 
-        inside-is : (within && a .ends) && e .ends ≡ inside s (Multiply m)
-        unfolding inside
+        inside-is : (within && a .ends) && e .ends ≡ all (allEnd s m)
         inside-is = both _ _ _ _ (both _ _ _ _ within-is (ap (λ (x : Asked). x .ends) (o .operand))) (ap (λ (x : Asked). x .ends) (o .metadata))
 
-        pub mma-end : eqb j 0 ≡ true → (t : Bool) → (within && a .ends) && e .ends ≡ t → cond t 0 14 ≡ firstBroken (openRules lowest s w (Multiply m))
+        pub mma-end : eqb j 0 ≡ true → (t : Bool) → (within && a .ends) && e .ends ≡ t → cond t 0 14 ≡ firstBroken (openRules lowest s held w (Multiply m))
         mma-end l t p =
             after-12 (cond t 0 14)
-            (ap (λ (y : Bool). ordered true true true y) (sym p ∙ inside-is)
-            ∙ ap (λ (y : Bool). ordered true true y (inside s (Multiply m))) (sym l))
+            (ap (λ (y : Bool). cond y 0 14) (sym p ∙ inside-is)
+            ∙ ap (λ (y : Bool). cond y (cond (all (allEnd s m)) 0 14) j) (sym l))

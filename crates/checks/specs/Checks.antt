@@ -20,10 +20,10 @@ use Rattle.bindings.specs.Shows as bindings
 use Rattle.checks.specs.declared.Asked.{Asked}
 use Rattle.checks.specs.Tables.{Tables, table}
 
--- the reason of a ld and of a st of a warp
+-- the reason of a ld and of a st of a warp, whatever is held
 abbrev pub AccessJudged : (hi lo columns : List ℕ) → ℕ → Access → ℕ → Type 0
 AccessJudged hi lo columns w a r =
-    (s : State) → Slots hi lo columns (s .live) → (r ≡ firstBroken (openRules lowest s w (Load a))) × (r ≡ firstBroken (openRules lowest s w (Store a)))
+    (s : State) (held : ℕ) → Slots hi lo columns (s .live) → (r ≡ firstBroken (openRules lowest s held w (Load a))) × (r ≡ firstBroken (openRules lowest s held w (Store a)))
 
 -- the tests of reasons 6, 12 and 14
 abbrev pub asked : Bool → Bool → Bool → Asked
@@ -59,11 +59,11 @@ pub record Operands (m : Mma) (columns : ℕ) (a b e : Asked) (v : Value) (s : S
   pub number : v .number ≡ numberOf (m .idesc) (s .values)
   pub narrow : v .width ≡ 32 → v .number < 2 ^ 32
 
--- the reason of an mma of any warp, by what was found
+-- the reason of an mma of any warp, whatever is held, by what was found
 abbrev pub OperandsJudged : Mma → (columns : ℕ) → (a b e : Asked) → Value → ℕ → Type 0
-OperandsJudged m columns a b e v r = (s : State) (w : ℕ) → Operands m columns a b e v s → r ≡ firstBroken (openRules lowest s w (Multiply m))
+OperandsJudged m columns a b e v r = (s : State) (held w : ℕ) → Operands m columns a b e v s → r ≡ firstBroken (openRules lowest s held w (Multiply m))
 
--- the reason of an mma of any warp, by the tables
+-- the reason of an mma of any warp, whatever is held, by the tables
 abbrev pub MmaJudged : (hi lo columns valueHi valueLo numbers widths : List ℕ) → Mma → ℕ → Type 0
 MmaJudged hi lo columns valueHi valueLo numbers widths m r =
-    (s : State) (w : ℕ) → Tables hi lo columns valueHi valueLo numbers widths s → r ≡ firstBroken (openRules lowest s w (Multiply m))
+    (s : State) (held w : ℕ) → Tables hi lo columns valueHi valueLo numbers widths s → r ≡ firstBroken (openRules lowest s held w (Multiply m))

@@ -204,8 +204,9 @@ fn operands_reason(m: Mma, columns: u32, a: Asked, b: Asked, e: Asked, v: Value)
     if !(a.reads & b.reads & (i.reason == 0)) {
         return 12;
     }
-    if instruction::judge(kind, m.ws, sp, word) != 0 {
-        return 13;
+    let listing = instruction::judge(kind, m.ws, sp, word);
+    if listing != 0 {
+        return listing;
     }
     if mma_within(address.offset, i.fields.n, columns) & a.ends & e.ends {
         0

@@ -17,7 +17,7 @@ use Rattle.lines.proofs.SheetTheorems.{After, after-header, one-more, all-done,
 use Rattle.laws.specs.Rules.{firstBroken}
 use Rattle.rules.specs.declared.Answer.{Answer}
 use Rattle.rules.specs.State.{State, opened, lowest, widthOf}
-use Rattle.rules.specs.Sheet.{Line, lineRules, lineEffect, given, requested, released, sum, heldAfter, peakUpTo, ours, stateBy, startsBy, reasonBy, stopBy, answer, closing, stateAfter, startsUpTo, answerOf, startsOf}
+use Rattle.rules.specs.Sheet.{Line, lineRules, lineEffect, given, requested, released, sum, heldAfter, peakUpTo, ours, stateBy, startsBy, rulesBy, reasonBy, stopBy, answer, closing, stateAfter, startsUpTo, answerOf, startsOf}
 use Rattle.rules.specs.Claims.{AllKept}
 use Rattle.rules.proofs.CountingLaws.{bool}
 use Rattle.rules.proofs.Figures.{held-next}
@@ -116,15 +116,15 @@ module _ (s starts : List ℕ) (a : Arrays) (status : Status) (requests held pea
   place-left t c = omega (arith, one-below t, g .line-is, g .few, c)
 
   -- ---- one line
-  module _ (t : at < length s) (next : Arrays) (r : Step) (d : LineDone (lineSeen s at) a status r next) where
+  module _ (t : at < length s) (next : Arrays) (r : Step) (d : LineDone held (lineSeen s at) a status r next) where
     abbrev state : State
     state = stateAfter (linesOf s) (g .done)
 
-    abbrev GivesAs : Line → Type 0
-    GivesAs x = Gives (firstBroken (lineRules lowest state x)) (lineEffect lowest state x) (given lowest state x) (requested x) (released x) a status r next
+    abbrev GivesAs : ℕ → Line → Type 0
+    GivesAs n x = Gives (firstBroken (lineRules lowest state n x)) (lineEffect lowest state x) (given lowest state x) (requested x) (released x) a status r next
 
-    gives : GivesAs (linesOf s (g .done))
-    gives = subst GivesAs line-now (d state (g .kept))
+    gives : GivesAs (heldAfter (linesOf s) (g .done)) (linesOf s (g .done))
+    gives = subst (λ (n : ℕ). GivesAs n (linesOf s (g .done))) (g .held-is) (subst (GivesAs held) line-now (d state (g .kept)))
 
     reason-is : r .reason ≡ reasonBy ours (linesOf s) (g .done)
     unfolding reasonBy
@@ -167,11 +167,11 @@ module _ (s starts : List ℕ) (a : Arrays) (status : Status) (requests held pea
               let q : g .done ≡ j = omega (arith, p, ltb-false j (g .done) e) in
               ap (reasonBy ours (linesOf s)) (sym q) ∙ sym reason-is ∙ z
 
-      kept-all : (j : ℕ) → j < suc (g .done) → AllKept (lineRules lowest (stateAfter (linesOf s) j) (linesOf s j))
+      kept-all : (j : ℕ) → j < suc (g .done) → AllKept (rulesBy ours (linesOf s) j)
       kept-all j p = zero-kept ours (linesOf s) j (zeros-next j p)
 
       pub asked-small : r .asked ≤ 512
-      asked-small = omega (arith, gives .asks z, asked-most state (linesOf s (g .done)) (kept-all (g .done) (omega arith)))
+      asked-small = omega (arith, gives .asks z, asked-most state (heldAfter (linesOf s) (g .done)) (linesOf s (g .done)) (kept-all (g .done) (omega arith)))
 
       balance : heldAfter (linesOf s) (suc (g .done)) + r .returned ≡ held + r .asked
       balance = omega (arith, held-next ours (linesOf s) (g .done) kept-all, gives .asks z, gives .returns z, g .held-is)
@@ -189,7 +189,7 @@ module _ (s starts : List ℕ) (a : Arrays) (status : Status) (requests held pea
           by : (b : Bool) → lineAt s at .ok ≡ b → b ≡ true
           by true e = refl
           by false e =
-              let q : r .reason ≡ 2 = d state (g .kept) .reasons ∙ ap (λ c. firstBroken (lineRules lowest state (seen c))) (fault-seen s (lineAt s at) e) in
+              let q : r .reason ≡ 2 = d state (g .kept) .reasons ∙ ap (λ c. firstBroken (lineRules lowest state held (seen c))) (fault-seen s (lineAt s at) e) in
               absurd (omega (arith, z, q))
 
       pub goes : (n : ℕ) → n ≡ lineAt s at .next → at < n

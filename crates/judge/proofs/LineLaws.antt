@@ -29,24 +29,24 @@ unfolding contentSeen
 laid-seen s l h = ap (λ (b : Bool). pick b (laid (l .warp) (take (l .end - l .start) (drop (l .start) s))) fault) h
 
 -- an accepted line asks for at most 512 columns
-pub asked-most : (s : State) (x : Line) → AllKept (lineRules lowest s x) → requested x ≤ 512
+pub asked-most : (s : State) (held : ℕ) (x : Line) → AllKept (lineRules lowest s held x) → requested x ≤ 512
 unfolding requested sized
-asked-most s badLayout h = omega arith
-asked-most s noForm h = omega arith
-asked-most s tooLarge h = omega arith
-asked-most s (statement w (Mov32 n v)) h = omega arith
-asked-most s (statement w (Mov64 n v)) h = omega arith
-asked-most s (statement w (Alloc n v)) h = request-exact v .power (accepted lowest s w (Alloc n v) (h .1) .sizes) .most
-asked-most s (statement w (Dealloc n v)) h = omega arith
-asked-most s (statement w Relinquish) h = omega arith
-asked-most s (statement w (Load a)) h = omega arith
-asked-most s (statement w (Store a)) h = omega arith
-asked-most s (statement w WaitLoad) h = omega arith
-asked-most s (statement w WaitStore) h = omega arith
-asked-most s (statement w FenceBefore) h = omega arith
-asked-most s (statement w FenceAfter) h = omega arith
-asked-most s (statement w (Multiply m)) h = omega arith
-asked-most s (statement w Exit) h = omega arith
+asked-most s held badLayout h = omega arith
+asked-most s held noForm h = omega arith
+asked-most s held tooLarge h = omega arith
+asked-most s held (statement w (Mov32 n v)) h = omega arith
+asked-most s held (statement w (Mov64 n v)) h = omega arith
+asked-most s held (statement w (Alloc n v)) h = request-exact v .power (accepted lowest s held w (Alloc n v) (h .1) .sizes) .most
+asked-most s held (statement w (Dealloc n v)) h = omega arith
+asked-most s held (statement w Relinquish) h = omega arith
+asked-most s held (statement w (Load a)) h = omega arith
+asked-most s held (statement w (Store a)) h = omega arith
+asked-most s held (statement w WaitLoad) h = omega arith
+asked-most s held (statement w WaitStore) h = omega arith
+asked-most s held (statement w FenceBefore) h = omega arith
+asked-most s held (statement w FenceAfter) h = omega arith
+asked-most s held (statement w (Multiply m)) h = omega arith
+asked-most s held (statement w Exit) h = omega arith
 
 -- the first of a list
 head : List ℕ → ℕ

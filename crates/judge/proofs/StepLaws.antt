@@ -29,9 +29,9 @@ use Rattle.judge.specs.Parts.{lineSeen}
 use Rattle.judge.proofs.LineLaws.{fault-seen, laid-seen}
 
 -- a line that is refused for a reason in any state
-only-done : (x : Line) (why : ℕ) → ((s : State) → firstBroken (lineRules lowest s x) ≡ why) → (why ≡ 0 → ⊥)
-    → (a : Arrays) (status : Status) → LineDone x a status (only status why) a
-only-done x why w z a status s k = record {
+only-done : (held : ℕ) (x : Line) (why : ℕ) → ((s : State) → firstBroken (lineRules lowest s held x) ≡ why) → (why ≡ 0 → ⊥)
+    → (a : Arrays) (status : Status) → LineDone held x a status (only status why) a
+only-done held x why w z a status s k = record {
   reasons = sym (w s);
   keeps = λ y. absurd (z y);
   asks = λ y. absurd (z y);
@@ -41,23 +41,24 @@ only-done x why w z a status s k = record {
   unchanged = λ n. (refl, refl);
 }
 
-refused-done : (x : Line) (why : ℕ) → ((s : State) → firstBroken (lineRules lowest s x) ≡ why) → (why ≡ 0 → ⊥)
-    → (a : Arrays) (status : Status) (r : Step) → r ≡ only status why → LineDone x a status r a
-refused-done x why w z a status r e = subst (λ (y : Step). LineDone x a status y a) (sym e) (only-done x why w z a status)
+refused-done : (held : ℕ) (x : Line) (why : ℕ) → ((s : State) → firstBroken (lineRules lowest s held x) ≡ why) → (why ≡ 0 → ⊥)
+    → (a : Arrays) (status : Status) (r : Step) → r ≡ only status why → LineDone held x a status r a
+refused-done held x why w z a status r e = subst (λ (y : Step). LineDone held x a status y a) (sym e) (only-done held x why w z a status)
 
 -- a statement that did not read
-unread-done : (w : ℕ) (reading : Reading) → Unread reading → (a : Arrays) (status : Status) (r : Step) → r ≡ only status (reasonOf reading) → LineDone (lineOf w reading) a status r a
-unread-done w (Got t) h a status r e = absurd (h t refl)
-unread-done w (NoForm at) h a status r e = refused-done noForm 3 (λ s. refl) (λ z. omega (arith, z)) a status r e
-unread-done w (TooLarge at) h a status r e = refused-done tooLarge 4 (λ s. refl) (λ z. omega (arith, z)) a status r e
+unread-done : (held w : ℕ) (reading : Reading) → Unread reading → (a : Arrays) (status : Status) (r : Step) → r ≡ only status (reasonOf reading)
+    → LineDone held (lineOf w reading) a status r a
+unread-done held w (Got t) h a status r e = absurd (h t refl)
+unread-done held w (NoForm at) h a status r e = refused-done held noForm 3 (λ s. refl) (λ z. omega (arith, z)) a status r e
+unread-done held w (TooLarge at) h a status r e = refused-done held tooLarge 4 (λ s. refl) (λ z. omega (arith, z)) a status r e
 
 -- a statement that was read, of a warp below 4
-read-done : (w : ℕ) (t : Statement) (a : Arrays) (status : Status) (r : Step) (b : Arrays) → w < 4 → StatementDone w t a status r b → LineDone (statement w t) a status r b
-read-done w t a status r b h d s k =
-    let q : firstBroken (lineRules lowest s (statement w t)) ≡ firstBroken (rules lowest s w t) = ap (λ (x : Bool). cond x (firstBroken (rules lowest s w t)) 2) (lt-ltb w 4 h) in
+read-done : (held w : ℕ) (t : Statement) (a : Arrays) (status : Status) (r : Step) (b : Arrays) → w < 4 → StatementDone held w t a status r b → LineDone held (statement w t) a status r b
+read-done held w t a status r b h d s k =
+    let q : firstBroken (lineRules lowest s held (statement w t)) ≡ firstBroken (rules lowest s held w t) = ap (λ (x : Bool). cond x (firstBroken (rules lowest s held w t)) 2) (lt-ltb w 4 h) in
     subst (λ (n : ℕ). Gives n (effect lowest s w t) (given lowest s (statement w t)) (requested (statement w t)) (released (statement w t)) a status r b) (sym q) (d s k)
 
-module _ (s : List ℕ) (at : ℕ) (l : lines.Line) (e : l ≡ lineAt s at) where
+module _ (s : List ℕ) (at held : ℕ) (l : lines.Line) (e : l ≡ lineAt s at) where
   abbrev text : List ℕ
   text = take (l .end - l .start) (drop (l .start) s)
 
@@ -65,10 +66,10 @@ module _ (s : List ℕ) (at : ℕ) (l : lines.Line) (e : l ≡ lineAt s at) wher
   next-is n f = f ∙ ap (λ (x : lines.Line). x .next) e
 
   -- its layout is wrong
-  pub fault-done : l .ok ≡ false → (a : Arrays) (status : Status) (r : Step) → r ≡ only status 2 → LineDone (lineSeen s at) a status r a
+  pub fault-done : l .ok ≡ false → (a : Arrays) (status : Status) (r : Step) → r ≡ only status 2 → LineDone held (lineSeen s at) a status r a
   fault-done h a status r f =
       let q : badLayout ≡ lineSeen s at = ap seen (sym (fault-seen s l h) ∙ ap (contentSeen s) e) in
-      subst (λ (x : Line). LineDone x a status r a) q (refused-done badLayout 2 (λ s. refl) (λ z. omega (arith, z)) a status r f)
+      subst (λ (x : Line). LineDone held x a status r a) q (refused-done held badLayout 2 (λ s. refl) (λ z. omega (arith, z)) a status r f)
 
   module _ (h : l .ok ≡ true) where
     ok-there : lineAt s at .ok ≡ true
@@ -91,13 +92,14 @@ module _ (s : List ℕ) (at : ℕ) (l : lines.Line) (e : l ≡ lineAt s at) wher
 
     module _ (reading : Reading) (f : reading ≡ readOf text) where
       -- its statement did not read
-      pub not-read : Unread reading → (a : Arrays) (status : Status) (why : ℕ) → why ≡ reasonOf reading → (r : Step) → r ≡ only status why → LineDone (lineSeen s at) a status r a
+      pub not-read : Unread reading → (a : Arrays) (status : Status) (why : ℕ) → why ≡ reasonOf reading → (r : Step) → r ≡ only status why
+          → LineDone held (lineSeen s at) a status r a
       not-read h a status why k r i =
-          subst (λ (x : Line). LineDone x a status r a) (line-is reading f) (unread-done (l .warp) reading h a status r (i ∙ ap (only status) k))
+          subst (λ (x : Line). LineDone held x a status r a) (line-is reading f) (unread-done held (l .warp) reading h a status r (i ∙ ap (only status) k))
 
       -- its statement was read
-      pub was-read : (t : Statement) → reading ≡ Got t → (a : Arrays) (status : Status) (r : Step) (b : Arrays) → StatementDone (l .warp) t a status r b
-          → LineDone (lineSeen s at) a status r b
+      pub was-read : (t : Statement) → reading ≡ Got t → (a : Arrays) (status : Status) (r : Step) (b : Arrays) → StatementDone held (l .warp) t a status r b
+          → LineDone held (lineSeen s at) a status r b
       was-read t g a status r b d =
           let q : statement (l .warp) t ≡ lineSeen s at = ap (lineOf (l .warp)) (sym g) ∙ line-is reading f in
-          subst (λ (x : Line). LineDone x a status r b) q (read-done (l .warp) t a status r b warp-small d)
+          subst (λ (x : Line). LineDone held x a status r b) q (read-done held (l .warp) t a status r b warp-small d)

@@ -57,9 +57,10 @@ fn step(
     numbers: &mut [u64; 128],
     widths: &mut [u8; 128],
     status: Status,
+    held: u32,
 ) -> Stepped
     requires { ⌜ Sized (arrays (now hi) (now lo) (now columns) (now «value_hi») (now «value_lo») (now numbers) (now widths)) ⌝ }
-    ensures done { λ r. ⌜ LineDone (lineSeen (now (sheet .entry)) at) (arrays (now (hi .entry)) (now (lo .entry)) (now (columns .entry)) (now («value_hi» .entry)) (now («value_lo» .entry)) (now (numbers .entry)) (now (widths .entry))) status (r .step) (arrays (now (hi .exit)) (now (lo .exit)) (now (columns .exit)) (now («value_hi» .exit)) (now («value_lo» .exit)) (now (numbers .exit)) (now (widths .exit))) ⌝ }
+    ensures done { λ r. ⌜ LineDone held (lineSeen (now (sheet .entry)) at) (arrays (now (hi .entry)) (now (lo .entry)) (now (columns .entry)) (now («value_hi» .entry)) (now («value_lo» .entry)) (now (numbers .entry)) (now (widths .entry))) status (r .step) (arrays (now (hi .exit)) (now (lo .exit)) (now (columns .exit)) (now («value_hi» .exit)) (now («value_lo» .exit)) (now (numbers .exit)) (now (widths .exit))) ⌝ }
     ensures next { λ r. ⌜ r .next ≡ lineAt (now (sheet .entry)) at .next ⌝ }
 {
     let line = lines::line_at(sheet, at);
@@ -81,6 +82,7 @@ fn step(
         numbers,
         widths,
         status,
+        held,
         line.warp,
         t,
     );
@@ -202,6 +204,7 @@ fn judge_lines(sheet: &[u8], room: usize, given: &mut [u16; 4096]) -> Judged
             &mut numbers,
             &mut widths,
             status,
+            held,
         );
         if done.step.reason != 0 {
             return stopped(done.step.reason, line, held, peak);

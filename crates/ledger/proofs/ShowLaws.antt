@@ -16,10 +16,10 @@ use Rattle.tokens.specs.declared.Name.{Name}
 use Rattle.statement.specs.declared.Statement.the-variants.{Alloc, Dealloc, Relinquish}
 use Rattle.rules.specs.State as rules
 use Rattle.rules.specs.State.{State, Allocation, lowest, opened}
-use Rattle.rules.specs.Reasons.{isWarp, openRules, named, roomed, warped, sized, permitted, placed, reads, listed, inside, cleared}
-use Rattle.statement.specs.Cells.{counted}
+use Rattle.rules.specs.Reasons.{isWarp, openRules}
 use Rattle.rules.specs.Sheet.{effect, startList, added, fixed}
 use Rattle.rules.proofs.CountingLaws.{least-hit}
+use Rattle.rules.proofs.ByForm.{alloc-first, dealloc-first, relinquish-first}
 use Rattle.ledger.specs.declared.Ledger.{Ledger}
 use Rattle.ledger.specs.declared.Booked.{Booked}
 use Rattle.ledger.specs.declared.Span.{Span}
@@ -139,22 +139,26 @@ module _ (l : Ledger) (s : State) (h : Shows l s) where
   held = h .slots .sum
 
   -- the reasons
-  alloc-reason : (n : Name) (w k : ℕ) → firstBroken (openRules lowest s w (Alloc n k)) ≡ cond (rules.isBound n (s .values)) 6 (allocOf l n w k .reason)
-  unfolding openRules counted named roomed warped sized permitted placed reads listed inside cleared allocOf
-  alloc-reason n w k =
-      alloc-order (rules.isLive n (s .live)) (rules.isBound n (s .values)) (isWarp (s .warp) w) (legal k) (not (s .relinquished)) (ltb (place l k) 16) (isSome (lowest (s .live) k)) (placed-test k)
+  alloc-reason : (n : Name) (held w k : ℕ) → firstBroken (openRules lowest s held w (Alloc n k)) ≡ cond (rules.isBound n (s .values)) 6 (allocOf l n w k .reason)
+  unfolding allocOf
+  alloc-reason n held w k =
+      alloc-first lowest s held w n k
+      ∙ alloc-order (rules.isLive n (s .live)) (rules.isBound n (s .values)) (isWarp (s .warp) w) (legal k) (not (s .relinquished)) (ltb (place l k) 16) (isSome (lowest (s .live) k)) (placed-test k)
       ∙ ap (cond (rules.isBound n (s .values)) 6) (sym (
       booked-reason l (withAllocation l (place l k) n w k) (firstBroken (allocRules l n w k)) (place l k * 32)
       ∙ rw (live-test n, warp-test w, h .relinquished)))
 
-  release-reason : (n : Name) (w k : ℕ) → firstBroken (openRules lowest s w (Dealloc n k)) ≡ releaseOf l n w k .reason
-  unfolding openRules counted named roomed warped sized permitted placed reads listed inside cleared releaseOf
-  release-reason n w k =
-      sym (booked-reason l (withoutAllocation l (slot l n)) (firstBroken (releaseRules l n w k)) 0 ∙ rw (live-test n, warp-test w, columns-test n))
+  release-reason : (n : Name) (held w k : ℕ) → firstBroken (openRules lowest s held w (Dealloc n k)) ≡ releaseOf l n w k .reason
+  unfolding releaseOf
+  release-reason n held w k =
+      dealloc-first lowest s held w n k
+      ∙ sym (booked-reason l (withoutAllocation l (slot l n)) (firstBroken (releaseRules l n w k)) 0 ∙ rw (live-test n, warp-test w, columns-test n))
 
-  relinquish-reason : (w : ℕ) → firstBroken (openRules lowest s w Relinquish) ≡ relinquishOf l w .reason
-  unfolding openRules counted named roomed warped sized permitted placed reads listed inside cleared relinquishOf
-  relinquish-reason w = sym (booked-reason l (afterRelinquish l w) (firstBroken (relinquishRules l w)) 0 ∙ rw (warp-test w))
+  relinquish-reason : (held w : ℕ) → firstBroken (openRules lowest s held w Relinquish) ≡ relinquishOf l w .reason
+  unfolding relinquishOf
+  relinquish-reason held w =
+      relinquish-first lowest s held w
+      ∙ sym (booked-reason l (afterRelinquish l w) (firstBroken (relinquishRules l w)) 0 ∙ rw (warp-test w))
 
   -- what a kept alloc says
   alloc-kept : (n : Name) (w k : ℕ) → allocOf l n w k .reason ≡ 0

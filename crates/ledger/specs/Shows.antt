@@ -59,9 +59,9 @@ pub record Tells (l : Ledger) (s : State) : Type 0 where
   pub find : (n : Name) → findOf l n .columns ≡ rules.columnsOf n (s .live)
   pub held : heldOf l ≡ rules.total (s .live)
   -- the reason of each method is that of the line; of an alloc, if the name is not bound to a value
-  pub alloc : (n : Name) (w k : ℕ) → firstBroken (openRules lowest s w (Alloc n k)) ≡ cond (rules.isBound n (s .values)) 6 (allocOf l n w k .reason)
-  pub release : (n : Name) (w k : ℕ) → firstBroken (openRules lowest s w (Dealloc n k)) ≡ releaseOf l n w k .reason
-  pub relinquish : (w : ℕ) → firstBroken (openRules lowest s w Relinquish) ≡ relinquishOf l w .reason
+  pub alloc : (n : Name) (held w k : ℕ) → firstBroken (openRules lowest s held w (Alloc n k)) ≡ cond (rules.isBound n (s .values)) 6 (allocOf l n w k .reason)
+  pub release : (n : Name) (held w k : ℕ) → firstBroken (openRules lowest s held w (Dealloc n k)) ≡ releaseOf l n w k .reason
+  pub relinquish : (held w : ℕ) → firstBroken (openRules lowest s held w Relinquish) ≡ relinquishOf l w .reason
   -- and the next ledger of a method that accepts shows what the line does
   pub allocated : (n : Name) (w k : ℕ) → allocOf l n w k .reason ≡ 0 → Shows (allocOf l n w k .next) (effect lowest s w (Alloc n k))
   pub started : (n : Name) (w k : ℕ) → allocOf l n w k .reason ≡ 0 → startList (lowest (s .live) k) ≡ allocOf l n w k .start ∷ []

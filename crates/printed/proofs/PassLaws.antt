@@ -21,7 +21,7 @@ use Rattle.lines.specs.Sheet.{Content, fault, contentAfter, lineCount, headed, 
 use Rattle.rules.specs.declared.Answer.{Answer}
 use Rattle.rules.specs.State.{State, Allocation, slot, lowest}
 use Rattle.rules.specs.Reasons.{sized}
-use Rattle.rules.specs.Sheet.{Line, badLayout, noForm, tooLarge, statement, ours, given, startList, stateBy, startsBy, rulesBy, lineRules, answer, answerOf, startsOf, placesAfter}
+use Rattle.rules.specs.Sheet.{Line, badLayout, noForm, tooLarge, statement, ours, given, startList, heldAfter, stateBy, startsBy, rulesBy, lineRules, answer, answerOf, startsOf, placesAfter}
 use Rattle.rules.specs.Claims.{AllKept, Passed, exits}
 use Rattle.rules.proofs.RuleLaws.{accepted}
 use Rattle.rules.proofs.RulesProved.{Clear, passing-clear, clear-passed, passed-figures}
@@ -73,7 +73,7 @@ module _ (s : List ℕ) (room : ℕ) (h : judgedOf s room .reason ≡ 0) where
   pub no-fault : (k : ℕ) → k < lineCount s - 1 → contentAfter (suc k) s ≡ fault → ⊥
   unfolding linesOf
   no-fault k i e =
-      let z : AllKept (lineRules lowest (stateBy ours (linesOf s) k) (seen fault)) = subst (λ (x : Content). AllKept (lineRules lowest (stateBy ours (linesOf s) k) (seen x))) e (is-passed .kept k i) in
+      let z : AllKept (lineRules lowest (stateBy ours (linesOf s) k) (heldAfter (linesOf s) k) (seen fault)) = subst (λ (x : Content). AllKept (lineRules lowest (stateBy ours (linesOf s) k) (heldAfter (linesOf s) k) (seen x))) e (is-passed .kept k i) in
       never (z .0)
 
   -- the last line is named, and nothing is held
@@ -179,24 +179,24 @@ legal-most v h =
     leb-true v 512 (t .1 .0)
 
 -- the row of a line that is accepted
-small-row : (s : State) (x : Line) (v : ℕ) → v < 512 → AllKept (lineRules lowest s x) → Small (rowOf x v)
+small-row : (s : State) (held : ℕ) (x : Line) (v : ℕ) → v < 512 → AllKept (lineRules lowest s held x) → Small (rowOf x v)
 unfolding rowOf sized
-small-row s badLayout v h k = tt
-small-row s noForm v h k = tt
-small-row s tooLarge v h k = tt
-small-row s (statement w (Mov32 n c)) v h k = tt
-small-row s (statement w (Mov64 n c)) v h k = tt
-small-row s (statement w (Alloc n c)) v h k = ((omega (arith, h), omega (arith, legal-most c (accepted lowest s w (Alloc n c) (k .1) .sizes))), tt)
-small-row s (statement w (Dealloc n c)) v h k = tt
-small-row s (statement w Relinquish) v h k = tt
-small-row s (statement w (Load a)) v h k = tt
-small-row s (statement w (Store a)) v h k = tt
-small-row s (statement w WaitLoad) v h k = tt
-small-row s (statement w WaitStore) v h k = tt
-small-row s (statement w FenceBefore) v h k = tt
-small-row s (statement w FenceAfter) v h k = tt
-small-row s (statement w (Multiply m)) v h k = tt
-small-row s (statement w Exit) v h k = tt
+small-row s held badLayout v h k = tt
+small-row s held noForm v h k = tt
+small-row s held tooLarge v h k = tt
+small-row s held (statement w (Mov32 n c)) v h k = tt
+small-row s held (statement w (Mov64 n c)) v h k = tt
+small-row s held (statement w (Alloc n c)) v h k = ((omega (arith, h), omega (arith, legal-most c (accepted lowest s held w (Alloc n c) (k .1) .sizes))), tt)
+small-row s held (statement w (Dealloc n c)) v h k = tt
+small-row s held (statement w Relinquish) v h k = tt
+small-row s held (statement w (Load a)) v h k = tt
+small-row s held (statement w (Store a)) v h k = tt
+small-row s held (statement w WaitLoad) v h k = tt
+small-row s held (statement w WaitStore) v h k = tt
+small-row s held (statement w FenceBefore) v h k = tt
+small-row s held (statement w FenceAfter) v h k = tt
+small-row s held (statement w (Multiply m)) v h k = tt
+small-row s held (statement w Exit) v h k = tt
 
 small-append : (l m : List Reported) → Small l → Small m → Small (l ++ m)
 small-append [] m p q = q
@@ -207,7 +207,7 @@ unfolding rowsUpTo
 small-rows line starts l zero h = tt
 small-rows line starts l (suc n) h =
     let v = getD starts (length (rowsUpTo line starts n)) 0 in
-    small-append (rowsUpTo line starts n) (rowOf (line n) v) (small-rows line starts l n (λ k i. h k (omega (arith, i)))) (small-row (stateBy ours line n) (line n) v (low-at starts (length (rowsUpTo line starts n)) l) (h n (omega arith)))
+    small-append (rowsUpTo line starts n) (rowOf (line n) v) (small-rows line starts l n (λ k i. h k (omega (arith, i)))) (small-row (stateBy ours line n) (heldAfter line n) (line n) v (low-at starts (length (rowsUpTo line starts n)) l) (h n (omega arith)))
 
 -- ---- exit has no row
 

@@ -15,7 +15,7 @@ use Rattle.statement.specs.declared.Statement.the-variants.{Mov32, Mov64, Alloc
 use Rattle.lines.specs.Sheet.{lineCount}
 use Rattle.rules.specs.State.{State, lowest}
 use Rattle.rules.specs.Reasons.{placed}
-use Rattle.rules.specs.Sheet.{Line, badLayout, noForm, tooLarge, statement, ours, given, startList, stateBy, startsBy, rulesBy, lineRules, startsOf}
+use Rattle.rules.specs.Sheet.{Line, badLayout, noForm, tooLarge, statement, ours, given, startList, heldAfter, stateBy, startsBy, rulesBy, lineRules, startsOf}
 use Rattle.rules.specs.Claims.{AllKept}
 use Rattle.rules.proofs.RuleLaws.{accepted}
 use Rattle.judge.specs.Judged.{linesOf, sheetOf}
@@ -39,31 +39,31 @@ one-start : (o : Option ℕ) → isSome o ≡ true → _≡_ {A = ℕ} 1 (length
 one-start none e = never e
 one-start (some x) e = refl
 
-row-start : (s : State) (x : Line) (v : ℕ) → AllKept (lineRules lowest s x) → length (rowOf x v) ≡ length (given lowest s x)
+row-start : (s : State) (held : ℕ) (x : Line) (v : ℕ) → AllKept (lineRules lowest s held x) → length (rowOf x v) ≡ length (given lowest s x)
 unfolding rowOf given placed
-row-start s badLayout v k = refl
-row-start s noForm v k = refl
-row-start s tooLarge v k = refl
-row-start s (statement w (Mov32 n c)) v k = refl
-row-start s (statement w (Mov64 n c)) v k = refl
-row-start s (statement w (Alloc n c)) v k = one-start (lowest (s .live) c) (accepted lowest s w (Alloc n c) (k .1) .places)
-row-start s (statement w (Dealloc n c)) v k = refl
-row-start s (statement w Relinquish) v k = refl
-row-start s (statement w (Load a)) v k = refl
-row-start s (statement w (Store a)) v k = refl
-row-start s (statement w WaitLoad) v k = refl
-row-start s (statement w WaitStore) v k = refl
-row-start s (statement w FenceBefore) v k = refl
-row-start s (statement w FenceAfter) v k = refl
-row-start s (statement w (Multiply m)) v k = refl
-row-start s (statement w Exit) v k = refl
+row-start s held badLayout v k = refl
+row-start s held noForm v k = refl
+row-start s held tooLarge v k = refl
+row-start s held (statement w (Mov32 n c)) v k = refl
+row-start s held (statement w (Mov64 n c)) v k = refl
+row-start s held (statement w (Alloc n c)) v k = one-start (lowest (s .live) c) (accepted lowest s held w (Alloc n c) (k .1) .places)
+row-start s held (statement w (Dealloc n c)) v k = refl
+row-start s held (statement w Relinquish) v k = refl
+row-start s held (statement w (Load a)) v k = refl
+row-start s held (statement w (Store a)) v k = refl
+row-start s held (statement w WaitLoad) v k = refl
+row-start s held (statement w WaitStore) v k = refl
+row-start s held (statement w FenceBefore) v k = refl
+row-start s held (statement w FenceAfter) v k = refl
+row-start s held (statement w (Multiply m)) v k = refl
+row-start s held (statement w Exit) v k = refl
 
 rows-starts : (line : ℕ → Line) (starts : List ℕ) (n : ℕ) → ((k : ℕ) → k < n → AllKept (rulesBy ours line k)) → length (rowsUpTo line starts n) ≡ length (startsBy ours line n)
 unfolding rowsUpTo startsBy
 rows-starts line starts zero h = refl
 rows-starts line starts (suc n) h =
     let v = getD starts (length (rowsUpTo line starts n)) 0 in
-    omega (arith, length-append (rowsUpTo line starts n) (rowOf (line n) v), length-append (startsBy ours line n) (given lowest (stateBy ours line n) (line n)), rows-starts line starts n (λ k i. h k (omega (arith, i))), row-start (stateBy ours line n) (line n) v (h n (omega arith)))
+    omega (arith, length-append (rowsUpTo line starts n) (rowOf (line n) v), length-append (startsBy ours line n) (given lowest (stateBy ours line n) (line n)), rows-starts line starts n (λ k i. h k (omega (arith, i))), row-start (stateBy ours line n) (heldAfter line n) (line n) v (h n (omega arith)))
 
 -- a sheet that passes has as many rows as starts
 pub row-for-each : (s : List ℕ) → answered s .reason ≡ 0 → length (rowsOf s) ≡ length (startsOf (sheetOf s))

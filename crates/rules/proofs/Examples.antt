@@ -83,7 +83,7 @@ record Answered : Type 0 where
   mma-unread : answerOf (of (mma 64 0)) 4 ≡ answer 12 6 64 64
 
 answered : Answered
-unfolding every least s.isLive s.columnsOf s.without s.total s.covers s.isFree s.freeFrom s.slot s.lowest s.isBound s.widthOf s.numberOf s.bind cells.counted reasons.named reasons.roomed reasons.laneOfWarp reasons.warped reasons.sized reasons.permitted reasons.placed reasons.instructionOf reasons.reads reasons.listed reasons.inside reasons.cleared reasons.openRules reasons.closedRules reasons.rules answerAt answerBy closing stopBy reasonBy stateBy startsBy given effect requested released sum heldAfter peakUpTo ones onesIn cells.registersOf cells.lanesOf cells.columnsOf cells.miscounted instruction.decoded shared.decoded
+unfolding every least s.isLive s.columnsOf s.without s.total s.covers s.isFree s.freeFrom s.slot s.lowest s.isBound s.widthOf s.numberOf s.bind cells.counted reasons.named reasons.roomed reasons.laneOfWarp reasons.warped reasons.sized reasons.permitted reasons.placed reasons.instructionOf reasons.reads reasons.mListed reasons.nListed reasons.typesListed reasons.inside reasons.cleared reasons.openRules reasons.closedRules reasons.rules answerAt answerBy closing stopBy reasonBy stateBy startsBy given effect requested released sum heldAfter peakUpTo ones onesIn cells.registersOf cells.lanesOf cells.columnsOf cells.miscounted instruction.decoded shared.decoded
 answered =
     record {
       header-alone = refl;

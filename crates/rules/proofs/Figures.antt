@@ -36,27 +36,27 @@ total-added n v none l e = absurd (clash e refl)
 total-added n v (some s) l e = refl
 
 -- one accepted line
-balance-step : (place : Placer) (s : State) (x : Line) → AllKept (lineRules place s x) → total (s .live) + requested x ≡ total (lineEffect place s x .live) + released x
+balance-step : (place : Placer) (s : State) (held : ℕ) (x : Line) → AllKept (lineRules place s held x) → total (s .live) + requested x ≡ total (lineEffect place s x .live) + released x
 unfolding effect requested released named sized placed
-balance-step place s badLayout h = refl
-balance-step place s noForm h = refl
-balance-step place s tooLarge h = refl
-balance-step place s (statement w (Mov32 n v)) h = refl
-balance-step place s (statement w (Mov64 n v)) h = refl
-balance-step place s (statement w (Alloc n v)) h =
-    omega (arith, total-added n v (place (s .live) v) (s .live) (accepted place s w (Alloc n v) (h .1) .places))
-balance-step place s (statement w (Dealloc n v)) h =
-    let a = accepted place s w (Dealloc n v) (h .1) in
+balance-step place s held badLayout h = refl
+balance-step place s held noForm h = refl
+balance-step place s held tooLarge h = refl
+balance-step place s held (statement w (Mov32 n v)) h = refl
+balance-step place s held (statement w (Mov64 n v)) h = refl
+balance-step place s held (statement w (Alloc n v)) h =
+    omega (arith, total-added n v (place (s .live) v) (s .live) (accepted place s held w (Alloc n v) (h .1) .places))
+balance-step place s held (statement w (Dealloc n v)) h =
+    let a = accepted place s held w (Dealloc n v) (h .1) in
     omega (arith, total-without n (s .live) (a .names), eqb-true (columnsOf n (s .live)) v (a .sizes))
-balance-step place s (statement w Relinquish) h = refl
-balance-step place s (statement w (Load a)) h = refl
-balance-step place s (statement w (Store a)) h = refl
-balance-step place s (statement w WaitLoad) h = refl
-balance-step place s (statement w WaitStore) h = refl
-balance-step place s (statement w FenceBefore) h = refl
-balance-step place s (statement w FenceAfter) h = refl
-balance-step place s (statement w (Multiply m)) h = refl
-balance-step place s (statement w Exit) h = refl
+balance-step place s held (statement w Relinquish) h = refl
+balance-step place s held (statement w (Load a)) h = refl
+balance-step place s held (statement w (Store a)) h = refl
+balance-step place s held (statement w WaitLoad) h = refl
+balance-step place s held (statement w WaitStore) h = refl
+balance-step place s held (statement w FenceBefore) h = refl
+balance-step place s held (statement w FenceAfter) h = refl
+balance-step place s held (statement w (Multiply m)) h = refl
+balance-step place s held (statement w Exit) h = refl
 
 module _ (placing : Placing) (line : ℕ → Line) where
   -- what is asked for is what was given back and what is live
@@ -64,7 +64,7 @@ module _ (placing : Placing) (line : ℕ → Line) where
   unfolding sum stateBy total
   balance zero h = refl
   balance (suc n) h =
-      omega (arith, balance n (λ k p. h k (omega (arith, p))), balance-step (placing n) (stateBy placing line n) (line n) (h n (omega arith)))
+      omega (arith, balance n (λ k p. h k (omega (arith, p))), balance-step (placing n) (stateBy placing line n) (heldAfter line n) (line n) (h n (omega arith)))
 
   -- the columns held are those of the live allocations
   pub held-total : (n : ℕ) → ((k : ℕ) → k < n → AllKept (rulesBy placing line k)) → heldAfter line n ≡ total (stateBy placing line n .live)

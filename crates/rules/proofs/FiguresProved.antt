@@ -20,24 +20,24 @@ use Rattle.rules.proofs.Figures.{held-total}
 use Rattle.rules.proofs.RulesProved.{zero-kept, stop-le, stop-hit, stop-before, stop-none, Clear, clear-passed, passing-clear, bad-header, at-stop, at-end}
 
 -- an accepted exit leaves nothing live
-exit-clears : (place : Placer) (s : State) (x : Line) → AllKept (lineRules place s x) → exits x ≡ true → total (lineEffect place s x .live) ≡ 0
+exit-clears : (place : Placer) (s : State) (held : ℕ) (x : Line) → held ≡ total (s .live) → AllKept (lineRules place s held x) → exits x ≡ true → total (lineEffect place s x .live) ≡ 0
 unfolding effect cleared
-exit-clears place s badLayout h e = absurd (clash e refl)
-exit-clears place s noForm h e = absurd (clash e refl)
-exit-clears place s tooLarge h e = absurd (clash e refl)
-exit-clears place s (statement w (Mov32 n v)) h e = absurd (clash e refl)
-exit-clears place s (statement w (Mov64 n v)) h e = absurd (clash e refl)
-exit-clears place s (statement w (Alloc n v)) h e = absurd (clash e refl)
-exit-clears place s (statement w (Dealloc n v)) h e = absurd (clash e refl)
-exit-clears place s (statement w Relinquish) h e = absurd (clash e refl)
-exit-clears place s (statement w (Load a)) h e = absurd (clash e refl)
-exit-clears place s (statement w (Store a)) h e = absurd (clash e refl)
-exit-clears place s (statement w WaitLoad) h e = absurd (clash e refl)
-exit-clears place s (statement w WaitStore) h e = absurd (clash e refl)
-exit-clears place s (statement w FenceBefore) h e = absurd (clash e refl)
-exit-clears place s (statement w FenceAfter) h e = absurd (clash e refl)
-exit-clears place s (statement w (Multiply m)) h e = absurd (clash e refl)
-exit-clears place s (statement w Exit) h e = eqb-true (total (s .live)) 0 (accepted place s w Exit (h .1) .clears)
+exit-clears place s held badLayout q h e = absurd (clash e refl)
+exit-clears place s held noForm q h e = absurd (clash e refl)
+exit-clears place s held tooLarge q h e = absurd (clash e refl)
+exit-clears place s held (statement w (Mov32 n v)) q h e = absurd (clash e refl)
+exit-clears place s held (statement w (Mov64 n v)) q h e = absurd (clash e refl)
+exit-clears place s held (statement w (Alloc n v)) q h e = absurd (clash e refl)
+exit-clears place s held (statement w (Dealloc n v)) q h e = absurd (clash e refl)
+exit-clears place s held (statement w Relinquish) q h e = absurd (clash e refl)
+exit-clears place s held (statement w (Load a)) q h e = absurd (clash e refl)
+exit-clears place s held (statement w (Store a)) q h e = absurd (clash e refl)
+exit-clears place s held (statement w WaitLoad) q h e = absurd (clash e refl)
+exit-clears place s held (statement w WaitStore) q h e = absurd (clash e refl)
+exit-clears place s held (statement w FenceBefore) q h e = absurd (clash e refl)
+exit-clears place s held (statement w FenceAfter) q h e = absurd (clash e refl)
+exit-clears place s held (statement w (Multiply m)) q h e = absurd (clash e refl)
+exit-clears place s held (statement w Exit) q h e = sym q ∙ eqb-true held 0 (accepted place s held w Exit (h .1) .clears)
 
 -- ---- the peak
 held-first : (line : ℕ → Line) → heldAfter line 0 ≡ 0
@@ -92,7 +92,10 @@ module _ (placing : Placing) (sheet : Sheet) (room : ℕ) where
   unfolding stateBy
   clear-nothing c =
       let p = clear-passed placing sheet c in
-      subst (λ n. live n ≡ 0) (p .is-last) (exit-clears (placing (p .last)) (stateBy placing lines (p .last)) (lines (p .last)) (p .kept (p .last) (omega (arith, p .is-last))) (p .ends))
+      subst (λ n. live n ≡ 0) (p .is-last)
+      (exit-clears (placing (p .last)) (stateBy placing lines (p .last)) (heldAfter lines (p .last)) (lines (p .last))
+      (held-total placing lines (p .last) (λ k i. p .kept k (omega (arith, p .is-last, i))))
+      (p .kept (p .last) (omega (arith, p .is-last))) (p .ends))
 
   -- the figures after n accepted lines
   record Stands (n : ℕ) : Type 0 where

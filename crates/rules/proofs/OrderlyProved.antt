@@ -15,7 +15,7 @@ use Rattle.tokens.specs.Names.{sameName}
 use Rattle.statement.specs.declared.Statement.the-variants.{Mov32, Mov64, Alloc, Dealloc, Relinquish, Load, Store, WaitLoad, WaitStore, FenceBefore, FenceAfter, Multiply, Exit}
 use Rattle.rules.specs.State.{State, Allocation, Binding, Placer, isLive, without, isBound, bind}
 use Rattle.rules.specs.Reasons.{named, roomed, roomFor}
-use Rattle.rules.specs.Sheet.{Line, badLayout, noForm, tooLarge, statement, Placing, lineRules, lineEffect, effect, added, moved, stateBy, rulesBy}
+use Rattle.rules.specs.Sheet.{Line, badLayout, noForm, tooLarge, statement, Placing, lineRules, lineEffect, effect, added, moved, heldAfter, stateBy, rulesBy}
 use Rattle.rules.specs.Claims.{AllKept, Orderly}
 use Rattle.rules.proofs.CountingLaws.{and-l, and-r, or-cases, not-t, clash}
 use Rattle.rules.proofs.RuleLaws.{accepted}
@@ -110,27 +110,27 @@ alloc-orderly s n v place w p o = record { few = o .few; apart = λ m live bound
     at m bound (inl e) = clash (subst (λ k. isBound k (s .values) ≡ true) (sym (same-name n m e)) bound) (not-t (isBound n (s .values)) (and-r (not (isLive n (s .live))) (not (isBound n (s .values))) p))
     at m bound (inr e) = o .apart m e bound
 
-orderly-step : (place : Placer) (s : State) (x : Line) → AllKept (lineRules place s x) → Orderly s → Orderly (lineEffect place s x)
+orderly-step : (place : Placer) (s : State) (held : ℕ) (x : Line) → AllKept (lineRules place s held x) → Orderly s → Orderly (lineEffect place s x)
 unfolding effect named roomed
-orderly-step place s badLayout h o = o
-orderly-step place s noForm h o = o
-orderly-step place s tooLarge h o = o
-orderly-step place s (statement w (Mov32 n v)) h o = let a = accepted place s w (Mov32 n v) (h .1) in mov-orderly s n 32 v (a .names) (a .rooms) o
-orderly-step place s (statement w (Mov64 n v)) h o = let a = accepted place s w (Mov64 n v) (h .1) in mov-orderly s n 64 v (a .names) (a .rooms) o
-orderly-step place s (statement w (Alloc n v)) h o = alloc-orderly s n v place w (accepted place s w (Alloc n v) (h .1) .names) o
-orderly-step place s (statement w (Dealloc n v)) h o = record { few = o .few; apart = λ m live bound. o .apart m (live-without m n (s .live) live) bound }
-orderly-step place s (statement w Relinquish) h o = record { few = o .few; apart = o .apart }
-orderly-step place s (statement w (Load a)) h o = o
-orderly-step place s (statement w (Store a)) h o = o
-orderly-step place s (statement w WaitLoad) h o = o
-orderly-step place s (statement w WaitStore) h o = o
-orderly-step place s (statement w FenceBefore) h o = o
-orderly-step place s (statement w FenceAfter) h o = o
-orderly-step place s (statement w (Multiply m)) h o = o
-orderly-step place s (statement w Exit) h o = record { few = o .few; apart = o .apart }
+orderly-step place s held badLayout h o = o
+orderly-step place s held noForm h o = o
+orderly-step place s held tooLarge h o = o
+orderly-step place s held (statement w (Mov32 n v)) h o = let a = accepted place s held w (Mov32 n v) (h .1) in mov-orderly s n 32 v (a .names) (a .rooms) o
+orderly-step place s held (statement w (Mov64 n v)) h o = let a = accepted place s held w (Mov64 n v) (h .1) in mov-orderly s n 64 v (a .names) (a .rooms) o
+orderly-step place s held (statement w (Alloc n v)) h o = alloc-orderly s n v place w (accepted place s held w (Alloc n v) (h .1) .names) o
+orderly-step place s held (statement w (Dealloc n v)) h o = record { few = o .few; apart = λ m live bound. o .apart m (live-without m n (s .live) live) bound }
+orderly-step place s held (statement w Relinquish) h o = record { few = o .few; apart = o .apart }
+orderly-step place s held (statement w (Load a)) h o = o
+orderly-step place s held (statement w (Store a)) h o = o
+orderly-step place s held (statement w WaitLoad) h o = o
+orderly-step place s held (statement w WaitStore) h o = o
+orderly-step place s held (statement w FenceBefore) h o = o
+orderly-step place s held (statement w FenceAfter) h o = o
+orderly-step place s held (statement w (Multiply m)) h o = o
+orderly-step place s held (statement w Exit) h o = record { few = o .few; apart = o .apart }
 
 -- after any number of accepted lines, under any placing
 pub orderly : (placing : Placing) (line : ℕ → Line) (n : ℕ) → ((k : ℕ) → k < n → AllKept (rulesBy placing line k)) → Orderly (stateBy placing line n)
 unfolding stateBy isLive
 orderly placing line zero h = record { few = omega arith; apart = λ m live bound. clash live refl }
-orderly placing line (suc n) h = orderly-step (placing n) (stateBy placing line n) (line n) (h n (omega arith)) (orderly placing line n (λ k p. h k (omega (arith, p))))
+orderly placing line (suc n) h = orderly-step (placing n) (stateBy placing line n) (heldAfter line n) (line n) (h n (omega arith)) (orderly placing line n (λ k p. h k (omega (arith, p))))

@@ -10,10 +10,10 @@ use borrow.Author.Tests.{eq-eqb, ne-eqb, ltb-true, leb-true}
 use Rattle.laws.specs.Rules.{Rule, rule, firstBroken}
 use Rattle.statement.specs.declared.Statement.{Statement}
 use Rattle.rules.specs.State.{State, Placer}
-use Rattle.rules.specs.Reasons.{named, roomed, warped, sized, permitted, placed, reads, listed, inside, cleared, openRules, closedRules, rules}
+use Rattle.rules.specs.Reasons.{named, roomed, warped, sized, permitted, placed, reads, mListed, nListed, typesListed, inside, cleared, openRules, closedRules, rules}
 use Rattle.statement.specs.Cells.{counted}
 use Rattle.rules.specs.Sheet.{Line, badLayout, noForm, tooLarge, statement, lineRules}
-use Rattle.rules.specs.Claims.{AllKept, FirstIs, ascends, InOrder}
+use Rattle.rules.specs.Claims.{AllKept, FirstIs, numbers, InOrder}
 use Rattle.rules.proofs.CountingLaws.{and-l, and-r, clash}
 
 -- the numbers are from 1 to m
@@ -61,56 +61,53 @@ in-turn-kept m xs ys p e = in-turn m xs ys p ∙ rw (eq-eqb (firstBroken xs) 0 e
 pub in-turn-broken : (m : ℕ) (xs ys : List Rule) → Numbered m xs → 0 < firstBroken xs → firstBroken (xs ++ ys) ≡ firstBroken xs
 in-turn-broken m xs ys p h = in-turn m xs ys p ∙ rw (ne-eqb (firstBroken xs) 0 (omega (arith, h)))
 
--- ---- the rules of a line
-numbered : ℕ → List Rule → Bool
+-- the same, as a test
+unfoldable pub numbered : ℕ → List Rule → Bool
 numbered m [] = true
 numbered m (rule n kept ∷ rs) = ltb 0 n && (leb n m && numbered m rs)
 
-by-test : (m : ℕ) (rs : List Rule) → numbered m rs ≡ true → Numbered m rs
+pub by-test : (m : ℕ) (rs : List Rule) → numbered m rs ≡ true → Numbered m rs
 unfolding numbered
 by-test m [] e = tt
 by-test m (rule n kept ∷ rs) e =
     let r = and-r (ltb 0 n) (leb n m && numbered m rs) e in
     (ltb-true 0 n (and-l (ltb 0 n) (leb n m && numbered m rs) e), (leb-true n m (and-l (leb n m) (numbered m rs) r), by-test m rs (and-r (leb n m) (numbered m rs) r)))
 
-open-numbered : (place : Placer) (s : State) (w : ℕ) (t : Statement) → Numbered 15 (openRules place s w t)
+-- ---- the rules of a line
+open-numbered : (place : Placer) (s : State) (held w : ℕ) (t : Statement) → Numbered 15 (openRules place s held w t)
 unfolding openRules numbered
-open-numbered place s w t = by-test 15 (openRules place s w t) refl
+open-numbered place s held w t = by-test 15 (openRules place s held w t) refl
 
 closed-numbered : (t : Statement) → Numbered 15 (closedRules t)
 unfolding closedRules numbered
 closed-numbered t = by-test 15 (closedRules t) refl
 
-pub rules-numbered : (place : Placer) (s : State) (w : ℕ) (t : Statement) → Numbered 15 (rules place s w t)
+pub rules-numbered : (place : Placer) (s : State) (held w : ℕ) (t : Statement) → Numbered 15 (rules place s held w t)
 unfolding rules
-rules-numbered place s w t = by (s .exited)
+rules-numbered place s held w t = by (s .exited)
   where
-    by : (b : Bool) → Numbered 15 (cond b (closedRules t) (openRules place s w t))
+    by : (b : Bool) → Numbered 15 (cond b (closedRules t) (openRules place s held w t))
     by true = closed-numbered t
-    by false = open-numbered place s w t
+    by false = open-numbered place s held w t
 
-pub line-numbered : (place : Placer) (s : State) (x : Line) → Numbered 15 (lineRules place s x)
+pub line-numbered : (place : Placer) (s : State) (held : ℕ) (x : Line) → Numbered 15 (lineRules place s held x)
 unfolding numbered
-line-numbered place s badLayout = by-test 15 (rule 2 false ∷ []) refl
-line-numbered place s noForm = by-test 15 (rule 3 false ∷ []) refl
-line-numbered place s tooLarge = by-test 15 (rule 4 false ∷ []) refl
-line-numbered place s (statement w t) = (omega arith, (omega arith, rules-numbered place s w t))
+line-numbered place s held badLayout = by-test 15 (rule 2 false ∷ []) refl
+line-numbered place s held noForm = by-test 15 (rule 3 false ∷ []) refl
+line-numbered place s held tooLarge = by-test 15 (rule 4 false ∷ []) refl
+line-numbered place s held (statement w t) = (omega arith, (omega arith, rules-numbered place s held w t))
 
--- the published order of a line is that of the numbers
-order-by : (exited : Bool) (place : Placer) (s : State) (w : ℕ) (t : Statement) → ascends 2 (cond exited (closedRules t) (openRules place s w t)) ≡ true
-unfolding openRules closedRules
-order-by true place s w t = refl
-order-by false place s w t = refl
-
-pub in-order : (place : Placer) (s : State) (x : Line) → InOrder place s x
-unfolding rules
-in-order place s badLayout = refl
-in-order place s noForm = refl
-in-order place s tooLarge = refl
-in-order place s (statement w t) = order-by (s .exited) place s w t
+-- the published order of a line
+pub in-order : (place : Placer) (s : State) (held w : ℕ) (t : Statement) → InOrder place s held w t
+unfolding rules openRules closedRules
+in-order place s held w t =
+    record {
+      before = λ e. ap (λ b. numbers (rule 2 (ltb w 4) ∷ cond b (closedRules t) (openRules place s held w t))) e;
+      after = λ e. ap (λ b. numbers (rule 2 (ltb w 4) ∷ cond b (closedRules t) (openRules place s held w t))) e;
+    }
 
 -- ---- a statement that keeps every rule
-pub record Accepted (place : Placer) (s : State) (w : ℕ) (t : Statement) : Type 0 where
+pub record Accepted (place : Placer) (s : State) (held w : ℕ) (t : Statement) : Type 0 where
   pub open′ : s .exited ≡ false
   pub counts : counted t ≡ true
   pub names : named s t ≡ true
@@ -120,13 +117,15 @@ pub record Accepted (place : Placer) (s : State) (w : ℕ) (t : Statement) : Typ
   pub permits : permitted s t ≡ true
   pub places : placed place s t ≡ true
   pub words : reads s t ≡ true
-  pub lists : listed s t ≡ true
+  pub lists-m : mListed s t ≡ true
+  pub lists-n : nListed s t ≡ true
+  pub lists-types : typesListed s t ≡ true
   pub ends : inside s t ≡ true
-  pub clears : cleared s t ≡ true
+  pub clears : cleared held t ≡ true
 
-kept-open : (place : Placer) (s : State) (w : ℕ) (t : Statement) → s .exited ≡ false → AllKept (openRules place s w t) → Accepted place s w t
+kept-open : (place : Placer) (s : State) (held w : ℕ) (t : Statement) → s .exited ≡ false → AllKept (openRules place s held w t) → Accepted place s held w t
 unfolding openRules
-kept-open place s w t e h =
+kept-open place s held w t e h =
     record {
       open′ = e;
       counts = h .0;
@@ -137,9 +136,11 @@ kept-open place s w t e h =
       permits = h .1 .1 .1 .1 .1 .0;
       places = h .1 .1 .1 .1 .1 .1 .0;
       words = h .1 .1 .1 .1 .1 .1 .1 .0;
-      lists = h .1 .1 .1 .1 .1 .1 .1 .1 .0;
-      ends = h .1 .1 .1 .1 .1 .1 .1 .1 .1 .0;
-      clears = h .1 .1 .1 .1 .1 .1 .1 .1 .1 .1 .0;
+      lists-m = h .1 .1 .1 .1 .1 .1 .1 .1 .0;
+      lists-n = h .1 .1 .1 .1 .1 .1 .1 .1 .1 .0;
+      lists-types = h .1 .1 .1 .1 .1 .1 .1 .1 .1 .1 .0;
+      ends = h .1 .1 .1 .1 .1 .1 .1 .1 .1 .1 .1 .0;
+      clears = h .1 .1 .1 .1 .1 .1 .1 .1 .1 .1 .1 .1 .0;
     }
 
 -- after exit a rule is broken
@@ -147,10 +148,10 @@ pub kept-closed : (t : Statement) → AllKept (closedRules t) → ⊥
 unfolding closedRules
 kept-closed t h = clash (h .1 .0) refl
 
-pub accepted : (place : Placer) (s : State) (w : ℕ) (t : Statement) → AllKept (rules place s w t) → Accepted place s w t
+pub accepted : (place : Placer) (s : State) (held w : ℕ) (t : Statement) → AllKept (rules place s held w t) → Accepted place s held w t
 unfolding rules
-accepted place s w t h = by (s .exited) refl h
+accepted place s held w t h = by (s .exited) refl h
   where
-    by : (b : Bool) → s .exited ≡ b → AllKept (cond b (closedRules t) (openRules place s w t)) → Accepted place s w t
+    by : (b : Bool) → s .exited ≡ b → AllKept (cond b (closedRules t) (openRules place s held w t)) → Accepted place s held w t
     by true e k = absurd (kept-closed t k)
-    by false e k = kept-open place s w t e k
+    by false e k = kept-open place s held w t e k

@@ -60,12 +60,12 @@ other-stays place s (statement w (Multiply m)) e = refl
 other-stays place s (statement w Exit) e = absurd (clash refl e)
 
 -- after exit every line breaks a rule
-pub no-more : (place : Placer) (s : State) (x : Line) → AllKept (lineRules place s x) → s .exited ≡ true → ⊥
+pub no-more : (place : Placer) (s : State) (held : ℕ) (x : Line) → AllKept (lineRules place s held x) → s .exited ≡ true → ⊥
 unfolding rules
-no-more place s badLayout h e = clash (h .0) refl
-no-more place s noForm h e = clash (h .0) refl
-no-more place s tooLarge h e = clash (h .0) refl
-no-more place s (statement w t) h e = kept-closed t (subst (λ b. AllKept (cond b (closedRules t) (openRules place s w t))) e (h .1))
+no-more place s held badLayout h e = clash (h .0) refl
+no-more place s held noForm h e = clash (h .0) refl
+no-more place s held tooLarge h e = clash (h .0) refl
+no-more place s held (statement w t) h e = kept-closed t (subst (λ b. AllKept (cond b (closedRules t) (openRules place s held w t))) e (h .1))
 
 -- ---- the lines' own reasons
 module _ (placing : Placing) (line : ℕ → Line) where
@@ -74,7 +74,7 @@ module _ (placing : Placing) (line : ℕ → Line) where
 
   pub zero-kept : (k : ℕ) → reason k ≡ 0 → AllKept (rulesBy placing line k)
   unfolding reasonBy
-  zero-kept k e = none-kept 15 (rulesBy placing line k) (line-numbered (placing k) (stateBy placing line k) (line k)) e
+  zero-kept k e = none-kept 15 (rulesBy placing line k) (line-numbered (placing k) (stateBy placing line k) (heldAfter line k) (line k)) e
 
   pub kept-zero : (k : ℕ) → AllKept (rulesBy placing line k) → reason k ≡ 0
   unfolding reasonBy
@@ -82,7 +82,7 @@ module _ (placing : Placing) (line : ℕ → Line) where
 
   pub reason-most : (k : ℕ) → reason k ≤ 15
   unfolding reasonBy
-  reason-most k = at-most 15 (rulesBy placing line k) (line-numbered (placing k) (stateBy placing line k) (line k))
+  reason-most k = at-most 15 (rulesBy placing line k) (line-numbered (placing k) (stateBy placing line k) (heldAfter line k) (line k))
 
   -- the line where the sheet stops is refused, and none before it
   pub stop-le : (n : ℕ) → stopBy placing line n ≤ n
@@ -127,13 +127,13 @@ module _ (placing : Placing) (line : ℕ → Line) where
     where
       at : (exits (line m) ≡ true) ⊎ (exits (line m) ≡ false) → exits (line m) ≡ true
       at (inl z) = z
-      at (inr z) = absurd (no-more (placing m) (stateBy placing line m) (line m) (h m (omega arith)) (sym (other-stays (placing m) (stateBy placing line m) (line m) z) ∙ sym (ap (λ (s : State). s .exited) (state-next m)) ∙ e))
+      at (inr z) = absurd (no-more (placing m) (stateBy placing line m) (heldAfter line m) (line m) (h m (omega arith)) (sym (other-stays (placing m) (stateBy placing line m) (line m) z) ∙ sym (ap (λ (s : State). s .exited) (state-next m)) ∙ e))
 
   pub exit-sole : (m k : ℕ) → ((j : ℕ) → j < suc m → AllKept (rulesBy placing line j)) → k < m → exits (line k) ≡ false
   exit-sole m k h p = at (bool (exits (line k)))
     where
       at : (exits (line k) ≡ true) ⊎ (exits (line k) ≡ false) → exits (line k) ≡ false
-      at (inl z) = absurd (no-more (placing (suc k)) (stateBy placing line (suc k)) (line (suc k)) (h (suc k) (omega arith)) (exits-after k z))
+      at (inl z) = absurd (no-more (placing (suc k)) (stateBy placing line (suc k)) (heldAfter line (suc k)) (line (suc k)) (h (suc k) (omega arith)) (exits-after k z))
       at (inr z) = z
 
 -- what a sheet without a refused line is, in the words of the definitions
@@ -253,7 +253,7 @@ module _ (placing : Placing) (sheet : Sheet) (room : ℕ) where
 
   own-numbered : (l : ℕ) → Numbered 15 (ownRules placing sheet room l)
   own-numbered zero = (omega arith, (omega arith, tt))
-  own-numbered (suc k) = line-numbered (placing k) (stateBy placing lines k) (lines k)
+  own-numbered (suc k) = line-numbered (placing k) (stateBy placing lines k) (heldAfter lines k) (lines k)
 
   end-numbered : Numbered 16 (endRules placing sheet room)
   end-numbered = (omega arith, (omega arith, (omega arith, (omega arith, tt))))

@@ -6,10 +6,11 @@ use mathlib.Core.Bool.{Bool, true, false, cond}
 use mathlib.Core.List.{List, [], _∷_, _++_}
 use mathlib.Core.Option.{none, some}
 use mathlib.Core.Logic.{_⊎_, _↔_}
-use lib.Dec.{leb, ltb, eqb}
+use lib.Dec.{leb, eqb}
 use lib.ListN.{length}
 use Rattle.laws.specs.Rules.{Rule, rule}
 use Rattle.tokens.specs.declared.Name.{Name}
+use Rattle.statement.specs.declared.Statement.{Statement}
 use Rattle.rules.specs.State.{State, Placer, Allocation, isLive, isBound, isFree, lowest, total}
 use Rattle.statement.specs.Views.{isExit}
 use Rattle.rules.specs.Sheet.{Line, badLayout, noForm, tooLarge, statement, lineRules, Sheet, Placing, stateBy, startsBy, rulesBy, stopBy, answerBy}
@@ -27,14 +28,16 @@ pub record FirstIs (number : ℕ) (rs : List Rule) : Type 0 where
   pub parts : rs ≡ before ++ (rule number false ∷ after)
   pub kept : AllKept before
 
--- the numbers go up, from above m
-abbrev pub ascends : ℕ → List Rule → Bool
-ascends m [] = true
-ascends m (rule number kept ∷ rs) = cond (ltb m number) (ascends number rs) false
+-- the numbers of the rules
+abbrev pub numbers : List Rule → List ℕ
+numbers [] = []
+numbers (rule number kept ∷ rs) = number ∷ numbers rs
 
--- the rules of a line stand in the order of their numbers, so the first that is broken has the lowest number
-abbrev pub InOrder : Placer → State → Line → Type 0
-InOrder place s x = ascends 1 (lineRules place s x) ≡ true
+-- the published order of a line that reads, before exit and after it
+pub record InOrder (place : Placer) (s : State) (held w : ℕ) (t : Statement) : Type 0 where
+  pub before : s .exited ≡ false
+      → numbers (lineRules place s held (statement w t)) ≡ 2 ∷ 5 ∷ 6 ∷ 7 ∷ 8 ∷ 9 ∷ 10 ∷ 11 ∷ 12 ∷ 13 ∷ 13 ∷ 13 ∷ 14 ∷ 15 ∷ []
+  pub after : s .exited ≡ true → numbers (lineRules place s held (statement w t)) ≡ 2 ∷ 5 ∷ 15 ∷ []
 
 -- ---- the placing
 -- each of that many columns from a start on is below 512 and in no live allocation
@@ -63,7 +66,7 @@ exits noForm = false
 exits tooLarge = false
 exits (statement w t) = isExit t
 
--- document 01: a passed sheet is one that the rules give 0 or 16
+-- a passed sheet is one that the rules give 0 or 16
 abbrev pub Passing : ℕ → Type 0
 Passing reason = (reason ≡ 0) ⊎ (reason ≡ 16)
 

@@ -1,4 +1,4 @@
--- Document 01, 'Reasons': the rules of a line in their order, each with its number and its test. A test is true where the rule is kept.
+-- The rules of a line in their order, each with its number and its test. A test is true where the rule is kept.
 -- Assumes nothing.
 use Prim.Native.Nat.{ℕ, _+_, _*_, _/_, _%_}
 use mathlib.Core.Bool.{Bool, true, false, not, _&&_, _||_, cond}
@@ -7,8 +7,9 @@ use mathlib.Core.Option.{Option, none, some}
 use lib.Dec.{leb, ltb, eqb}
 use lib.ListN.{length}
 use Rattle.laws.specs.Tests.{all, isSome}
-use Rattle.laws.specs.Rules.{Rule, rule, firstBroken}
+use Rattle.laws.specs.Rules.{Rule, rule}
 use Rattle.tokens.specs.declared.Name.{Name}
+use Rattle.instruction.specs.declared.Fields.{Fields}
 use Rattle.instruction.specs.Descriptor.{InstructionRead}
 use Rattle.instruction.specs.Instruction as instruction
 use Rattle.shared_memory.specs.Shared as shared
@@ -24,7 +25,7 @@ use Rattle.statement.specs.declared.Statement.{Statement}
 use Rattle.statement.specs.Canonical.{sparse}
 use Rattle.statement.specs.Cells as cells
 use Rattle.statement.specs.Views.{requestOf, releaseOf, accessOf, mmaOf, boundBy, isExit, isBooking, for, when, holds}
-use Rattle.rules.specs.State.{State, Placer, isLive, columnsOf, isBound, widthOf, numberOf, total}
+use Rattle.rules.specs.State.{State, Placer, isLive, columnsOf, isBound, widthOf, numberOf}
 
 -- ---- addresses
 -- an offset's lane is its quotient by 65,536, its column the remainder
@@ -117,9 +118,19 @@ mmaReads s m = operandReads s (m .a) ∷ sharedReads s (m .b) ∷ eqb (instructi
 unfoldable pub reads : State → Statement → Bool
 reads s t = holds (for (mmaOf t) (λ m. all (mmaReads s m)) ∷ [])
 
--- ---- reason 13: a shape or types that are not listed
-unfoldable pub listed : State → Statement → Bool
-listed s t = holds (for (mmaOf t) (λ m. eqb (firstBroken (instruction.listing (m .kind) (m .ws) (instruction.fields (instructionOf s m .descriptor)))) 0) ∷ [])
+-- ---- reason 13: M, N or the types are not listed
+-- the numbers of the instruction descriptor
+abbrev pub fieldsOf : State → Mma → Fields
+fieldsOf s m = instruction.fields (instructionOf s m .descriptor)
+
+unfoldable pub mListed : State → Statement → Bool
+mListed s t = holds (for (mmaOf t) (λ m. instruction.mListed (m .ws) (fieldsOf s m .m)) ∷ [])
+
+unfoldable pub nListed : State → Statement → Bool
+nListed s t = holds (for (mmaOf t) (λ m. instruction.nListed (m .kind) (m .ws) (fieldsOf s m .n)) ∷ [])
+
+unfoldable pub typesListed : State → Statement → Bool
+typesListed s t = holds (for (mmaOf t) (λ m. instruction.typesListed (m .kind) (fieldsOf s m .dtype) (fieldsOf s m .atype) (fieldsOf s m .btype)) ∷ [])
 
 -- ---- reason 14: the lane of an mma is not 0, or columns go past the end of the allocation
 -- that many columns from an address on are in its allocation
@@ -145,14 +156,14 @@ allEnd s m = mmaEnds s (m .d) (instructionOf s m .descriptor .n) ∷ operandEnds
 unfoldable pub inside : State → Statement → Bool
 inside s t = holds (for (accessOf t) (λ a. ends s (a .address) (cells.columnsOf (a .shape) (a .num))) ∷ for (mmaOf t) (λ m. all (allEnd s m)) ∷ [])
 
--- ---- reason 15: exit with columns held (that the columns of the live allocations are those asked for less those given back is `figures-exact`)
-unfoldable pub cleared : State → Statement → Bool
-cleared s t = not (isExit t) || eqb (total (s .live)) 0
+-- ---- reason 15: exit with columns held: those asked for less those given back (that they are the live allocations' is `figures-exact`)
+unfoldable pub cleared : ℕ → Statement → Bool
+cleared held t = not (isExit t) || eqb held 0
 
 -- ---- the rules of a line that reads
--- before exit
-unfoldable pub openRules : Placer → State → ℕ → Statement → List Rule
-openRules place s w t =
+-- before exit, with the columns held before the line
+unfoldable pub openRules : Placer → State → (held : ℕ) → (w : ℕ) → Statement → List Rule
+openRules place s held w t =
     rule 5 (cells.counted t)
     ∷ rule 6 (named s t)
     ∷ rule 7 (roomed s t)
@@ -161,14 +172,16 @@ openRules place s w t =
     ∷ rule 10 (permitted s t)
     ∷ rule 11 (placed place s t)
     ∷ rule 12 (reads s t)
-    ∷ rule 13 (listed s t)
+    ∷ rule 13 (mListed s t)
+    ∷ rule 13 (nListed s t)
+    ∷ rule 13 (typesListed s t)
     ∷ rule 14 (inside s t)
-    ∷ rule 15 (cleared s t)
+    ∷ rule 15 (cleared held t)
     ∷ []
 
 -- after exit: reason 5, and then 15 for any line
 unfoldable pub closedRules : Statement → List Rule
 closedRules t = rule 5 (cells.counted t) ∷ rule 15 false ∷ []
 
-unfoldable pub rules : Placer → State → ℕ → Statement → List Rule
-rules place s w t = cond (s .exited) (closedRules t) (openRules place s w t)
+unfoldable pub rules : Placer → State → (held : ℕ) → (w : ℕ) → Statement → List Rule
+rules place s held w t = cond (s .exited) (closedRules t) (openRules place s held w t)

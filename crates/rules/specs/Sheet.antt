@@ -38,12 +38,12 @@ pub record Sheet : Type 0 where
   pub line : ℕ → Line
   pub count : ℕ
 
--- the rules of a line: a line that gives no statement breaks 2, 3 or 4; the warp of one that does is 0 to 3 (2)
-abbrev pub lineRules : Placer → State → Line → List Rule
-lineRules place s badLayout = rule 2 false ∷ []
-lineRules place s noForm = rule 3 false ∷ []
-lineRules place s tooLarge = rule 4 false ∷ []
-lineRules place s (statement w t) = rule 2 (ltb w 4) ∷ rules place s w t
+-- the rules of a line, with the columns held before it: a line that gives no statement breaks 2, 3 or 4; the warp of one that does is 0 to 3 (2)
+abbrev pub lineRules : Placer → State → (held : ℕ) → Line → List Rule
+lineRules place s held badLayout = rule 2 false ∷ []
+lineRules place s held noForm = rule 3 false ∷ []
+lineRules place s held tooLarge = rule 4 false ∷ []
+lineRules place s held (statement w t) = rule 2 (ltb w 4) ∷ rules place s held w t
 
 -- ---- what an accepted line does
 -- the first alloc or relinquish fixes the warp
@@ -138,7 +138,7 @@ startsBy placing line (suc k) = startsBy placing line k ++ given (placing k) (st
 
 -- the rules of line k, and the reason for which it is refused, or 0
 abbrev pub rulesBy : Placing → (ℕ → Line) → ℕ → List Rule
-rulesBy placing line k = lineRules (placing k) (stateBy placing line k) (line k)
+rulesBy placing line k = lineRules (placing k) (stateBy placing line k) (heldAfter line k) (line k)
 
 unfoldable pub reasonBy : Placing → (ℕ → Line) → ℕ → ℕ
 reasonBy placing line k = firstBroken (rulesBy placing line k)

@@ -35,7 +35,7 @@ use Rattle.statement.specs.Cells as cells
 use Rattle.rules.specs.State as s
 use Rattle.rules.specs.State.{State, Allocation, Binding, Placer}
 use Rattle.rules.specs.Reasons as reasons
-use Rattle.rules.specs.Sheet.{Line, badLayout, noForm, tooLarge, statement, Placing, lineRules, lineEffect, added, effect, stateBy, rulesBy}
+use Rattle.rules.specs.Sheet.{Line, badLayout, noForm, tooLarge, statement, Placing, lineRules, lineEffect, added, effect, heldAfter, stateBy, rulesBy}
 use Rattle.rules.specs.Claims.{AllKept}
 use Rattle.rules.proofs.RulesProved.{no-more}
 use Rattle.rules.proofs.CountingLaws.{and-l, and-r, or-cases, not-t, clash}
@@ -279,30 +279,30 @@ freeFor l (Multiply m) o = true
 freeFor l Exit o = true
 
 -- the number under idesc
-idesc-is : (place : Placer) (st : State) (r : Run) (w : ℕ) (m : Mma) → Accepted place st w (Multiply m) → Agree st r
+idesc-is : (place : Placer) (st : State) (r : Run) (held w : ℕ) (m : Mma) → Accepted place st held w (Multiply m) → Agree st r
     → run.numberOf (m .idesc) (r .notes) ≡ some (s.numberOf (m .idesc) (st .values))
 unfolding reasons.named
-idesc-is place st r w m a g =
+idesc-is place st r held w m a g =
     let e = each (reasons.mmaNamed st m) (a .names) in
     let width : s.widthOf (m .idesc) (st .values) ≡ 32 = eqb-true (s.widthOf (m .idesc) (st .values)) 32 (e .1 .1 .1 .1 .0) in
     g .numbers (m .idesc) ∙ lookup-some (m .idesc) (st .values) (omega (arith, width))
 
-mma-n : (place : Placer) (st : State) (w : ℕ) (m : Mma) → Accepted place st w (Multiply m) → reasons.instructionOf st m .descriptor .n ≡ nOf (s.numberOf (m .idesc) (st .values))
+mma-n : (place : Placer) (st : State) (held w : ℕ) (m : Mma) → Accepted place st held w (Multiply m) → reasons.instructionOf st m .descriptor .n ≡ nOf (s.numberOf (m .idesc) (st .values))
 unfolding reasons.reads reasons.instructionOf
-mma-n place st w m a =
+mma-n place st held w m a =
     let e = each (reasons.mmaReads st m) (a .words) in
     n-is (m .kind) (m .ws) (sparse (m .metadata)) (s.numberOf (m .idesc) (st .values))
     (eqb-true (instruction.decoded (m .kind) (m .ws) (sparse (m .metadata)) (s.numberOf (m .idesc) (st .values)) .reason) 0 (e .1 .1 .0))
 
-mma-all : (place : Placer) (st : State) (r : Run) (w : ℕ) (m : Mma) → Accepted place st w (Multiply m) → Agree st r
+mma-all : (place : Placer) (st : State) (r : Run) (held w : ℕ) (m : Mma) → Accepted place st held w (Multiply m) → Agree st r
     → allLie (region (m .d) 128 (nOf (s.numberOf (m .idesc) (st .values))) ∷ (operandRegions (m .a) ++ metadataRegions (m .metadata))) (r .live) ≡ true
 unfolding reasons.named reasons.inside
-mma-all place st r w m a g =
+mma-all place st r held w m a g =
     let n = each (reasons.mmaNamed st m) (a .names) in
     let i = each (reasons.allEnd st m) (a .ends) in
     let v = nOf (s.numberOf (m .idesc) (st .values)) in
     allLie-cons (region (m .d) 128 v) (operandRegions (m .a) ++ metadataRegions (m .metadata)) (r .live)
-    (mma-lies st (m .d) v (r .live) (g .alike) (n .0) (subst (λ c. reasons.mmaEnds st (m .d) c ≡ true) (mma-n place st w m a) (i .0)))
+    (mma-lies st (m .d) v (r .live) (g .alike) (n .0) (subst (λ c. reasons.mmaEnds st (m .d) c ≡ true) (mma-n place st held w m a) (i .0)))
     (operand-lies st (m .a) (metadataRegions (m .metadata)) (r .live) (g .alike) (n .1 .0) (i .1 .0)
     (metadata-lies st (m .metadata) (r .live) (g .alike) (n .1 .1 .1 .0) (i .1 .1 .0)))
 
@@ -310,37 +310,37 @@ one-lies : (x : Region) (b : List Holding) → has (lies x) b ≡ true → allLi
 one-lies x b e = allLie-cons x [] b e (allLie-none b)
 
 -- a dealloc names a holding of that length
-pub dealloc-both : (place : Placer) (st : State) (r : Run) (w : ℕ) (n : Name) (v : ℕ) → Accepted place st w (Dealloc n v) → Agree st r
+pub dealloc-both : (place : Placer) (st : State) (r : Run) (held w : ℕ) (n : Name) (v : ℕ) → Accepted place st held w (Dealloc n v) → Agree st r
     → (has (hasBoth n v) (r .live) ≡ true) × (without (hasBoth n v) (r .live) ≡ without (hasName n) (r .live))
 unfolding reasons.named reasons.sized
-dealloc-both place st r w n v a g =
+dealloc-both place st r held w n v a g =
     let live : has (hasName n) (r .live) ≡ true = sym (live-alike n (st .live) (r .live) (g .alike)) ∙ a .names in
     let size : lengthOf n (r .live) ≡ v = sym (length-alike n (st .live) (r .live) (g .alike)) ∙ eqb-true (s.columnsOf n (st .live)) v (a .sizes) in
     subst (λ x. (has (hasBoth n x) (r .live) ≡ true) × (without (hasBoth n x) (r .live) ≡ without (hasName n) (r .live))) size (both n (r .live) live)
 
 -- of a line that breaks no rule, the run does all but a request whose start may not be used
-pub able-is : (starts : List ℕ) (place : Placer) (st : State) (r : Run) (w : ℕ) (t : Statement)
-    → w < 4 → Accepted place st w t → Agree st r → Sound r → able starts r t ≡ freeFor (r .live) t (startAt starts (r .requests))
+pub able-is : (starts : List ℕ) (place : Placer) (st : State) (r : Run) (held w : ℕ) (t : Statement)
+    → w < 4 → held ≡ s.total (st .live) → Accepted place st held w t → Agree st r → Sound r → able starts r t ≡ freeFor (r .live) t (startAt starts (r .requests))
 unfolding able freeFor bookedBy known reasons.named reasons.warped reasons.inside reasons.cleared
-able-is starts place st r w (Mov32 n v) p a g d = refl
-able-is starts place st r w (Mov64 n v) p a g d = refl
-able-is starts place st r w (Alloc n v) p a g d =
+able-is starts place st r held w (Mov32 n v) p q a g d = refl
+able-is starts place st r held w (Mov64 n v) p q a g d = refl
+able-is starts place st r held w (Alloc n v) p q a g d =
     let e : has (hasName n) (r .live) ≡ false = sym (live-alike n (st .live) (r .live) (g .alike)) ∙ not-t (s.isLive n (st .live)) (and-l (not (s.isLive n (st .live))) (not (s.isBound n (st .values))) (a .names)) in
     rw e
-able-is starts place st r w (Dealloc n v) p a g d = dealloc-both place st r w n v a g .0
-able-is starts place st r w Relinquish p a g d = refl
-able-is starts place st r w (Load x) p a g d =
+able-is starts place st r held w (Dealloc n v) p q a g d = dealloc-both place st r held w n v a g .0
+able-is starts place st r held w Relinquish p q a g d = refl
+able-is starts place st r held w (Load x) p q a g d =
     one-lies (region (x .address) (cells.lanesOf (x .shape)) (cells.columnsOf (x .shape) (x .num))) (r .live) (access-lies st w x (r .live) (g .alike) p (a .names) (a .warps) (a .ends))
-able-is starts place st r w (Store x) p a g d =
+able-is starts place st r held w (Store x) p q a g d =
     one-lies (region (x .address) (cells.lanesOf (x .shape)) (cells.columnsOf (x .shape) (x .num))) (r .live) (access-lies st w x (r .live) (g .alike) p (a .names) (a .warps) (a .ends))
-able-is starts place st r w WaitLoad p a g d = refl
-able-is starts place st r w WaitStore p a g d = refl
-able-is starts place st r w FenceBefore p a g d = refl
-able-is starts place st r w FenceAfter p a g d = refl
-able-is starts place st r w (Multiply m) p a g d = rw (idesc-is place st r w m a g) (mma-all place st r w m a g)
-able-is starts place st r w Exit p a g d =
+able-is starts place st r held w WaitLoad p q a g d = refl
+able-is starts place st r held w WaitStore p q a g d = refl
+able-is starts place st r held w FenceBefore p q a g d = refl
+able-is starts place st r held w FenceAfter p q a g d = refl
+able-is starts place st r held w (Multiply m) p q a g d = rw (idesc-is place st r held w m a g) (mma-all place st r held w m a g)
+able-is starts place st r held w Exit p q a g d =
     eq-eqb (heldColumns (r .live)) 0
-    (omega (arith, counted (r .live) (d .low) (d .apart), total-alike (st .live) (r .live) (g .alike), eqb-true (s.total (st .live)) 0 (a .clears)))
+    (omega (arith, counted (r .live) (d .low) (d .apart), total-alike (st .live) (r .live) (g .alike), q, eqb-true held 0 (a .clears)))
 
 -- ---- in each phase of the run
 abbrev pub Follows : Phase → State → Run → Type 0
@@ -365,61 +365,61 @@ unfolding run.numberOf
 noted-alike st r n m width v g =
     ap (λ o. cond (sameName n m) (some v) o) (g .numbers m) ∙ sym (lookup-bind m (record { name = n; width = width; number = v }) (st .values))
 
-does : (starts : List ℕ) (place : Placer) (st : State) (r : Run) (w : ℕ) (t : Statement)
-    → Accepted place st w t → Agree st r → Follows (done starts r t .phase) (effect place st w t) (done starts r t)
+does : (starts : List ℕ) (place : Placer) (st : State) (r : Run) (held w : ℕ) (t : Statement)
+    → Accepted place st held w t → Agree st r → Follows (done starts r t .phase) (effect place st w t) (done starts r t)
 unfolding done effect reasons.placed
-does starts place st r w (Mov32 n v) a g = record { alike = g .alike; numbers = λ m. noted-alike st r n m 32 v g; open′ = g .open′; goes = refl }
-does starts place st r w (Mov64 n v) a g = record { alike = g .alike; numbers = λ m. noted-alike st r n m 64 v g; open′ = g .open′; goes = refl }
-does starts place st r w (Alloc n v) a g =
+does starts place st r held w (Mov32 n v) a g = record { alike = g .alike; numbers = λ m. noted-alike st r n m 32 v g; open′ = g .open′; goes = refl }
+does starts place st r held w (Mov64 n v) a g = record { alike = g .alike; numbers = λ m. noted-alike st r n m 64 v g; open′ = g .open′; goes = refl }
+does starts place st r held w (Alloc n v) a g =
     record {
       alike = added-alike n v (orZero (startAt starts (r .requests))) (place (st .live) v) (st .live) (r .live) (a .places) (g .alike);
       numbers = g .numbers;
       open′ = g .open′;
       goes = refl;
     }
-does starts place st r w (Dealloc n v) a g =
+does starts place st r held w (Dealloc n v) a g =
     record {
-      alike = subst (λ l. Alike (s.without n (st .live)) l) (sym (dealloc-both place st r w n v a g .1)) (without-alike n (st .live) (r .live) (g .alike));
+      alike = subst (λ l. Alike (s.without n (st .live)) l) (sym (dealloc-both place st r held w n v a g .1)) (without-alike n (st .live) (r .live) (g .alike));
       numbers = g .numbers;
       open′ = g .open′;
       goes = refl;
     }
-does starts place st r w Relinquish a g = subst (λ p. Follows p (effect place st w Relinquish) r) (sym (g .goes)) (record { alike = g .alike; numbers = g .numbers; open′ = g .open′; goes = g .goes })
-does starts place st r w (Load x) a g = stays st r g
-does starts place st r w (Store x) a g = stays st r g
-does starts place st r w WaitLoad a g = stays st r g
-does starts place st r w WaitStore a g = stays st r g
-does starts place st r w FenceBefore a g = stays st r g
-does starts place st r w FenceAfter a g = stays st r g
-does starts place st r w (Multiply m) a g = stays st r g
-does starts place st r w Exit a g = (refl, g .alike)
+does starts place st r held w Relinquish a g = subst (λ p. Follows p (effect place st w Relinquish) r) (sym (g .goes)) (record { alike = g .alike; numbers = g .numbers; open′ = g .open′; goes = g .goes })
+does starts place st r held w (Load x) a g = stays st r g
+does starts place st r held w (Store x) a g = stays st r g
+does starts place st r held w WaitLoad a g = stays st r g
+does starts place st r held w WaitStore a g = stays st r g
+does starts place st r held w FenceBefore a g = stays st r g
+does starts place st r held w FenceAfter a g = stays st r g
+does starts place st r held w (Multiply m) a g = stays st r g
+does starts place st r held w Exit a g = (refl, g .alike)
 
 -- ---- lines
-pub able-line : (starts : List ℕ) (place : Placer) (st : State) (r : Run) (x : Line) → AllKept (lineRules place st x) → Agree st r → Sound r
+pub able-line : (starts : List ℕ) (place : Placer) (st : State) (r : Run) (held : ℕ) (x : Line) → held ≡ s.total (st .live) → AllKept (lineRules place st held x) → Agree st r → Sound r
     → able starts r (turnOf x .statement) ≡ freeFor (r .live) (turnOf x .statement) (startAt starts (r .requests))
-able-line starts place st r badLayout h g d = absurd (clash (h .0) refl)
-able-line starts place st r noForm h g d = absurd (clash (h .0) refl)
-able-line starts place st r tooLarge h g d = absurd (clash (h .0) refl)
-able-line starts place st r (statement w t) h g d = able-is starts place st r w t (ltb-true w 4 (h .0)) (accepted place st w t (h .1)) g d
+able-line starts place st r held badLayout q h g d = absurd (clash (h .0) refl)
+able-line starts place st r held noForm q h g d = absurd (clash (h .0) refl)
+able-line starts place st r held tooLarge q h g d = absurd (clash (h .0) refl)
+able-line starts place st r held (statement w t) q h g d = able-is starts place st r held w t (ltb-true w 4 (h .0)) q (accepted place st held w t (h .1)) g d
 
-does-line : (starts : List ℕ) (place : Placer) (st : State) (r : Run) (x : Line) → AllKept (lineRules place st x) → Agree st r
+does-line : (starts : List ℕ) (place : Placer) (st : State) (r : Run) (held : ℕ) (x : Line) → AllKept (lineRules place st held x) → Agree st r
     → Follows (done starts r (turnOf x .statement) .phase) (lineEffect place st x) (done starts r (turnOf x .statement))
-does-line starts place st r badLayout h g = absurd (clash (h .0) refl)
-does-line starts place st r noForm h g = absurd (clash (h .0) refl)
-does-line starts place st r tooLarge h g = absurd (clash (h .0) refl)
-does-line starts place st r (statement w t) h g = does starts place st r w t (accepted place st w t (h .1)) g
+does-line starts place st r held badLayout h g = absurd (clash (h .0) refl)
+does-line starts place st r held noForm h g = absurd (clash (h .0) refl)
+does-line starts place st r held tooLarge h g = absurd (clash (h .0) refl)
+does-line starts place st r held (statement w t) h g = does starts place st r held w t (accepted place st held w t (h .1)) g
 
-steps : (starts : List ℕ) (place : Placer) (st : State) (r : Run) (number : ℕ) (x : Line) (p : Phase) → r .phase ≡ p → AllKept (lineRules place st x) → Follows p st r
+steps : (starts : List ℕ) (place : Placer) (st : State) (r : Run) (held number : ℕ) (x : Line) (p : Phase) → r .phase ≡ p → AllKept (lineRules place st held x) → Follows p st r
     → Follows (go p starts r number (turnOf x) .phase) (lineEffect place st x) (go p starts r number (turnOf x))
 unfolding go
-steps starts place st r number x going q h g = at (able starts r (turnOf x .statement))
+steps starts place st r held number x going q h g = at (able starts r (turnOf x .statement))
   where
     at : (t : Bool) → Follows (cond t (done starts r (turnOf x .statement)) (inPhase (stoppedAt number) r) .phase) (lineEffect place st x) (cond t (done starts r (turnOf x .statement)) (inPhase (stoppedAt number) r))
-    at true = does-line starts place st r x h g
+    at true = does-line starts place st r held x h g
     at false = tt
-steps starts place st r number x (stoppedAt l) q h g = subst (λ p. Follows p (lineEffect place st x) r) (sym q) tt
-steps starts place st r number x exited q h g = absurd (no-more place st x h (g .0))
-steps starts place st r number x ended q h g = absurd g
+steps starts place st r held number x (stoppedAt l) q h g = subst (λ p. Follows p (lineEffect place st x) r) (sym q) tt
+steps starts place st r held number x exited q h g = absurd (no-more place st held x h (g .0))
+steps starts place st r held number x ended q h g = absurd g
 
 -- after the same lines, each accepted
 pub follows : (starts : List ℕ) (placing : Placing) (line : ℕ → Line) (n : ℕ) → ((k : ℕ) → k < n → AllKept (rulesBy placing line k)) → (k : ℕ) → k ≤ n
@@ -427,5 +427,5 @@ pub follows : (starts : List ℕ) (placing : Placing) (line : ℕ → Line) (n :
 unfolding after stateBy run.numberOf lookup
 follows starts placing line n h zero p = record { alike = tt; numbers = λ m. refl; open′ = refl; goes = refl }
 follows starts placing line n h (suc k) p =
-    steps starts (placing k) (stateBy placing line k) (after starts (λ j. turnOf (line j)) k) (k + 2) (line k) (after starts (λ j. turnOf (line j)) k .phase) refl
+    steps starts (placing k) (stateBy placing line k) (after starts (λ j. turnOf (line j)) k) (heldAfter line k) (k + 2) (line k) (after starts (λ j. turnOf (line j)) k .phase) refl
     (h k (omega (arith, p))) (follows starts placing line n h k (omega (arith, p)))

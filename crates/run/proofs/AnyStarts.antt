@@ -12,10 +12,11 @@ use borrow.Author.Tests.{leb-true, leb-false, le-leb, lt-ltb, eqb-true}
 use Rattle.tokens.specs.Names.{sameName}
 use Rattle.statement.specs.declared.Statement.{Statement}
 use Rattle.statement.specs.declared.Statement.the-variants.{Mov32, Mov64, Alloc, Dealloc, Relinquish, Load, Store, WaitLoad, WaitStore, FenceBefore, FenceAfter, Multiply, Exit}
-use Rattle.rules.specs.Sheet.{Sheet, Placing, stateBy, rulesBy}
+use Rattle.rules.specs.Sheet.{Sheet, Placing, heldAfter, stateBy, rulesBy}
 use Rattle.rules.specs.Claims.{AllKept}
 use Rattle.rules.proofs.CountingLaws.{and-l, and-r, or-cases, bool, clash}
 use Rattle.rules.proofs.OrderlyProved.{same-name}
+use Rattle.rules.proofs.Figures.{held-total}
 use Rattle.rules.proofs.RulesProved.{Clear, zero-kept}
 use Rattle.run.specs.Run.{Turn, Holding, Region, Run, Phase, going, stoppedAt, exited, ended, within, heldColumns, usable, startAt, mayUse, has, lies, allLie, bookedBy, known, able, done, inPhase, go, after, finish, outcome}
 use Rattle.run.specs.Demand3.{turnsOf, Among, Inside, AllInside, Requests, Reached, Asks, Fails, Outcome, Willing, Fallen, Whichever}
@@ -331,7 +332,8 @@ module _ (placing : Placing) (sheet : Sheet) (c : Clear placing sheet) (starts :
   pub able-at : (k : ℕ) → Reached sheet starts k
       → able starts (our k) (turnsOf sheet k .statement) ≡ freeFor (our k .live) (turnsOf sheet k .statement) (startAt starts (our k .requests))
   able-at k h =
-      able-line starts (placing k) (stateBy placing (sheet .line) k) (our k) (sheet .line k) (kept k (h .0))
+      able-line starts (placing k) (stateBy placing (sheet .line) k) (our k) (heldAfter (sheet .line) k) (sheet .line k)
+      (held-total placing (sheet .line) k (λ j p. kept j (omega (arith, h .0, p)))) (kept k (h .0))
       (agrees k (omega (arith, h .0)) (h .1)) (sound starts (turnsOf sheet) k)
 
   fails-stop : (k : ℕ) → Fails sheet starts k → our (suc k) .phase ≡ stoppedAt (k + 2)

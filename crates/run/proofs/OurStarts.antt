@@ -176,68 +176,68 @@ given-start : (starts l rest : List ℕ) (o : Option ℕ) → isSome o ≡ true 
 given-start starts l rest none e f = absurd (clash e refl)
 given-start starts l rest (some x) e f = ap (λ z. startAt z (length l)) f ∙ start-seam l x rest
 
-given-by : (starts l rest : List ℕ) (st : State) (w : ℕ) (t : Statement) → Accepted lowest st w t
+given-by : (starts l rest : List ℕ) (st : State) (held w : ℕ) (t : Statement) → Accepted lowest st held w t
     → starts ≡ (l ++ given lowest st (statement w t)) ++ rest → Given starts (length l) st t
 unfolding given reasons.placed
-given-by starts l rest st w (Mov32 n v) a e = tt
-given-by starts l rest st w (Mov64 n v) a e = tt
-given-by starts l rest st w (Alloc n v) a e = given-start starts l rest (lowest (st .live) v) (a .places) e
-given-by starts l rest st w (Dealloc n v) a e = tt
-given-by starts l rest st w Relinquish a e = tt
-given-by starts l rest st w (Load m) a e = tt
-given-by starts l rest st w (Store m) a e = tt
-given-by starts l rest st w WaitLoad a e = tt
-given-by starts l rest st w WaitStore a e = tt
-given-by starts l rest st w FenceBefore a e = tt
-given-by starts l rest st w FenceAfter a e = tt
-given-by starts l rest st w (Multiply m) a e = tt
-given-by starts l rest st w Exit a e = tt
+given-by starts l rest st held w (Mov32 n v) a e = tt
+given-by starts l rest st held w (Mov64 n v) a e = tt
+given-by starts l rest st held w (Alloc n v) a e = given-start starts l rest (lowest (st .live) v) (a .places) e
+given-by starts l rest st held w (Dealloc n v) a e = tt
+given-by starts l rest st held w Relinquish a e = tt
+given-by starts l rest st held w (Load m) a e = tt
+given-by starts l rest st held w (Store m) a e = tt
+given-by starts l rest st held w WaitLoad a e = tt
+given-by starts l rest st held w WaitStore a e = tt
+given-by starts l rest st held w FenceBefore a e = tt
+given-by starts l rest st held w FenceAfter a e = tt
+given-by starts l rest st held w (Multiply m) a e = tt
+given-by starts l rest st held w Exit a e = tt
 
 -- ---- one line of our run
-own-free : (starts : List ℕ) (st : State) (r : Run) (w : ℕ) (t : Statement) → Accepted lowest st w t → Same (st .live) (r .live) → Given starts (r .requests) st t
+own-free : (starts : List ℕ) (st : State) (r : Run) (held w : ℕ) (t : Statement) → Accepted lowest st held w t → Same (st .live) (r .live) → Given starts (r .requests) st t
     → freeFor (r .live) t (startAt starts (r .requests)) ≡ true
 unfolding freeFor reasons.placed
-own-free starts st r w (Mov32 n v) a e g = refl
-own-free starts st r w (Mov64 n v) a e g = refl
-own-free starts st r w (Alloc n v) a e g = ap (λ o. mayUse (r .live) v o) g ∙ lowest-may (st .live) (r .live) v e (a .places)
-own-free starts st r w (Dealloc n v) a e g = refl
-own-free starts st r w Relinquish a e g = refl
-own-free starts st r w (Load m) a e g = refl
-own-free starts st r w (Store m) a e g = refl
-own-free starts st r w WaitLoad a e g = refl
-own-free starts st r w WaitStore a e g = refl
-own-free starts st r w FenceBefore a e g = refl
-own-free starts st r w FenceAfter a e g = refl
-own-free starts st r w (Multiply m) a e g = refl
-own-free starts st r w Exit a e g = refl
+own-free starts st r held w (Mov32 n v) a e g = refl
+own-free starts st r held w (Mov64 n v) a e g = refl
+own-free starts st r held w (Alloc n v) a e g = ap (λ o. mayUse (r .live) v o) g ∙ lowest-may (st .live) (r .live) v e (a .places)
+own-free starts st r held w (Dealloc n v) a e g = refl
+own-free starts st r held w Relinquish a e g = refl
+own-free starts st r held w (Load m) a e g = refl
+own-free starts st r held w (Store m) a e g = refl
+own-free starts st r held w WaitLoad a e g = refl
+own-free starts st r held w WaitStore a e g = refl
+own-free starts st r held w FenceBefore a e g = refl
+own-free starts st r held w FenceAfter a e g = refl
+own-free starts st r held w (Multiply m) a e g = refl
+own-free starts st r held w Exit a e g = refl
 
 one-start : (o : Option ℕ) → isSome o ≡ true → length (startList o) ≡ 1
 one-start none e = absurd (clash e refl)
 one-start (some x) e = refl
 
-own-done : (starts : List ℕ) (st : State) (r : Run) (w : ℕ) (t : Statement) → Accepted lowest st w t → Agree st r → Same (st .live) (r .live) → Given starts (r .requests) st t
+own-done : (starts : List ℕ) (st : State) (r : Run) (held w : ℕ) (t : Statement) → Accepted lowest st held w t → Agree st r → Same (st .live) (r .live) → Given starts (r .requests) st t
     → Same (effect lowest st w t .live) (done starts r t .live) × (done starts r t .requests ≡ r .requests + length (given lowest st (statement w t)))
 unfolding done effect given reasons.placed
-own-done starts st r w (Mov32 n v) a m e g = (e, omega arith)
-own-done starts st r w (Mov64 n v) a m e g = (e, omega arith)
-own-done starts st r w (Alloc n v) a m e g = (
+own-done starts st r held w (Mov32 n v) a m e g = (e, omega arith)
+own-done starts st r held w (Mov64 n v) a m e g = (e, omega arith)
+own-done starts st r held w (Alloc n v) a m e g = (
   subst (λ o. Same (added n v (lowest (st .live) v) (st .live)) (record { name = n; start = orZero o; length = v } ∷ r .live)) (sym g)
       (same-added n v (lowest (st .live) v) (st .live) (r .live) (a .places) e),
   omega (arith, one-start (lowest (st .live) v) (a .places)),
 )
-own-done starts st r w (Dealloc n v) a m e g = (
-  subst (λ l. Same (s.without n (st .live)) l) (sym (dealloc-both lowest st r w n v a m .1)) (same-without n (st .live) (r .live) e),
+own-done starts st r held w (Dealloc n v) a m e g = (
+  subst (λ l. Same (s.without n (st .live)) l) (sym (dealloc-both lowest st r held w n v a m .1)) (same-without n (st .live) (r .live) e),
   omega arith,
 )
-own-done starts st r w Relinquish a m e g = (e, omega arith)
-own-done starts st r w (Load x) a m e g = (e, omega arith)
-own-done starts st r w (Store x) a m e g = (e, omega arith)
-own-done starts st r w WaitLoad a m e g = (e, omega arith)
-own-done starts st r w WaitStore a m e g = (e, omega arith)
-own-done starts st r w FenceBefore a m e g = (e, omega arith)
-own-done starts st r w FenceAfter a m e g = (e, omega arith)
-own-done starts st r w (Multiply x) a m e g = (e, omega arith)
-own-done starts st r w Exit a m e g = (e, omega arith)
+own-done starts st r held w Relinquish a m e g = (e, omega arith)
+own-done starts st r held w (Load x) a m e g = (e, omega arith)
+own-done starts st r held w (Store x) a m e g = (e, omega arith)
+own-done starts st r held w WaitLoad a m e g = (e, omega arith)
+own-done starts st r held w WaitStore a m e g = (e, omega arith)
+own-done starts st r held w FenceBefore a m e g = (e, omega arith)
+own-done starts st r held w FenceAfter a m e g = (e, omega arith)
+own-done starts st r held w (Multiply x) a m e g = (e, omega arith)
+own-done starts st r held w Exit a m e g = (e, omega arith)
 
 -- what holds of our run in each phase
 abbrev Own : Phase → State → Run → ℕ → Type 0
@@ -258,71 +258,71 @@ own-same (stoppedAt l) st r q o = absurd o
 own-same exited st r q o = o
 own-same ended st r q o = o
 
-own-step : (starts l rest : List ℕ) (st : State) (r : Run) (number : ℕ) (x : Line)
-    → AllKept (lineRules lowest st x) → r .phase ≡ going → Agree st r
+own-step : (starts l rest : List ℕ) (st : State) (r : Run) (held number : ℕ) (x : Line)
+    → AllKept (lineRules lowest st held x) → r .phase ≡ going → Agree st r
     → able starts r (turnOf x .statement) ≡ freeFor (r .live) (turnOf x .statement) (startAt starts (r .requests))
     → Same (st .live) (r .live) → r .requests ≡ length l → starts ≡ (l ++ given lowest st x) ++ rest
     → Own (go (r .phase) starts r number (turnOf x) .phase) (lineEffect lowest st x) (go (r .phase) starts r number (turnOf x)) (length (l ++ given lowest st x))
-own-step starts l rest st r number badLayout h q m b e f g = absurd (clash (h .0) refl)
-own-step starts l rest st r number noForm h q m b e f g = absurd (clash (h .0) refl)
-own-step starts l rest st r number tooLarge h q m b e f g = absurd (clash (h .0) refl)
-own-step starts l rest st r number (statement w t) h q m b e f g =
-    let a = accepted lowest st w t (h .1) in
-    let u : Given starts (r .requests) st t = subst (λ j. Given starts j st t) (sym f) (given-by starts l rest st w t a g) in
-    let o = own-done starts st r w t a m e u in
+own-step starts l rest st r held number badLayout h q m b e f g = absurd (clash (h .0) refl)
+own-step starts l rest st r held number noForm h q m b e f g = absurd (clash (h .0) refl)
+own-step starts l rest st r held number tooLarge h q m b e f g = absurd (clash (h .0) refl)
+own-step starts l rest st r held number (statement w t) h q m b e f g =
+    let a = accepted lowest st held w t (h .1) in
+    let u : Given starts (r .requests) st t = subst (λ j. Given starts j st t) (sym f) (given-by starts l rest st held w t a g) in
+    let o = own-done starts st r held w t a m e u in
     go-by starts r number (turnOf (statement w t)) q (λ z. Own (z .phase) (effect lowest st w t) z (length (l ++ given lowest st (statement w t))))
     (λ d. own-phase (done starts r t .phase) (effect lowest st w t) (done starts r t) (length (l ++ given lowest st (statement w t))) (λ j. done-goes starts r t j q) (o .0)
     (o .1 ∙ omega (arith, f, length-append l (given lowest st (statement w t)))))
-    (λ d. absurd (clash (b ∙ own-free starts st r w t a e u) d))
+    (λ d. absurd (clash (b ∙ own-free starts st r held w t a e u) d))
 
 legal-least : (x : ℕ) → legal x ≡ true → 32 ≤ x
 legal-least x e = leb-true 32 x (each (leb 32 x ∷ leb x 512 ∷ eqb (ones x) 1 ∷ []) e .0)
 
 -- a request that is accepted asks for some columns, and the placing has a start for it
-asked : (st : State) (w : ℕ) (t : Statement) (x : ℕ) → Accepted lowest st w t → Requests t x → (0 < x) × (isSome (lowest (st .live) x) ≡ true)
+asked : (st : State) (held w : ℕ) (t : Statement) (x : ℕ) → Accepted lowest st held w t → Requests t x → (0 < x) × (isSome (lowest (st .live) x) ≡ true)
 unfolding reasons.sized reasons.placed
-asked st w (Alloc n v) x a e = subst (λ y. (0 < y) × (isSome (lowest (st .live) y) ≡ true)) (sym e) (omega (arith, legal-least v (a .sizes)), a .places)
-asked st w (Mov32 n v) x a e = absurd e
-asked st w (Mov64 n v) x a e = absurd e
-asked st w (Dealloc n v) x a e = absurd e
-asked st w Relinquish x a e = absurd e
-asked st w (Load m) x a e = absurd e
-asked st w (Store m) x a e = absurd e
-asked st w WaitLoad x a e = absurd e
-asked st w WaitStore x a e = absurd e
-asked st w FenceBefore x a e = absurd e
-asked st w FenceAfter x a e = absurd e
-asked st w (Multiply m) x a e = absurd e
-asked st w Exit x a e = absurd e
+asked st held w (Alloc n v) x a e = subst (λ y. (0 < y) × (isSome (lowest (st .live) y) ≡ true)) (sym e) (omega (arith, legal-least v (a .sizes)), a .places)
+asked st held w (Mov32 n v) x a e = absurd e
+asked st held w (Mov64 n v) x a e = absurd e
+asked st held w (Dealloc n v) x a e = absurd e
+asked st held w Relinquish x a e = absurd e
+asked st held w (Load m) x a e = absurd e
+asked st held w (Store m) x a e = absurd e
+asked st held w WaitLoad x a e = absurd e
+asked st held w WaitStore x a e = absurd e
+asked st held w FenceBefore x a e = absurd e
+asked st held w FenceAfter x a e = absurd e
+asked st held w (Multiply m) x a e = absurd e
+asked st held w Exit x a e = absurd e
 
-asked-line : (st : State) (x : Line) (v : ℕ) → AllKept (lineRules lowest st x) → Requests (turnOf x .statement) v → (0 < v) × (isSome (lowest (st .live) v) ≡ true)
-asked-line st badLayout v h e = absurd e
-asked-line st noForm v h e = absurd e
-asked-line st tooLarge v h e = absurd e
-asked-line st (statement w t) v h e = asked st w t v (accepted lowest st w t (h .1)) e
+asked-line : (st : State) (held : ℕ) (x : Line) (v : ℕ) → AllKept (lineRules lowest st held x) → Requests (turnOf x .statement) v → (0 < v) × (isSome (lowest (st .live) v) ≡ true)
+asked-line st held badLayout v h e = absurd e
+asked-line st held noForm v h e = absurd e
+asked-line st held tooLarge v h e = absurd e
+asked-line st held (statement w t) v h e = asked st held w t v (accepted lowest st held w t (h .1)) e
 
-given-request : (starts l rest : List ℕ) (st : State) (w : ℕ) (t : Statement) (v : ℕ) → Accepted lowest st w t → Requests t v
+given-request : (starts l rest : List ℕ) (st : State) (held w : ℕ) (t : Statement) (v : ℕ) → Accepted lowest st held w t → Requests t v
     → starts ≡ (l ++ given lowest st (statement w t)) ++ rest → startAt starts (length l) ≡ lowest (st .live) v
-given-request starts l rest st w (Alloc n v) x a e g = given-by starts l rest st w (Alloc n v) a g ∙ ap (λ y. lowest (st .live) y) (sym e)
-given-request starts l rest st w (Mov32 n v) x a e g = absurd e
-given-request starts l rest st w (Mov64 n v) x a e g = absurd e
-given-request starts l rest st w (Dealloc n v) x a e g = absurd e
-given-request starts l rest st w Relinquish x a e g = absurd e
-given-request starts l rest st w (Load m) x a e g = absurd e
-given-request starts l rest st w (Store m) x a e g = absurd e
-given-request starts l rest st w WaitLoad x a e g = absurd e
-given-request starts l rest st w WaitStore x a e g = absurd e
-given-request starts l rest st w FenceBefore x a e g = absurd e
-given-request starts l rest st w FenceAfter x a e g = absurd e
-given-request starts l rest st w (Multiply m) x a e g = absurd e
-given-request starts l rest st w Exit x a e g = absurd e
+given-request starts l rest st held w (Alloc n v) x a e g = given-by starts l rest st held w (Alloc n v) a g ∙ ap (λ y. lowest (st .live) y) (sym e)
+given-request starts l rest st held w (Mov32 n v) x a e g = absurd e
+given-request starts l rest st held w (Mov64 n v) x a e g = absurd e
+given-request starts l rest st held w (Dealloc n v) x a e g = absurd e
+given-request starts l rest st held w Relinquish x a e g = absurd e
+given-request starts l rest st held w (Load m) x a e g = absurd e
+given-request starts l rest st held w (Store m) x a e g = absurd e
+given-request starts l rest st held w WaitLoad x a e g = absurd e
+given-request starts l rest st held w WaitStore x a e g = absurd e
+given-request starts l rest st held w FenceBefore x a e g = absurd e
+given-request starts l rest st held w FenceAfter x a e g = absurd e
+given-request starts l rest st held w (Multiply m) x a e g = absurd e
+given-request starts l rest st held w Exit x a e g = absurd e
 
-given-line : (starts l rest : List ℕ) (st : State) (x : Line) (v : ℕ) → AllKept (lineRules lowest st x) → Requests (turnOf x .statement) v
+given-line : (starts l rest : List ℕ) (st : State) (held : ℕ) (x : Line) (v : ℕ) → AllKept (lineRules lowest st held x) → Requests (turnOf x .statement) v
     → starts ≡ (l ++ given lowest st x) ++ rest → startAt starts (length l) ≡ lowest (st .live) v
-given-line starts l rest st badLayout v h e g = absurd e
-given-line starts l rest st noForm v h e g = absurd e
-given-line starts l rest st tooLarge v h e g = absurd e
-given-line starts l rest st (statement w t) v h e g = given-request starts l rest st w t v (accepted lowest st w t (h .1)) e g
+given-line starts l rest st held badLayout v h e g = absurd e
+given-line starts l rest st held noForm v h e g = absurd e
+given-line starts l rest st held tooLarge v h e g = absurd e
+given-line starts l rest st held (statement w t) v h e g = given-request starts l rest st held w t v (accepted lowest st held w t (h .1)) e g
 
 -- ---- our run of a passed sheet
 module _ (sheet : Sheet) (c : Clear ours sheet) where
@@ -355,12 +355,12 @@ module _ (sheet : Sheet) (c : Clear ours sheet) where
       at (goes q) o =
           let e = own-same (our k .phase) (state k) (our k) (length (upTo k)) o in
           let p = parts k (omega (arith, h)) in
-          own-step list (upTo k) (p .0) (state k) (our k) (k + 2) (sheet .line k) (kept k (omega (arith, h))) q (agrees ours sheet c list k (omega (arith, h)) q)
+          own-step list (upTo k) (p .0) (state k) (our k) (heldAfter (sheet .line) k) (k + 2) (sheet .line k) (kept k (omega (arith, h))) q (agrees ours sheet c list k (omega (arith, h)) q)
           (able-at ours sheet c list k ((omega (arith, h)), q)) (e .0) (e .1) (p .1)
       at (stopped l q) o = absurd (subst (λ p. Own p (state k) (our k) (length (upTo k))) q o)
       at (out q) o =
           let f : Follows exited (state k) (our k) = subst (λ p. Follows p (state k) (our k)) q (beside ours sheet c list k (omega (arith, h))) in
-          absurd (no-more lowest (state k) (sheet .line k) (kept k (omega (arith, h))) (f .0))
+          absurd (no-more lowest (state k) (heldAfter (sheet .line) k) (sheet .line k) (kept k (omega (arith, h))) (f .0))
       at (over q) o = absurd (subst (λ p. Follows p (state k) (our k)) q (beside ours sheet c list k (omega (arith, h))))
 
   same-at : (k : ℕ) → k ≤ sheet .count → Same (state k .live) (our k .live) × (our k .requests ≡ length (upTo k))
@@ -371,16 +371,16 @@ module _ (sheet : Sheet) (c : Clear ours sheet) where
   start-is k x a =
       let p = parts k (a .0 .0) in
       subst (λ j. startAt list j ≡ lowest (state k .live) x) (sym (same-at k (omega (arith, a .0 .0)) .1))
-      (given-line list (upTo k) (p .0) (state k) (sheet .line k) x (kept k (a .0 .0)) (a .1) (p .1))
+      (given-line list (upTo k) (p .0) (state k) (heldAfter (sheet .line) k) (sheet .line k) x (kept k (a .0 .0)) (a .1) (p .1))
 
   meets : (k x : ℕ) → Asks sheet list k x → mayUse (our k .live) x (startAt list (our k .requests)) ≡ true
   meets k x a =
       ap (λ o. mayUse (our k .live) x o) (start-is k x a)
-      ∙ lowest-may (state k .live) (our k .live) x (same-at k (omega (arith, a .0 .0)) .0) (asked-line (state k) (sheet .line k) x (kept k (a .0 .0)) (a .1) .1)
+      ∙ lowest-may (state k .live) (our k .live) x (same-at k (omega (arith, a .0 .0)) .0) (asked-line (state k) (heldAfter (sheet .line) k) (sheet .line k) x (kept k (a .0 .0)) (a .1) .1)
 
   least-start : (k x start : ℕ) → Asks sheet list k x → usable (our k .live) x start ≡ true → (v : ℕ) × ((startAt list (our k .requests) ≡ some v) × (v ≤ start))
   least-start k x start a u =
-      let q = asked-line (state k) (sheet .line k) x (kept k (a .0 .0)) (a .1) in
+      let q = asked-line (state k) (heldAfter (sheet .line) k) (sheet .line k) x (kept k (a .0 .0)) (a .1) in
       let l = lowest-least (state k .live) (our k .live) x start (same-at k (omega (arith, a .0 .0)) .0) (q .0) (q .1) u in
       (l .0, (start-is k x a ∙ l .1 .0, l .1 .1))
 

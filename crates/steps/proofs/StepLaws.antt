@@ -16,16 +16,15 @@ use Rattle.statement.specs.declared.Access.{Access}
 use Rattle.statement.specs.declared.Mma.{Mma}
 use Rattle.statement.specs.declared.Statement.{Statement}
 use Rattle.statement.specs.declared.Statement.the-variants.{Mov32, Mov64, Alloc, Dealloc, Relinquish, Load, Store, WaitLoad, WaitStore, FenceBefore, FenceAfter, Multiply, Exit}
-use Rattle.request.specs.Request.{legal}
 use Rattle.rules.specs.State.{State, Binding, lowest, isLive, isBound, widthOf, numberOf, bind}
-use Rattle.rules.specs.Reasons.{openRules, closedRules, rules, named, roomed, warped, sized, permitted, placed, reads, listed, inside, cleared}
+use Rattle.rules.specs.Reasons.{openRules, closedRules, rules}
+use Rattle.rules.proofs.ByForm.{alloc-legal, wait-load-first, wait-store-first, fence-before-first, fence-after-first, exit-first}
 use Rattle.statement.specs.Cells.{counted}
 use Rattle.rules.specs.Sheet.{statement, effect, given, requested, released, moved, startList}
 use Rattle.search.proofs.NameLaws.{same-true}
 use Rattle.ledger.specs.declared.Ledger.{Ledger}
 use Rattle.ledger.specs.declared.Booked.{Booked}
 use Rattle.ledger.specs.declared.Span.{Span}
-use Rattle.ledger.specs.Slots.{total}
 use Rattle.ledger.specs.Booking.{slot, releaseRules, relinquishRules, withoutAllocation, afterRelinquish, allocOf, releaseOf, relinquishOf, findIn, findOf}
 use Rattle.ledger.specs.Shows as ledger
 use Rattle.ledger.proofs.BookingLaws.{legal-range}
@@ -70,18 +69,18 @@ quiet-gives a status s k R reason e = record {
 }
 
 -- ---- before and after exit
-open-is : (w : ℕ) (t : Statement) (a : Arrays) (status : Status) (r : Step) (after : Arrays) → status .exited ≡ false → OpenDone w t a status r after
-    → StatementDone w t a status r after
+open-is : (held w : ℕ) (t : Statement) (a : Arrays) (status : Status) (r : Step) (after : Arrays) → status .exited ≡ false → OpenDone held w t a status r after
+    → StatementDone held w t a status r after
 unfolding rules
-open-is w t a status r after e d s k =
-    subst (λ (b : Bool). Gives (firstBroken (cond b (closedRules t) (openRules lowest s w t))) (effect lowest s w t) (given lowest s (statement w t)) (requested (statement w t)) (released (statement w t)) a status r after)
+open-is held w t a status r after e d s k =
+    subst (λ (b : Bool). Gives (firstBroken (cond b (closedRules t) (openRules lowest s held w t))) (effect lowest s w t) (given lowest s (statement w t)) (requested (statement w t)) (released (statement w t)) a status r after)
     (sym e ∙ k .exited) (d s k)
 
 -- an arm of the match
-pub open-done : (w : ℕ) (t arm : Statement) → t ≡ arm → (a : Arrays) (status : Status) (r : Step) (after : Arrays) → status .exited ≡ false
-    → OpenDone w arm a status r after → StatementDone w t a status r after
-open-done w t arm f a status r after e d =
-    subst (λ (x : Statement). StatementDone w x a status r after) (sym f) (open-is w arm a status r after e d)
+pub open-done : (held w : ℕ) (t arm : Statement) → t ≡ arm → (a : Arrays) (status : Status) (r : Step) (after : Arrays) → status .exited ≡ false
+    → OpenDone held w arm a status r after → StatementDone held w t a status r after
+open-done held w t arm f a status r after e d =
+    subst (λ (x : Statement). StatementDone held w x a status r after) (sym f) (open-is held w arm a status r after e d)
 
 five-or-fifteen : (b : Bool) → _≡_ {A = ℕ} (cond b 15 5) 0 → ⊥
 five-or-fifteen true e = absurd (omega arith)
@@ -91,67 +90,64 @@ closed-not : (t : Statement) → firstBroken (closedRules t) ≡ 0 → ⊥
 unfolding closedRules
 closed-not t e = five-or-fifteen (counted t) e
 
-closed-only : (w : ℕ) (t : Statement) (a : Arrays) (status : Status) (reason : ℕ) → status .exited ≡ true → reason ≡ firstBroken (closedRules t)
-    → StatementDone w t a status (only status reason) a
+closed-only : (held w : ℕ) (t : Statement) (a : Arrays) (status : Status) (reason : ℕ) → status .exited ≡ true → reason ≡ firstBroken (closedRules t)
+    → StatementDone held w t a status (only status reason) a
 unfolding rules
-closed-only w t a status reason e f s k =
-    subst (λ (b : Bool). Gives (firstBroken (cond b (closedRules t) (openRules lowest s w t))) (effect lowest s w t) (given lowest s (statement w t)) (requested (statement w t)) (released (statement w t)) a status (only status reason) a)
+closed-only held w t a status reason e f s k =
+    subst (λ (b : Bool). Gives (firstBroken (cond b (closedRules t) (openRules lowest s held w t))) (effect lowest s w t) (given lowest s (statement w t)) (requested (statement w t)) (released (statement w t)) a status (only status reason) a)
     (sym e ∙ k .exited)
     (refused-gives a status (firstBroken (closedRules t)) reason (effect lowest s w t) (given lowest s (statement w t)) (requested (statement w t)) (released (statement w t)) f (λ y. closed-not t (sym f ∙ y)))
 
-pub closed-done : (w : ℕ) (t : Statement) (a : Arrays) (status : Status) (reason : ℕ) (r : Step) → status .exited ≡ true → reason ≡ firstBroken (closedRules t)
-    → r ≡ only status reason → StatementDone w t a status r a
-closed-done w t a status reason r e f p = subst (λ (x : Step). StatementDone w t a status x a) (sym p) (closed-only w t a status reason e f)
+pub closed-done : (held w : ℕ) (t : Statement) (a : Arrays) (status : Status) (reason : ℕ) (r : Step) → status .exited ≡ true → reason ≡ firstBroken (closedRules t)
+    → r ≡ only status reason → StatementDone held w t a status r a
+closed-done held w t a status reason r e f p = subst (λ (x : Step). StatementDone held w t a status x a) (sym p) (closed-only held w t a status reason e f)
 
 -- ---- statements that do nothing
-module _ (w : ℕ) (a : Arrays) (status : Status) (r : Step) where
+module _ (held w : ℕ) (a : Arrays) (status : Status) (r : Step) where
   module _ (reason : ℕ) (p : r ≡ only status reason) where
-    pub load-done : (x : Access) → AccessJudged (a .hi) (a .lo) (a .columns) w x reason → OpenDone w (Load x) a status r a
+    pub load-done : (x : Access) → AccessJudged (a .hi) (a .lo) (a .columns) w x reason → OpenDone held w (Load x) a status r a
     unfolding effect given requested released
-    load-done x e = subst (λ (y : Step). OpenDone w (Load x) a status y a) (sym p)
-        (λ s k. quiet-gives a status s k _ reason (e s (k .tables .slots) .0))
+    load-done x e = subst (λ (y : Step). OpenDone held w (Load x) a status y a) (sym p)
+        (λ s k. quiet-gives a status s k _ reason (e s held (k .tables .slots) .0))
 
-    pub store-done : (x : Access) → AccessJudged (a .hi) (a .lo) (a .columns) w x reason → OpenDone w (Store x) a status r a
+    pub store-done : (x : Access) → AccessJudged (a .hi) (a .lo) (a .columns) w x reason → OpenDone held w (Store x) a status r a
     unfolding effect given requested released
-    store-done x e = subst (λ (y : Step). OpenDone w (Store x) a status y a) (sym p)
-        (λ s k. quiet-gives a status s k _ reason (e s (k .tables .slots) .1))
+    store-done x e = subst (λ (y : Step). OpenDone held w (Store x) a status y a) (sym p)
+        (λ s k. quiet-gives a status s k _ reason (e s held (k .tables .slots) .1))
 
-    pub multiply-done : (m : Mma) → MmaJudged (a .hi) (a .lo) (a .columns) (a .valueHi) (a .valueLo) (a .numbers) (a .widths) m reason → OpenDone w (Multiply m) a status r a
+    pub multiply-done : (m : Mma) → MmaJudged (a .hi) (a .lo) (a .columns) (a .valueHi) (a .valueLo) (a .numbers) (a .widths) m reason → OpenDone held w (Multiply m) a status r a
     unfolding effect given requested released
-    multiply-done m e = subst (λ (y : Step). OpenDone w (Multiply m) a status y a) (sym p)
-        (λ s k. quiet-gives a status s k _ reason (e s w (k .tables)))
+    multiply-done m e = subst (λ (y : Step). OpenDone held w (Multiply m) a status y a) (sym p)
+        (λ s k. quiet-gives a status s k _ reason (e s held w (k .tables)))
 
   module _ (p : r ≡ only status 0) where
-    pub wait-load-done : OpenDone w WaitLoad a status r a
-    unfolding effect given requested released openRules counted named roomed warped sized permitted placed reads listed inside cleared
-    wait-load-done = subst (λ (y : Step). OpenDone w WaitLoad a status y a) (sym p) (λ s k. quiet-gives a status s k 0 0 refl)
+    pub wait-load-done : OpenDone held w WaitLoad a status r a
+    unfolding effect given requested released
+    wait-load-done = subst (λ (y : Step). OpenDone held w WaitLoad a status y a) (sym p) (λ s k. quiet-gives a status s k _ 0 (sym (wait-load-first lowest s held w)))
 
-    pub wait-store-done : OpenDone w WaitStore a status r a
-    unfolding effect given requested released openRules counted named roomed warped sized permitted placed reads listed inside cleared
-    wait-store-done = subst (λ (y : Step). OpenDone w WaitStore a status y a) (sym p) (λ s k. quiet-gives a status s k 0 0 refl)
+    pub wait-store-done : OpenDone held w WaitStore a status r a
+    unfolding effect given requested released
+    wait-store-done = subst (λ (y : Step). OpenDone held w WaitStore a status y a) (sym p) (λ s k. quiet-gives a status s k _ 0 (sym (wait-store-first lowest s held w)))
 
-    pub fence-before-done : OpenDone w FenceBefore a status r a
-    unfolding effect given requested released openRules counted named roomed warped sized permitted placed reads listed inside cleared
-    fence-before-done = subst (λ (y : Step). OpenDone w FenceBefore a status y a) (sym p) (λ s k. quiet-gives a status s k 0 0 refl)
+    pub fence-before-done : OpenDone held w FenceBefore a status r a
+    unfolding effect given requested released
+    fence-before-done = subst (λ (y : Step). OpenDone held w FenceBefore a status y a) (sym p) (λ s k. quiet-gives a status s k _ 0 (sym (fence-before-first lowest s held w)))
 
-    pub fence-after-done : OpenDone w FenceAfter a status r a
-    unfolding effect given requested released openRules counted named roomed warped sized permitted placed reads listed inside cleared
-    fence-after-done = subst (λ (y : Step). OpenDone w FenceAfter a status y a) (sym p) (λ s k. quiet-gives a status s k 0 0 refl)
+    pub fence-after-done : OpenDone held w FenceAfter a status r a
+    unfolding effect given requested released
+    fence-after-done = subst (λ (y : Step). OpenDone held w FenceAfter a status y a) (sym p) (λ s k. quiet-gives a status s k _ 0 (sym (fence-after-first lowest s held w)))
 
 -- ---- exit
 abbrev left : Status → Status
 left status = record { fixed = status .fixed; warp = status .warp; relinquished = status .relinquished; exited = true }
 
-exit-reason : (a : Arrays) (status : Status) (s : State) → Kept a status s → (w : ℕ) (b : Bool) → eqb (total (a .columns) 16) 0 ≡ b
-    → cond b 0 15 ≡ firstBroken (openRules lowest s w Exit)
-unfolding openRules counted named roomed warped sized permitted placed reads listed inside cleared
-exit-reason a status s k w b e = ap (λ (x : Bool). cond x 0 15) (sym e ∙ ap (λ (n : ℕ). eqb n 0) (k .tables .slots .sum))
+exit-reason : (s : State) (held w : ℕ) (b : Bool) → eqb held 0 ≡ b → cond b 0 15 ≡ firstBroken (openRules lowest s held w Exit)
+exit-reason s held w b e = ap (λ (x : Bool). cond x 0 15) (sym e) ∙ sym (exit-first lowest s held w)
 
-exit-by : (a : Arrays) (status : Status) (w : ℕ) (b : Bool) → eqb (total (a .columns) 16) 0 ≡ b
-    → OpenDone w Exit a status (cond b (only (left status) 0) (only status 15)) a
+exit-by : (a : Arrays) (status : Status) (held w : ℕ) (b : Bool) → eqb held 0 ≡ b → OpenDone held w Exit a status (cond b (only (left status) 0) (only status 15)) a
 unfolding effect given requested released
-exit-by a status w true e s k = record {
-  reasons = exit-reason a status s k w true e;
+exit-by a status held w true e s k = record {
+  reasons = exit-reason s held w true e;
   keeps = λ y. record {
     tables = record { slots = k .tables .slots; values = k .tables .values; narrow = k .tables .narrow };
     warp = k .warp;
@@ -164,19 +160,18 @@ exit-by a status w true e s k = record {
   no-start = λ y g. refl;
   unchanged = λ y. absurd (y refl);
 }
-exit-by a status w false e s k = refused-gives a status _ 15 _ _ _ _ (exit-reason a status s k w false e) (λ y. absurd (omega (arith, y)))
+exit-by a status held w false e s k = refused-gives a status _ 15 _ _ _ _ (exit-reason s held w false e) (λ y. absurd (omega (arith, y)))
 
-pub exit-done : (w : ℕ) (a : Arrays) (status : Status) (r : Step) → r ≡ exitOf (total (a .columns) 16) status → OpenDone w Exit a status r a
-exit-done w a status r p =
-    subst (λ (y : Step). OpenDone w Exit a status y a) (sym p) (exit-by a status w (eqb (total (a .columns) 16) 0) refl)
+pub exit-done : (held w : ℕ) (a : Arrays) (status : Status) (r : Step) → r ≡ exitOf held status → OpenDone held w Exit a status r a
+exit-done held w a status r p = subst (λ (y : Step). OpenDone held w Exit a status y a) (sym p) (exit-by a status held w (eqb held 0) refl)
 
 -- the two ways through
-module _ (held total : ℕ) (status : Status) (e : held ≡ total) where
-  pub exit-15 : (held ≡ 0 → ⊥) → (r : Step) → r ≡ only status 15 → r ≡ exitOf total status
-  exit-15 z r p = p ∙ ap (λ (b : Bool). cond {A = Step} b (only (left status) 0) (only status 15)) (sym (ne-eqb total 0 (λ y. z (e ∙ y))))
+module _ (held : ℕ) (status : Status) where
+  pub exit-15 : (held ≡ 0 → ⊥) → (r : Step) → r ≡ only status 15 → r ≡ exitOf held status
+  exit-15 z r p = p ∙ ap (λ (b : Bool). cond {A = Step} b (only (left status) 0) (only status 15)) (sym (ne-eqb held 0 z))
 
-  pub exit-0 : held ≡ 0 → (r : Step) → r ≡ only (left status) 0 → r ≡ exitOf total status
-  exit-0 z r p = p ∙ ap (λ (b : Bool). cond {A = Step} b (only (left status) 0) (only status 15)) (sym (eq-eqb total 0 (sym e ∙ z)))
+  pub exit-0 : held ≡ 0 → (r : Step) → r ≡ only (left status) 0 → r ≡ exitOf held status
+  exit-0 z r p = p ∙ ap (λ (b : Bool). cond {A = Step} b (only (left status) 0) (only status 15)) (sym (eq-eqb held 0 z))
 
 -- ---- bookings
 -- what `book` ensures
@@ -290,68 +285,55 @@ module _ (a : Arrays) (status : Status) (s : State) (k : Kept a status s) where
       booked-gives = gives-if (eqb (b .reason) 0) refl
 
 -- a legal request is not for 0 columns
-sized-if : (b1 b2 b3 b4 b5 b6 b7 b8 b9 b10 b11 : Bool)
-    → _≡_ {A = ℕ} (cond b1 (cond b2 (cond b3 (cond b4 (cond b5 (cond b6 (cond b7 (cond b8 (cond b9 (cond b10 (cond b11 0 15) 14) 13) 12) 11) 10) 9) 8) 7) 6) 5) 0 → b5 ≡ true
-sized-if b1 b2 b3 b4 true b6 b7 b8 b9 b10 b11 e = refl
-sized-if true true true true false b6 b7 b8 b9 b10 b11 e = absurd (omega arith)
-sized-if true true true false false b6 b7 b8 b9 b10 b11 e = absurd (omega arith)
-sized-if true true false b4 false b6 b7 b8 b9 b10 b11 e = absurd (omega arith)
-sized-if true false b3 b4 false b6 b7 b8 b9 b10 b11 e = absurd (omega arith)
-sized-if false b2 b3 b4 false b6 b7 b8 b9 b10 b11 e = absurd (omega arith)
-
-asked-some : (s : State) (w : ℕ) (n : Name) (x : ℕ) → firstBroken (openRules lowest s w (Alloc n x)) ≡ 0 → eqb x 0 ≡ false
-unfolding openRules sized
-asked-some s w n x e =
-    let t : Statement = Alloc n x in
-    let l : legal x ≡ true =
-    sized-if (counted t) (named s t) (roomed s t) (warped s w t) (legal x) (permitted s t) (placed lowest s t) (reads s t) (listed s t) (inside s t) (cleared s t) e in
-    ne-eqb x 0 (λ z. absurd (omega (arith, z, legal-range x l .0)))
+asked-some : (s : State) (held w : ℕ) (n : Name) (x : ℕ) → firstBroken (openRules lowest s held w (Alloc n x)) ≡ 0 → eqb x 0 ≡ false
+asked-some s held w n x e =
+    ne-eqb x 0 (λ z. absurd (omega (arith, z, legal-range x (alloc-legal lowest s held w n x e) .0)))
 
 -- alloc
-alloc-gives : (a : Arrays) (status : Status) (w : ℕ) (n : Name) (x : ℕ) → valueIn (a .valueHi) (a .valueLo) (a .numbers) (a .widths) n .width ≡ 0
-    → OpenDone w (Alloc n x) a status (stepOf (allocOf (kept a status) n w x) status x 0) (storedIn a (allocOf (kept a status) n w x))
+alloc-gives : (a : Arrays) (status : Status) (held w : ℕ) (n : Name) (x : ℕ) → valueIn (a .valueHi) (a .valueLo) (a .numbers) (a .widths) n .width ≡ 0
+    → OpenDone held w (Alloc n x) a status (stepOf (allocOf (kept a status) n w x) status x 0) (storedIn a (allocOf (kept a status) n w x))
 unfolding effect given requested released
-alloc-gives a status w n x e s k =
-    booked-gives a status s k (allocOf (kept a status) n w x) (firstBroken (openRules lowest s w (Alloc n x))) (effect lowest s w (Alloc n x)) (startList (lowest (s .live) x)) x 0
+alloc-gives a status held w n x e s k =
+    booked-gives a status s k (allocOf (kept a status) n w x) (firstBroken (openRules lowest s held w (Alloc n x))) (effect lowest s w (Alloc n x)) (startList (lowest (s .live) x)) x 0
     (sym same) (tells a status s k .allocated n w x) refl refl starting no-start
   where
     unbound : isBound n (s .values) ≡ false
     unbound = sym (value-tells a status s k .bound n) ∙ ap (λ (v : ℕ). not (eqb v 0)) e
 
-    same : firstBroken (openRules lowest s w (Alloc n x)) ≡ allocOf (kept a status) n w x .reason
-    same = tells a status s k .alloc n w x ∙ ap (λ (b : Bool). cond b 6 (allocOf (kept a status) n w x .reason)) unbound
+    same : firstBroken (openRules lowest s held w (Alloc n x)) ≡ allocOf (kept a status) n w x .reason
+    same = tells a status s k .alloc n held w x ∙ ap (λ (b : Bool). cond b 6 (allocOf (kept a status) n w x .reason)) unbound
 
     starting : allocOf (kept a status) n w x .reason ≡ 0 → startList (lowest (s .live) x) ≡ cond (eqb x 0) [] (allocOf (kept a status) n w x .start ∷ [])
     starting z =
         tells a status s k .started n w x z
-        ∙ ap (λ (b : Bool). cond b [] (allocOf (kept a status) n w x .start ∷ [])) (sym (asked-some s w n x (same ∙ z)))
+        ∙ ap (λ (b : Bool). cond b [] (allocOf (kept a status) n w x .start ∷ [])) (sym (asked-some s held w n x (same ∙ z)))
 
     no-start : allocOf (kept a status) n w x .reason ≡ 0 → x ≡ 0 → allocOf (kept a status) n w x .start ≡ 0
-    no-start z y = absurd (eqb-false x 0 (asked-some s w n x (same ∙ z)) y)
+    no-start z y = absurd (eqb-false x 0 (asked-some s held w n x (same ∙ z)) y)
 
-alloc-taken : (a : Arrays) (status : Status) (w : ℕ) (n : Name) (x : ℕ) → (valueIn (a .valueHi) (a .valueLo) (a .numbers) (a .widths) n .width ≡ 0 → ⊥)
-    → OpenDone w (Alloc n x) a status (only status 6) a
-alloc-taken a status w n x e s k = refused-gives a status _ 6 _ _ _ _ (sym same) (λ y. absurd (omega (arith, y)))
+alloc-taken : (a : Arrays) (status : Status) (held w : ℕ) (n : Name) (x : ℕ) → (valueIn (a .valueHi) (a .valueLo) (a .numbers) (a .widths) n .width ≡ 0 → ⊥)
+    → OpenDone held w (Alloc n x) a status (only status 6) a
+alloc-taken a status held w n x e s k = refused-gives a status _ 6 _ _ _ _ (sym same) (λ y. absurd (omega (arith, y)))
   where
     is-bound : isBound n (s .values) ≡ true
     is-bound = sym (value-tells a status s k .bound n) ∙ ap not (ne-eqb (valueIn (a .valueHi) (a .valueLo) (a .numbers) (a .widths) n .width) 0 e)
 
-    same : firstBroken (openRules lowest s w (Alloc n x)) ≡ 6
-    same = tells a status s k .alloc n w x ∙ ap (λ (b : Bool). cond b 6 (allocOf (kept a status) n w x .reason)) is-bound
+    same : firstBroken (openRules lowest s held w (Alloc n x)) ≡ 6
+    same = tells a status s k .alloc n held w x ∙ ap (λ (b : Bool). cond b 6 (allocOf (kept a status) n w x .reason)) is-bound
 
-release-gives : (a : Arrays) (status : Status) (w : ℕ) (n : Name) (x : ℕ)
-    → OpenDone w (Dealloc n x) a status (stepOf (releaseOf (kept a status) n w x) status 0 x) (storedIn a (releaseOf (kept a status) n w x))
+release-gives : (a : Arrays) (status : Status) (held w : ℕ) (n : Name) (x : ℕ)
+    → OpenDone held w (Dealloc n x) a status (stepOf (releaseOf (kept a status) n w x) status 0 x) (storedIn a (releaseOf (kept a status) n w x))
 unfolding effect given requested released
-release-gives a status w n x s k =
-    booked-gives a status s k (releaseOf (kept a status) n w x) (firstBroken (openRules lowest s w (Dealloc n x))) (effect lowest s w (Dealloc n x)) [] 0 x
-    (sym (tells a status s k .release n w x)) (tells a status s k .released n w x) refl refl (λ z. refl) (λ z y. release-start (kept a status) n w x)
+release-gives a status held w n x s k =
+    booked-gives a status s k (releaseOf (kept a status) n w x) (firstBroken (openRules lowest s held w (Dealloc n x))) (effect lowest s w (Dealloc n x)) [] 0 x
+    (sym (tells a status s k .release n held w x)) (tells a status s k .released n w x) refl refl (λ z. refl) (λ z y. release-start (kept a status) n w x)
 
-relinquish-gives : (a : Arrays) (status : Status) (w : ℕ)
-    → OpenDone w Relinquish a status (stepOf (relinquishOf (kept a status) w) status 0 0) (storedIn a (relinquishOf (kept a status) w))
+relinquish-gives : (a : Arrays) (status : Status) (held w : ℕ)
+    → OpenDone held w Relinquish a status (stepOf (relinquishOf (kept a status) w) status 0 0) (storedIn a (relinquishOf (kept a status) w))
 unfolding effect given requested released
-relinquish-gives a status w s k =
-    booked-gives a status s k (relinquishOf (kept a status) w) (firstBroken (openRules lowest s w Relinquish)) (effect lowest s w Relinquish) [] 0 0
-    (sym (tells a status s k .relinquish w)) (tells a status s k .relinquished w) refl refl (λ z. refl) (λ z y. relinquish-start (kept a status) w)
+relinquish-gives a status held w s k =
+    booked-gives a status s k (relinquishOf (kept a status) w) (firstBroken (openRules lowest s held w Relinquish)) (effect lowest s w Relinquish) [] 0 0
+    (sym (tells a status s k .relinquish held w)) (tells a status s k .relinquished w) refl refl (λ z. refl) (λ z y. relinquish-start (kept a status) w)
 
 -- ---- what the code has: the booking, the answer and the arrays that were stored
 array-path : (a : Arrays) (b : Booked) (hi lo columns : List ℕ)
@@ -359,16 +341,16 @@ array-path : (a : Arrays) (b : Booked) (hi lo columns : List ℕ)
     → storedIn a b ≡ arrays hi lo columns (a .valueHi) (a .valueLo) (a .numbers) (a .widths)
 array-path a b hi lo columns q = rw (q .0, q .1, q .2)
 
-step-done : (w : ℕ) (t : Statement) (a : Arrays) (status : Status) (b right : Booked) (asked returned : ℕ) → b ≡ right
-    → OpenDone w t a status (stepOf right status asked returned) (storedIn a right)
+step-done : (held w : ℕ) (t : Statement) (a : Arrays) (status : Status) (b right : Booked) (asked returned : ℕ) → b ≡ right
+    → OpenDone held w t a status (stepOf right status asked returned) (storedIn a right)
     → (r : Step) (hi lo columns : List ℕ) → BookDone b status asked returned (a .hi) (a .lo) (a .columns) r hi lo columns
-    → OpenDone w t a status r (arrays hi lo columns (a .valueHi) (a .valueLo) (a .numbers) (a .widths))
-step-done w t a status b right asked returned e d r hi lo columns q =
-    subst (λ (x : Arrays). OpenDone w t a status r x) (array-path a b hi lo columns (q .1))
-    (subst (λ (x : Step). OpenDone w t a status x (storedIn a b)) (sym (q .0))
-    (subst (λ (x : Booked). OpenDone w t a status (stepOf x status asked returned) (storedIn a x)) (sym e) d))
+    → OpenDone held w t a status r (arrays hi lo columns (a .valueHi) (a .valueLo) (a .numbers) (a .widths))
+step-done held w t a status b right asked returned e d r hi lo columns q =
+    subst (λ (x : Arrays). OpenDone held w t a status r x) (array-path a b hi lo columns (q .1))
+    (subst (λ (x : Step). OpenDone held w t a status x (storedIn a b)) (sym (q .0))
+    (subst (λ (x : Booked). OpenDone held w t a status (stepOf x status asked returned) (storedIn a x)) (sym e) d))
 
-module _ (w : ℕ) (a : Arrays) (status : Status) (l : Ledger) (f : l ≡ kept a status) (b : Booked) (r : Step) (hi lo columns : List ℕ) where
+module _ (held w : ℕ) (a : Arrays) (status : Status) (l : Ledger) (f : l ≡ kept a status) (b : Booked) (r : Step) (hi lo columns : List ℕ) where
   abbrev after : Arrays
   after = arrays hi lo columns (a .valueHi) (a .valueLo) (a .numbers) (a .widths)
 
@@ -376,26 +358,26 @@ module _ (w : ℕ) (a : Arrays) (status : Status) (l : Ledger) (f : l ≡ kept a
   So asked returned = BookDone b status asked returned (a .hi) (a .lo) (a .columns) r hi lo columns
 
   pub alloc-done : (n : Name) (x : ℕ) (v : Value) → v ≡ valueIn (a .valueHi) (a .valueLo) (a .numbers) (a .widths) n → v .width ≡ 0
-      → b ≡ allocOf l n w x → So x 0 → OpenDone w (Alloc n x) a status r after
+      → b ≡ allocOf l n w x → So x 0 → OpenDone held w (Alloc n x) a status r after
   alloc-done n x v g z e p =
-      step-done w (Alloc n x) a status b (allocOf (kept a status) n w x) x 0 (e ∙ ap (λ (y : Ledger). allocOf y n w x) f)
-      (alloc-gives a status w n x (ap (λ (y : Value). y .width) (sym g) ∙ z)) r hi lo columns p
+      step-done held w (Alloc n x) a status b (allocOf (kept a status) n w x) x 0 (e ∙ ap (λ (y : Ledger). allocOf y n w x) f)
+      (alloc-gives a status held w n x (ap (λ (y : Value). y .width) (sym g) ∙ z)) r hi lo columns p
 
-  pub release-done : (n : Name) (x : ℕ) → b ≡ releaseOf l n w x → So 0 x → OpenDone w (Dealloc n x) a status r after
+  pub release-done : (n : Name) (x : ℕ) → b ≡ releaseOf l n w x → So 0 x → OpenDone held w (Dealloc n x) a status r after
   release-done n x e p =
-      step-done w (Dealloc n x) a status b (releaseOf (kept a status) n w x) 0 x (e ∙ ap (λ (y : Ledger). releaseOf y n w x) f)
-      (release-gives a status w n x) r hi lo columns p
+      step-done held w (Dealloc n x) a status b (releaseOf (kept a status) n w x) 0 x (e ∙ ap (λ (y : Ledger). releaseOf y n w x) f)
+      (release-gives a status held w n x) r hi lo columns p
 
-  pub relinquish-done : b ≡ relinquishOf l w → So 0 0 → OpenDone w Relinquish a status r after
+  pub relinquish-done : b ≡ relinquishOf l w → So 0 0 → OpenDone held w Relinquish a status r after
   relinquish-done e p =
-      step-done w Relinquish a status b (relinquishOf (kept a status) w) 0 0 (e ∙ ap (λ (y : Ledger). relinquishOf y w) f)
-      (relinquish-gives a status w) r hi lo columns p
+      step-done held w Relinquish a status b (relinquishOf (kept a status) w) 0 0 (e ∙ ap (λ (y : Ledger). relinquishOf y w) f)
+      (relinquish-gives a status held w) r hi lo columns p
 
-pub alloc-6 : (w : ℕ) (a : Arrays) (status : Status) (n : Name) (x : ℕ) (v : Value) → v ≡ valueIn (a .valueHi) (a .valueLo) (a .numbers) (a .widths) n
-    → (v .width ≡ 0 → ⊥) → (r : Step) → r ≡ only status 6 → OpenDone w (Alloc n x) a status r a
-alloc-6 w a status n x v g z r p =
-    subst (λ (y : Step). OpenDone w (Alloc n x) a status y a) (sym p)
-    (alloc-taken a status w n x (λ e. z (ap (λ (y : Value). y .width) g ∙ e)))
+pub alloc-6 : (held w : ℕ) (a : Arrays) (status : Status) (n : Name) (x : ℕ) (v : Value) → v ≡ valueIn (a .valueHi) (a .valueLo) (a .numbers) (a .widths) n
+    → (v .width ≡ 0 → ⊥) → (r : Step) → r ≡ only status 6 → OpenDone held w (Alloc n x) a status r a
+alloc-6 held w a status n x v g z r p =
+    subst (λ (y : Step). OpenDone held w (Alloc n x) a status y a) (sym p)
+    (alloc-taken a status held w n x (λ e. z (ap (λ (y : Value). y .width) g ∙ e)))
 
 -- ---- mov
 -- after a binding a name has what it had, or what was bound
@@ -452,18 +434,18 @@ module _ (a : Arrays) (status : Status) (n : Name) (taken : Span) (e : taken ≡
       sym (tells a status s k .live n) ∙ ap not (eq-eqb (findOf (kept a status) n .columns) 0 (ap (λ (x : Span). x .columns) (sym e) ∙ z))
 
   -- the reason, by whether the name is live
-  reason32 : (b : Bool) (w v : ℕ) (s : State) → Kept a status s → isLive n (s .live) ≡ b
-      → firstBroken (openRules lowest s w (Mov32 n v)) ≡ cond b 6 (bindOf values n 32 v .reason)
-  reason32 b w v s k y = value-tells a status s k .bind32 n w v ∙ ap (λ (x : Bool). cond x 6 (bindOf values n 32 v .reason)) y
+  reason32 : (b : Bool) (held w v : ℕ) (s : State) → Kept a status s → isLive n (s .live) ≡ b
+      → firstBroken (openRules lowest s held w (Mov32 n v)) ≡ cond b 6 (bindOf values n 32 v .reason)
+  reason32 b held w v s k y = value-tells a status s k .bind32 n held w v ∙ ap (λ (x : Bool). cond x 6 (bindOf values n 32 v .reason)) y
 
-  reason64 : (b : Bool) (w v : ℕ) (s : State) → Kept a status s → isLive n (s .live) ≡ b
-      → firstBroken (openRules lowest s w (Mov64 n v)) ≡ cond b 6 (bindOf values n 64 v .reason)
-  reason64 b w v s k y = value-tells a status s k .bind64 n w v ∙ ap (λ (x : Bool). cond x 6 (bindOf values n 64 v .reason)) y
+  reason64 : (b : Bool) (held w v : ℕ) (s : State) → Kept a status s → isLive n (s .live) ≡ b
+      → firstBroken (openRules lowest s held w (Mov64 n v)) ≡ cond b 6 (bindOf values n 64 v .reason)
+  reason64 b held w v s k y = value-tells a status s k .bind64 n held w v ∙ ap (λ (x : Bool). cond x 6 (bindOf values n 64 v .reason)) y
 
   pub mov-6 : (width v : ℕ) → (taken .columns ≡ 0 → ⊥) → (r : Step) → r ≡ only status 6 → MovDone n width v a status r a
   mov-6 width v z r p = subst (λ (x : Step). MovDone n width v a status x a) (sym p) (record {
-    at32 = λ w f g s k. refused-gives a status _ 6 _ _ _ _ (sym (reason32 true w v s k (is-live z s k))) (λ y. absurd (omega (arith, y)));
-    at64 = λ w f s k. refused-gives a status _ 6 _ _ _ _ (sym (reason64 true w v s k (is-live z s k))) (λ y. absurd (omega (arith, y)));
+    at32 = λ held w f g s k. refused-gives a status _ 6 _ _ _ _ (sym (reason32 true held w v s k (is-live z s k))) (λ y. absurd (omega (arith, y)));
+    at64 = λ held w f s k. refused-gives a status _ 6 _ _ _ _ (sym (reason64 true held w v s k (is-live z s k))) (λ y. absurd (omega (arith, y)));
   })
 
   module _ (z : taken .columns ≡ 0) (i : ℕ) (f : i ≡ entryOf (a .valueHi) (a .valueLo) (a .widths) n) where
@@ -472,8 +454,8 @@ module _ (a : Arrays) (status : Status) (n : Name) (taken : Span) (e : taken ≡
 
     pub mov-7 : (width v : ℕ) → 128 ≤ i → (r : Step) → r ≡ only status 7 → MovDone n width v a status r a
     mov-7 width v h r p = subst (λ (x : Step). MovDone n width v a status x a) (sym p) (record {
-      at32 = λ w g j s k. refused-gives a status _ 7 _ _ _ _ (sym (reason32 false w v s k (not-live z s k) ∙ full 32 v h)) (λ y. absurd (omega (arith, y)));
-      at64 = λ w g s k. refused-gives a status _ 7 _ _ _ _ (sym (reason64 false w v s k (not-live z s k) ∙ full 64 v h)) (λ y. absurd (omega (arith, y)));
+      at32 = λ held w g j s k. refused-gives a status _ 7 _ _ _ _ (sym (reason32 false held w v s k (not-live z s k) ∙ full 32 v h)) (λ y. absurd (omega (arith, y)));
+      at64 = λ held w g s k. refused-gives a status _ 7 _ _ _ _ (sym (reason64 false held w v s k (not-live z s k) ∙ full 64 v h)) (λ y. absurd (omega (arith, y)));
     })
 
     module _ (h : i < 128) (v : ℕ) where
@@ -514,20 +496,20 @@ module _ (a : Arrays) (status : Status) (n : Name) (taken : Span) (e : taken ≡
         unchanged = λ x. absurd (x refl);
       }
 
-      done32 : v < 2 ^ 32 → (w : ℕ) → OpenDone w (Mov32 n v) a status (only status 0) (next 32)
+      done32 : v < 2 ^ 32 → (held w : ℕ) → OpenDone held w (Mov32 n v) a status (only status 0) (next 32)
       unfolding effect given requested released
-      done32 g w s k =
-          moved-gives 32 (firstBroken (openRules lowest s w (Mov32 n v))) s (reason32 false w v s k (not-live z s k) ∙ accepted 32)
+      done32 g held w s k =
+          moved-gives 32 (firstBroken (openRules lowest s held w (Mov32 n v))) s (reason32 false held w v s k (not-live z s k) ∙ accepted 32)
           (kept-next 32 s k (λ y. g) (value-tells a status s k .bound32 n w v (accepted 32)))
 
-      done64 : (w : ℕ) → OpenDone w (Mov64 n v) a status (only status 0) (next 64)
+      done64 : (held w : ℕ) → OpenDone held w (Mov64 n v) a status (only status 0) (next 64)
       unfolding effect given requested released
-      done64 w s k =
-          moved-gives 64 (firstBroken (openRules lowest s w (Mov64 n v))) s (reason64 false w v s k (not-live z s k) ∙ accepted 64)
+      done64 held w s k =
+          moved-gives 64 (firstBroken (openRules lowest s held w (Mov64 n v))) s (reason64 false held w v s k (not-live z s k) ∙ accepted 64)
           (kept-next 64 s k (λ y. absurd (omega (arith, y))) (value-tells a status s k .bound64 n w v (accepted 64)))
 
       pub mov-0 : (width : ℕ) (r : Step) → r ≡ only status 0 → MovDone n width v a status r (next width)
       mov-0 width r p = subst (λ (x : Step). MovDone n width v a status x (next width)) (sym p) (record {
-        at32 = λ w g j. subst (λ (x : ℕ). OpenDone w (Mov32 n v) a status (only status 0) (next x)) (sym g) (done32 j w);
-        at64 = λ w g. subst (λ (x : ℕ). OpenDone w (Mov64 n v) a status (only status 0) (next x)) (sym g) (done64 w);
+        at32 = λ held w g j. subst (λ (x : ℕ). OpenDone held w (Mov32 n v) a status (only status 0) (next x)) (sym g) (done32 j held w);
+        at64 = λ held w g. subst (λ (x : ℕ). OpenDone held w (Mov64 n v) a status (only status 0) (next x)) (sym g) (done64 held w);
       })

@@ -8,7 +8,7 @@ use lib.ListN.{length}
 use Rattle.laws.specs.Rules.{Rule, firstBroken}
 use Rattle.tokens.specs.declared.Name.{Name}
 use Rattle.statement.specs.declared.Statement.{Statement}
-use Rattle.statement.specs.declared.Statement.the-variants.{Mov32, Mov64}
+use Rattle.statement.specs.declared.Statement.the-variants.{Mov32, Mov64, Alloc}
 use Rattle.rules.specs.State.{State, lowest}
 use Rattle.rules.specs.Reasons.{openRules, rules}
 use Rattle.rules.specs.Sheet.{Line, statement, given, requested, released, lineRules, lineEffect}
@@ -74,27 +74,31 @@ Done under x before status r after =
     (s : State) → Kept before status s
     → Gives (firstBroken (under s)) (lineEffect lowest s x) (given lowest s x) (requested x) (released x) before status r after
 
--- a whole line; a statement of a warp; and a statement before exit
-abbrev pub LineDone : Line → Arrays → Status → Step → Arrays → Type 0
-LineDone x = Done (λ s. lineRules lowest s x) x
+-- with the columns held before it: a whole line; a statement of a warp; and a statement before exit
+abbrev pub LineDone : (held : ℕ) → Line → Arrays → Status → Step → Arrays → Type 0
+LineDone held x = Done (λ s. lineRules lowest s held x) x
 
-abbrev pub StatementDone : ℕ → Statement → Arrays → Status → Step → Arrays → Type 0
-StatementDone w t = Done (λ s. rules lowest s w t) (statement w t)
+abbrev pub StatementDone : (held w : ℕ) → Statement → Arrays → Status → Step → Arrays → Type 0
+StatementDone held w t = Done (λ s. rules lowest s held w t) (statement w t)
 
-abbrev pub OpenDone : ℕ → Statement → Arrays → Status → Step → Arrays → Type 0
-OpenDone w t = Done (λ s. openRules lowest s w t) (statement w t)
+abbrev pub OpenDone : (held w : ℕ) → Statement → Arrays → Status → Step → Arrays → Type 0
+OpenDone held w t = Done (λ s. openRules lowest s held w t) (statement w t)
 
--- ---- the parts
+-- ---- the parts: all but exit whatever is held
 -- a statement before exit that touches the arrays of the ledger alone, whatever the table of value names has
 abbrev pub LedgerDone : ℕ → Statement → (hi lo columns : List ℕ) → Status → Step → (hi lo columns : List ℕ) → Type 0
 LedgerDone w t hi lo columns status r nextHi nextLo nextColumns =
-    (valueHi valueLo numbers widths : List ℕ)
-    → OpenDone w t (arrays hi lo columns valueHi valueLo numbers widths) status r (arrays nextHi nextLo nextColumns valueHi valueLo numbers widths)
+    (held : ℕ) (valueHi valueLo numbers widths : List ℕ)
+    → OpenDone held w t (arrays hi lo columns valueHi valueLo numbers widths) status r (arrays nextHi nextLo nextColumns valueHi valueLo numbers widths)
+
+-- an alloc
+abbrev pub AllocDone : ℕ → Name → ℕ → Arrays → Status → Step → Arrays → Type 0
+AllocDone w name columns before status r after = (held : ℕ) → OpenDone held w (Alloc name columns) before status r after
 
 -- a mov at either width, of any warp; a 32-bit value has 32 bits
 pub record MovDone (name : Name) (width number : ℕ) (before : Arrays) (status : Status) (r : Step) (after : Arrays) : Type 0 where
-  pub at32 : (w : ℕ) → width ≡ 32 → number < 2 ^ 32 → OpenDone w (Mov32 name number) before status r after
-  pub at64 : (w : ℕ) → width ≡ 64 → OpenDone w (Mov64 name number) before status r after
+  pub at32 : (held w : ℕ) → width ≡ 32 → number < 2 ^ 32 → OpenDone held w (Mov32 name number) before status r after
+  pub at64 : (held w : ℕ) → width ≡ 64 → OpenDone held w (Mov64 name number) before status r after
 
 -- what is stored of a booking: nothing where it is refused
 abbrev pub stored : Booked → List ℕ → List ℕ → List ℕ

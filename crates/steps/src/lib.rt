@@ -1,8 +1,7 @@
 // One statement of a sheet, judged and booked: its reason, and what the judge keeps afterwards.
 ghost use mathlib.Core.Path.{_≡_};
-ghost use Rattle.statement.specs.declared.Statement.the-variants.{Alloc, Dealloc, Relinquish};
-ghost use Rattle.ledger.specs.Slots.{total};
-ghost use Rattle.steps.specs.Steps.{arrays, only, Sized, StatementDone, OpenDone, LedgerDone, MovDone, ledgerOf, stored, stepOf, exitOf};
+ghost use Rattle.statement.specs.declared.Statement.the-variants.{Dealloc, Relinquish};
+ghost use Rattle.steps.specs.Steps.{arrays, only, Sized, StatementDone, AllocDone, LedgerDone, MovDone, ledgerOf, stored, stepOf, exitOf};
 use ledger::Booked;
 use ledger::Ledger;
 use statement::Statement;
@@ -141,7 +140,7 @@ fn alloc<'a>(
     name: Name,
     requested: u32,
 ) -> Step
-    ensures { λ r. ⌜ OpenDone warp (Alloc name requested) (arrays (now (hi .entry)) (now (lo .entry)) (now (columns .entry)) (now («value_hi» .entry)) (now («value_lo» .entry)) (now (numbers .entry)) (now (widths .entry))) status r (arrays (now (hi .exit)) (now (lo .exit)) (now (columns .exit)) (now («value_hi» .entry)) (now («value_lo» .entry)) (now (numbers .entry)) (now (widths .entry))) ⌝ }
+    ensures { λ r. ⌜ AllocDone warp name requested (arrays (now (hi .entry)) (now (lo .entry)) (now (columns .entry)) (now («value_hi» .entry)) (now («value_lo» .entry)) (now (numbers .entry)) (now (widths .entry))) status r (arrays (now (hi .exit)) (now (lo .exit)) (now (columns .exit)) (now («value_hi» .entry)) (now («value_lo» .entry)) (now (numbers .entry)) (now (widths .entry))) ⌝ }
 {
     let bound = bindings::lookup_in(value_hi, value_lo, numbers, widths, name);
     if bound.width != 0 {
@@ -185,10 +184,10 @@ fn relinquish(
 }
 
 // Exit, unless columns are held (15).
-fn leave(columns: &[u16; 16], status: Status) -> Step
-    ensures { λ r. ⌜ r ≡ exitOf (total (now (columns .entry)) 16) status ⌝ }
+fn leave(held: u32, status: Status) -> Step
+    ensures { λ r. ⌜ r ≡ exitOf held status ⌝ }
 {
-    if ledger::held_in(columns) != 0 {
+    if held != 0 {
         return quiet(status, 15);
     }
     let left = Status {
@@ -200,7 +199,7 @@ fn leave(columns: &[u16; 16], status: Status) -> Step
     quiet(left, 0)
 }
 
-// One statement of a warp, judged and booked.
+// One statement of a warp, judged and booked; `held` is what the lines before it asked for less what they gave back.
 pub fn statement(
     hi: &mut [u64; 16],
     lo: &mut [u64; 16],
@@ -210,11 +209,12 @@ pub fn statement(
     numbers: &mut [u64; 128],
     widths: &mut [u8; 128],
     status: Status,
+    held: u32,
     warp: u8,
     t: Statement,
 ) -> Step
     requires { ⌜ Sized (arrays (now hi) (now lo) (now columns) (now «value_hi») (now «value_lo») (now numbers) (now widths)) ⌝ }
-    ensures { λ r. ⌜ StatementDone warp t (arrays (now (hi .entry)) (now (lo .entry)) (now (columns .entry)) (now («value_hi» .entry)) (now («value_lo» .entry)) (now (numbers .entry)) (now (widths .entry))) status r (arrays (now (hi .exit)) (now (lo .exit)) (now (columns .exit)) (now («value_hi» .exit)) (now («value_lo» .exit)) (now (numbers .exit)) (now (widths .exit))) ⌝ }
+    ensures { λ r. ⌜ StatementDone held warp t (arrays (now (hi .entry)) (now (lo .entry)) (now (columns .entry)) (now («value_hi» .entry)) (now («value_lo» .entry)) (now (numbers .entry)) (now (widths .entry))) status r (arrays (now (hi .exit)) (now (lo .exit)) (now (columns .exit)) (now («value_hi» .exit)) (now («value_lo» .exit)) (now (numbers .exit)) (now (widths .exit))) ⌝ }
 {
     if status.exited {
         return quiet(status, checks::closed_reason(t));
@@ -277,6 +277,6 @@ pub fn statement(
                 checks::mma_reason(hi, lo, columns, value_hi, value_lo, numbers, widths, m),
             )
         }
-        Statement::Exit => leave(columns, status),
+        Statement::Exit => leave(held, status),
     }
 }

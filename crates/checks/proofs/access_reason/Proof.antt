@@ -11,13 +11,13 @@ is-miscounted-requires : tie.Need-is-miscounted-requires
 is-miscounted-requires c κs = search needs
 
 returns : tie.Need-returns
-returns c s h = access-5 s _ _ (sym (c .before .is-miscounted .ensures) ∙ c .if1 .taken)
+returns c s held h = access-5 s held _ _ (sym (c .before .is-miscounted .ensures) ∙ c .if1 .taken)
 
 find-in-requires : tie.Need-find-in-requires
 find-in-requires c κs = search needs
 
 returns-2 : tie.Need-returns-2
-returns-2 c s h = access-6 s _ _ _ _ _ h _ (c .before .before .find-in .ensures) (sym (c .before .before .before .before .before .before .is-miscounted .ensures) ∙ c .before .before .before .before .before .if1 .left) (eq-eqb _ _ (c .if2 .taken))
+returns-2 c s held h = access-6 s held _ _ _ _ _ h _ (c .before .before .find-in .ensures) (sym (c .before .before .before .before .before .before .is-miscounted .ensures) ∙ c .before .before .before .before .before .if1 .left) (eq-eqb _ _ (c .if2 .taken))
 
 lanes-requires : tie.Need-lanes-requires
 lanes-requires c κs = search needs
@@ -26,7 +26,7 @@ is-lane-requires : tie.Need-is-lane-requires
 is-lane-requires c κs = search needs
 
 returns-3 : tie.Need-returns-3
-returns-3 c s h = access-8 s _ _ _ _ _ h _ (c .before .before .before .before .before .find-in .ensures) (sym (c .before .before .before .before .before .before .before .before .before .is-miscounted .ensures) ∙ c .before .before .before .before .before .before .before .before .if1 .left) (ne-eqb _ _ (c .before .before .before .if2 .left)) _ _ (c .before .before .lanes .ensures) (c .before .is-lane .ensures) (not-true _ (c .if3 .taken))
+returns-3 c s held h = access-8 s held _ _ _ _ _ h _ (c .before .before .before .before .before .find-in .ensures) (sym (c .before .before .before .before .before .before .before .before .before .is-miscounted .ensures) ∙ c .before .before .before .before .before .before .before .before .if1 .left) (ne-eqb _ _ (c .before .before .before .if2 .left)) _ _ (c .before .before .lanes .ensures) (c .before .is-lane .ensures) (not-true _ (c .if3 .taken))
 
 columns-needed-requires : tie.Need-columns-needed-requires
 columns-needed-requires c κs = search needs
@@ -35,10 +35,10 @@ ends-within-requires : tie.Need-ends-within-requires
 ends-within-requires c κs = search needs
 
 returns-4 : tie.Need-returns-4
-returns-4 c s h = access-end s _ _ _ _ _ h _ (c .before .before .before .before .before .before .before .before .find-in .ensures) (sym (c .before .before .before .before .before .before .before .before .before .before .before .before .is-miscounted .ensures) ∙ c .before .before .before .before .before .before .before .before .before .before .before .if1 .left) (ne-eqb _ _ (c .before .before .before .before .before .before .if2 .left)) _ _ (c .before .before .before .before .before .lanes .ensures) (c .before .before .before .before .is-lane .ensures) _ _ (not-false _ (c .before .before .before .if3 .left)) (c .before .before .columns-needed .ensures) (c .before .ends-within .ensures) true (c .if4 .taken)
+returns-4 c s held h = access-end s held _ _ _ _ _ h _ (c .before .before .before .before .before .before .before .before .find-in .ensures) (sym (c .before .before .before .before .before .before .before .before .before .before .before .before .is-miscounted .ensures) ∙ c .before .before .before .before .before .before .before .before .before .before .before .if1 .left) (ne-eqb _ _ (c .before .before .before .before .before .before .if2 .left)) _ _ (c .before .before .before .before .before .lanes .ensures) (c .before .before .before .before .is-lane .ensures) _ _ (not-false _ (c .before .before .before .if3 .left)) (c .before .before .columns-needed .ensures) (c .before .ends-within .ensures) true (c .if4 .taken)
 
 returns-5 : tie.Need-returns-5
-returns-5 c s h = access-end s _ _ _ _ _ h _ (c .before .before .before .before .before .before .before .before .find-in .ensures) (sym (c .before .before .before .before .before .before .before .before .before .before .before .before .is-miscounted .ensures) ∙ c .before .before .before .before .before .before .before .before .before .before .before .if1 .left) (ne-eqb _ _ (c .before .before .before .before .before .before .if2 .left)) _ _ (c .before .before .before .before .before .lanes .ensures) (c .before .before .before .before .is-lane .ensures) _ _ (not-false _ (c .before .before .before .if3 .left)) (c .before .before .columns-needed .ensures) (c .before .ends-within .ensures) false (c .if4 .left)
+returns-5 c s held h = access-end s held _ _ _ _ _ h _ (c .before .before .before .before .before .before .before .before .find-in .ensures) (sym (c .before .before .before .before .before .before .before .before .before .before .before .before .is-miscounted .ensures) ∙ c .before .before .before .before .before .before .before .before .before .before .before .if1 .left) (ne-eqb _ _ (c .before .before .before .before .before .before .if2 .left)) _ _ (c .before .before .before .before .before .lanes .ensures) (c .before .before .before .before .is-lane .ensures) _ _ (not-false _ (c .before .before .before .if3 .left)) (c .before .before .columns-needed .ensures) (c .before .ends-within .ensures) false (c .if4 .left)
 
 pub access-reason-spec : {M : Type 1} → statement M
 access-reason-spec =

@@ -23,8 +23,8 @@ operands-reason-requires : tie.Need-operands-reason-requires
 operands-reason-requires c κs = search needs
 
 returns : tie.Need-returns
-returns c s w h =
-    c .operands-reason .ensures s w
+returns c s held w h =
+    c .operands-reason .ensures s held w
     (operands s _ _ _ _ _ _ _ h (c .before .before .before .before .before .before .before .args .m) _ (c .before .before .before .before .before .find-in .ensures) _ (c .before .before .before .before .operand-asked .ensures s h) _ (c .before .before .before .descriptor-asked .ensures s (h .values)) _ (c .before .before .metadata-asked .ensures s (h .slots)) _ (c .before .lookup-in .ensures))
 
 pub mma-reason-spec : {M : Type 1} → statement M

@@ -19,25 +19,25 @@ returns c =
     let a = c .before .before .before .before .before .args in
     let l = c .before .before .before .line-at in
     let r = c .refused in
-    (fault-done (a .sheet .now) (a .at) (l .result) (l .ensures) (not-true (l .result .ok) (c .before .if1 .taken)) _ _ _ (r .ensures .0), next-is (a .sheet .now) (a .at) (l .result) (l .ensures) _ (r .ensures .1))
+    (fault-done (a .sheet .now) (a .at) (a .held) (l .result) (l .ensures) (not-true (l .result .ok) (c .before .if1 .taken)) _ _ _ (r .ensures .0), next-is (a .sheet .now) (a .at) (a .held) (l .result) (l .ensures) _ (r .ensures .1))
 
 sub-read : tie.Need-sub-read
 sub-read c =
     let a = c .before .before .before .before .args in
     let l = c .before .before .line-at in
-    part (a .sheet .now) (a .at) (l .result) (l .ensures) (not-false (l .result .ok) (c .if1 .left)) .0
+    part (a .sheet .now) (a .at) (a .held) (l .result) (l .ensures) (not-false (l .result .ok) (c .if1 .left)) .0
 
 part-read-start : tie.Need-part-read-start
 part-read-start c =
     let a = c .before .before .before .before .args in
     let l = c .before .before .line-at in
-    part (a .sheet .now) (a .at) (l .result) (l .ensures) (not-false (l .result .ok) (c .if1 .left)) .0
+    part (a .sheet .now) (a .at) (a .held) (l .result) (l .ensures) (not-false (l .result .ok) (c .if1 .left)) .0
 
 part-read-end : tie.Need-part-read-end
 part-read-end c =
     let a = c .before .before .before .before .args in
     let l = c .before .before .line-at in
-    part (a .sheet .now) (a .at) (l .result) (l .ensures) (not-false (l .result .ok) (c .if1 .left)) .1
+    part (a .sheet .now) (a .at) (a .held) (l .result) (l .ensures) (not-false (l .result .ok) (c .if1 .left)) .1
 
 read-requires : tie.Need-read-requires
 read-requires c κs = search needs
@@ -57,7 +57,7 @@ returns-2 c =
     let l = c .before .before .before .before .before .before .before .line-at in
     let x = c .before .before .before .read in
     let r = c .refused2 in
-    (not-read (a .sheet .now) (a .at) (l .result) (l .ensures) (not-false (l .result .ok) (c .before .before .before .before .before .if1 .left)) (x .result) (x .ensures) (unread (x .result) (c .before .before .match .keys2)) _ _ _ (c .before .reason .ensures) _ (r .ensures .0), next-is (a .sheet .now) (a .at) (l .result) (l .ensures) _ (r .ensures .1))
+    (not-read (a .sheet .now) (a .at) (a .held) (l .result) (l .ensures) (not-false (l .result .ok) (c .before .before .before .before .before .if1 .left)) (x .result) (x .ensures) (unread (x .result) (c .before .before .match .keys2)) _ _ _ (c .before .reason .ensures) _ (r .ensures .0), next-is (a .sheet .now) (a .at) (a .held) (l .result) (l .ensures) _ (r .ensures .1))
 
 statement-requires : tie.Need-statement-requires
 statement-requires c κs = c .before .before .before .before .before .before .before .before .before .before .before .before .before .before .before .before .pre
@@ -67,7 +67,7 @@ returns-3 c =
     let a = c .before .before .before .before .before .before .before .before .before .before .before .before .before .before .before .before .before .args in
     let l = c .before .before .before .before .before .before .before .before .before .before .before .before .before .before .before .line-at in
     let x = c .before .before .before .before .before .before .before .before .before .before .before .read in
-    (was-read (a .sheet .now) (a .at) (l .result) (l .ensures) (not-false (l .result .ok) (c .before .before .before .before .before .before .before .before .before .before .before .before .before .if1 .left)) (x .result) (x .ensures) _ (c .before .before .before .before .before .before .before .before .before .reading .given .1) _ _ _ _ (c .statement .ensures), next-is (a .sheet .now) (a .at) (l .result) (l .ensures) _ refl)
+    (was-read (a .sheet .now) (a .at) (a .held) (l .result) (l .ensures) (not-false (l .result .ok) (c .before .before .before .before .before .before .before .before .before .before .before .before .before .if1 .left)) (x .result) (x .ensures) _ (c .before .before .before .before .before .before .before .before .before .reading .given .1) _ _ _ _ (c .statement .ensures), next-is (a .sheet .now) (a .at) (a .held) (l .result) (l .ensures) _ refl)
 
 pub step-spec : {M : Type 1} → statement M
 step-spec =

@@ -15,7 +15,7 @@ book-requires : tie.Need-book-requires
 book-requires c κs = search needs
 
 returns : tie.Need-returns
-returns c = λ vh vl nu wi. release-done _ (arrays _ _ _ vh vl nu wi) _ _ (c .before .before .before .before .before .lent .ensures) _ _ _ _ _ _ _ (c .before .before .before .before .release .ensures) (c .book .ensures)
+returns c = λ held vh vl nu wi. release-done held _ (arrays _ _ _ vh vl nu wi) _ _ (c .before .before .before .before .before .lent .ensures) _ _ _ _ _ _ _ (c .before .before .before .before .release .ensures) (c .book .ensures)
 
 pub release-spec : {M : Type 1} → statement M
 release-spec = tie.close (tie.spec lent-requires release-requires book-requires returns)

@@ -12,7 +12,7 @@ quiet-requires : tie.Need-quiet-requires
 quiet-requires c κs = search needs
 
 returns : tie.Need-returns
-returns c = closed-done _ _ _ _ _ _ (c .before .before .if1 .taken) (c .before .closed-reason .ensures) (c .quiet .ensures)
+returns c = closed-done _ _ _ _ _ _ _ (c .before .before .if1 .taken) (c .before .closed-reason .ensures) (c .quiet .ensures)
 
 enum-known-t : tie.Need-enum-known-t
 enum-known-t c = search needs
@@ -105,43 +105,43 @@ leave-requires : tie.Need-leave-requires
 leave-requires c κs = search needs
 
 returns-2 : tie.Need-returns-2
-returns-2 c = open-done _ _ _ (c .before .before .before .before .before .before .before .before .before .t .given .1) _ _ _ _ (c .before .before .before .before .before .before .before .before .before .before .before .if1 .left) (c .mov .ensures .at32 _ refl (search needs))
+returns-2 c = open-done _ _ _ _ (c .before .before .before .before .before .before .before .before .before .t .given .1) _ _ _ _ (c .before .before .before .before .before .before .before .before .before .before .before .if1 .left) (c .mov .ensures .at32 _ _ refl (search needs))
 
 returns-3 : tie.Need-returns-3
-returns-3 c = open-done _ _ _ (c .before .before .before .before .before .before .before .before .before .t2 .given .1) _ _ _ _ (c .before .before .before .before .before .before .before .before .before .before .before .if1 .left) (c .mov2 .ensures .at64 _ refl)
+returns-3 c = open-done _ _ _ _ (c .before .before .before .before .before .before .before .before .before .t2 .given .1) _ _ _ _ (c .before .before .before .before .before .before .before .before .before .before .before .if1 .left) (c .mov2 .ensures .at64 _ _ refl)
 
 returns-4 : tie.Need-returns-4
-returns-4 c = open-done _ _ _ (c .before .before .before .before .before .before .before .before .before .t3 .given .1) _ _ _ _ (c .before .before .before .before .before .before .before .before .before .before .before .if1 .left) (c .alloc .ensures)
+returns-4 c = open-done _ _ _ _ (c .before .before .before .before .before .before .before .before .before .t3 .given .1) _ _ _ _ (c .before .before .before .before .before .before .before .before .before .before .before .if1 .left) (c .alloc .ensures _)
 
 returns-5 : tie.Need-returns-5
-returns-5 c = open-done _ _ _ (c .before .before .before .before .before .t4 .given .1) _ _ _ _ (c .before .before .before .before .before .before .before .if1 .left) (c .release .ensures _ _ _ _)
+returns-5 c = open-done _ _ _ _ (c .before .before .before .before .before .t4 .given .1) _ _ _ _ (c .before .before .before .before .before .before .before .if1 .left) (c .release .ensures _ _ _ _ _)
 
 returns-6 : tie.Need-returns-6
-returns-6 c = open-done _ _ _ (c .before .before .before .before .enum-told .given .1) _ _ _ _ (c .before .before .before .before .before .before .if1 .left) (c .relinquish .ensures _ _ _ _)
+returns-6 c = open-done _ _ _ _ (c .before .before .before .before .enum-told .given .1) _ _ _ _ (c .before .before .before .before .before .before .if1 .left) (c .relinquish .ensures _ _ _ _ _)
 
 returns-7 : tie.Need-returns-7
-returns-7 c = open-done _ _ _ (c .before .before .before .before .before .before .t5 .given .1) _ _ _ _ (c .before .before .before .before .before .before .before .before .if1 .left) (load-done _ _ _ _ _ (c .quiet2 .ensures) _ (c .before .access-reason .ensures))
+returns-7 c = open-done _ _ _ _ (c .before .before .before .before .before .before .t5 .given .1) _ _ _ _ (c .before .before .before .before .before .before .before .before .if1 .left) (load-done _ _ _ _ _ _ (c .quiet2 .ensures) _ (c .before .access-reason .ensures))
 
 returns-8 : tie.Need-returns-8
-returns-8 c = open-done _ _ _ (c .before .before .before .before .before .before .t6 .given .1) _ _ _ _ (c .before .before .before .before .before .before .before .before .if1 .left) (store-done _ _ _ _ _ (c .quiet3 .ensures) _ (c .before .access-reason2 .ensures))
+returns-8 c = open-done _ _ _ _ (c .before .before .before .before .before .before .t6 .given .1) _ _ _ _ (c .before .before .before .before .before .before .before .before .if1 .left) (store-done _ _ _ _ _ _ (c .quiet3 .ensures) _ (c .before .access-reason2 .ensures))
 
 returns-9 : tie.Need-returns-9
-returns-9 c = open-done _ _ _ (c .before .enum-told2 .given .1) _ _ _ _ (c .before .before .before .if1 .left) (wait-load-done _ _ _ _ (c .quiet4 .ensures))
+returns-9 c = open-done _ _ _ _ (c .before .enum-told2 .given .1) _ _ _ _ (c .before .before .before .if1 .left) (wait-load-done _ _ _ _ _ (c .quiet4 .ensures))
 
 returns-10 : tie.Need-returns-10
-returns-10 c = open-done _ _ _ (c .before .enum-told3 .given .1) _ _ _ _ (c .before .before .before .if1 .left) (wait-store-done _ _ _ _ (c .quiet5 .ensures))
+returns-10 c = open-done _ _ _ _ (c .before .enum-told3 .given .1) _ _ _ _ (c .before .before .before .if1 .left) (wait-store-done _ _ _ _ _ (c .quiet5 .ensures))
 
 returns-11 : tie.Need-returns-11
-returns-11 c = open-done _ _ _ (c .before .enum-told4 .given .1) _ _ _ _ (c .before .before .before .if1 .left) (fence-before-done _ _ _ _ (c .quiet6 .ensures))
+returns-11 c = open-done _ _ _ _ (c .before .enum-told4 .given .1) _ _ _ _ (c .before .before .before .if1 .left) (fence-before-done _ _ _ _ _ (c .quiet6 .ensures))
 
 returns-12 : tie.Need-returns-12
-returns-12 c = open-done _ _ _ (c .before .enum-told5 .given .1) _ _ _ _ (c .before .before .before .if1 .left) (fence-after-done _ _ _ _ (c .quiet7 .ensures))
+returns-12 c = open-done _ _ _ _ (c .before .enum-told5 .given .1) _ _ _ _ (c .before .before .before .if1 .left) (fence-after-done _ _ _ _ _ (c .quiet7 .ensures))
 
 returns-13 : tie.Need-returns-13
-returns-13 c = open-done _ _ _ (c .before .before .before .before .before .before .before .before .before .before .t7 .given .1) _ _ _ _ (c .before .before .before .before .before .before .before .before .before .before .before .before .if1 .left) (multiply-done _ _ _ _ _ (c .quiet8 .ensures) _ (c .before .mma-reason .ensures))
+returns-13 c = open-done _ _ _ _ (c .before .before .before .before .before .before .before .before .before .before .t7 .given .1) _ _ _ _ (c .before .before .before .before .before .before .before .before .before .before .before .before .if1 .left) (multiply-done _ _ _ _ _ _ (c .quiet8 .ensures) _ (c .before .mma-reason .ensures))
 
 returns-14 : tie.Need-returns-14
-returns-14 c = open-done _ _ _ (c .before .before .enum-told6 .given .1) _ _ _ _ (c .before .before .before .before .if1 .left) (exit-done _ _ _ _ (c .leave .ensures))
+returns-14 c = open-done _ _ _ _ (c .before .enum-told6 .given .1) _ _ _ _ (c .before .before .before .if1 .left) (exit-done _ _ _ _ _ (c .leave .ensures))
 
 pub statement-spec : {M : Type 1} → statement M
 statement-spec =
