@@ -25,7 +25,7 @@ use Rattle.statement.specs.Opcodes.{recognise}
 use Rattle.statement.specs.Reading.{operandsC, start, wholeBy, opcodeLen, wholeC, answerOf, readOf, reasonOf, registersOf}
 use Rattle.statement.specs.Spells.{RowText, Spells, sized, sizedOperand}
 use Rattle.grammar.specs.Claims.{Exact}
-use Rattle.grammar.proofs.Opcodes.{recognised, recognises, word-plain}
+use Rattle.statement.proofs.Words.{recognised, recognises, clean}
 use Rattle.grammar.proofs.Lexing.{never, at, cut, run-all, run-ends}
 use Rattle.grammar.proofs.Slots.{cutSlot, fitsOperand, fitsSlot}
 use Rattle.grammar.proofs.Rows.{cutRow, overRow, row-sound, row-complete, row-one}
@@ -111,7 +111,7 @@ over-sized Exit vs = refl
 -- ---- the opcode
 module _ (o : Opcode) (rest : List ℕ) (ends : runLen opcodeByte rest ≡ 0) where
   opcode-len : opcodeLen (word o ++ rest) ≡ length (word o)
-  opcode-len = run-all opcodeByte (word o) rest (word-plain o) ends
+  opcode-len = run-all opcodeByte (word o) rest (clean o) ends
 
   opcode-found : recognise (take (opcodeLen (word o ++ rest)) (word o ++ rest)) ≡ Is o
   opcode-found = rw (opcode-len, take-append-seam (word o) rest) (recognised o)

@@ -1,4 +1,3 @@
-pub mod Opcodes
 pub mod Lexing
 pub mod Slots
 pub mod Rows

@@ -24,7 +24,7 @@ use Rattle.statement.specs.Opcodes.{recognise}
 use Rattle.statement.specs.Reading.{inBracketsC, offsetC, insideC, addressC, operandC, moreC, namesC, slotC, moreRowC, rowC, operandsC, start, opcodeLen, wholeBy, wholeC, answerOf, readOf}
 use Rattle.statement.specs.Spells.{Spells, sized}
 use Rattle.grammar.specs.Claims.{After, here, past, Stops, Place, Over, One}
-use Rattle.grammar.proofs.Opcodes.{recognised, recognises}
+use Rattle.statement.proofs.Words.{recognised, recognises}
 use Rattle.grammar.proofs.Rows.{row-sound}
 use Rattle.grammar.proofs.Exact.{whole-at, Met, spells-met}
 use Rattle.grammar.proofs.Lexing.{never, starts, token-parts}

@@ -10,6 +10,7 @@ use lib.ListN.{length, take, drop, take-append-drop}
 use lib.Seq.{take-append-seam, drop-append-seam, length-take-le}
 use lib.Dec.{eqb}
 use borrow.Author.Tests.{eq-eqb, eqb-true, not-true, not-false}
+use Rattle.laws.proofs.BoolLaws.{and-split}
 use Rattle.tokens.specs.Bytes.{pick, opcodeByte, runLen, all}
 use Rattle.statement.specs.declared.Opcode.{Opcode}
 use Rattle.statement.specs.declared.Found.{Found}
@@ -19,7 +20,8 @@ use Rattle.statement.specs.Opcodes.{recognise}
 use Rattle.statement.specs.Reading.{opcodeLen}
 use Rattle.opcode.specs.Pieces.{startsWith, Left, pieceC, whole}
 use Rattle.opcode.specs.Heads.{candidateIn, Parted, headBy, headOf, stops}
-use Rattle.opcode.proofs.Words.{and-split, leads, clean, recognised, recognises}
+use Rattle.statement.proofs.Words.{recognised, recognises, clean}
+use Rattle.opcode.proofs.Words.{leads}
 
 -- ---- starts
 starts-parts : (p s : List ℕ) → startsWith p s ≡ true → s ≡ p ++ drop (length p) s

@@ -15,11 +15,18 @@ use Rattle.statement.specs.declared.Opcode.{Opcode}
 use Rattle.statement.specs.declared.Opcode.the-variants.{Mov32, Mov64, Alloc, Dealloc, Relinquish, Load, Store, WaitLoad, WaitStore, FenceBefore, FenceAfter, Multiply, Exit}
 use Rattle.statement.specs.declared.Found.{Found}
 use Rattle.statement.specs.declared.Found.the-variants.{Is, Nothing}
-use Rattle.statement.specs.Opcodes.{shapeOf, recognise}
+use Rattle.statement.specs.Opcodes.{recognise}
 use Rattle.statement.specs.Reading.{opcodeLen}
 use Rattle.opcode.specs.declared.Head.{Head}
 
 -- ---- the candidate
+-- by the byte at 27: .32x32b, .16x64b, .16x128b, .16x256b
+unfoldable pub shapeBy : ℕ → Shape
+shapeBy x = pick (eqb x 51) S32x32 (pick (eqb x 54) S16x64 (pick (eqb x 49) S16x128 S16x256))
+
+unfoldable pub shapeOf : List ℕ → Shape
+shapeOf s = shapeBy (getD s 27 0)
+
 -- where the digits of .xN stand
 abbrev pub numPlace : Shape → ℕ
 numPlace S32x32 = 32

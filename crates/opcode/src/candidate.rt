@@ -7,8 +7,7 @@ ghost use mathlib.Core.Path.{_≡_};
 ghost use lib.ListN.{getD};
 ghost use lib.Dec.{eqb};
 ghost use Rattle.tokens.specs.Bytes.{pick};
-ghost use Rattle.statement.specs.Opcodes.{shapeBy, shapeOf};
-ghost use Rattle.opcode.specs.Heads.{numPlace, numAt, numIn, kindPlace, kindAt, mmaOf, mmaIn, tcgen05In, candidateIn};
+ghost use Rattle.opcode.specs.Heads.{shapeBy, shapeOf, numPlace, numAt, numIn, kindPlace, kindAt, mmaOf, mmaIn, tcgen05In, candidateIn};
 
 // The byte at a position, 0 past the end.
 pub fn byte(w: &[u8], at: usize) -> u8

@@ -1,14 +1,8 @@
 -- `opcode::candidate::shape_of` meets its contract. Its callees' contracts, one after the other, are the definition. Assumes nothing.
-use Rattle.statement.specs.Opcodes.{shapeOf}
+use Rattle.opcode.specs.Heads.{shapeOf}
 use borrow.Author.Needs.{needs}
 use Rattle.opcode.proofs.candidate.shape_of.Statement.{statement}
 use Rattle.opcode.proofs.candidate.shape_of.Tie as tie
-
--- `opcode::candidate::shape_of` meets its contract. Its callees' contracts, one after the other, are the definition. Assumes nothing.
-
--- `opcode::candidate::shape_of` meets its contract. Its callees' contracts, one after the other, are the definition. Assumes nothing.
-
--- `opcode::candidate::shape_of` meets its contract. Its callees' contracts, one after the other, are the definition. Assumes nothing.
 
 byte-requires : tie.Need-byte-requires
 byte-requires c κs = search needs

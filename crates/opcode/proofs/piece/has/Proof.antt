@@ -11,15 +11,6 @@ use Rattle.opcode.specs.Pieces.{startsWith}
 use Rattle.opcode.proofs.piece.has.Statement.{statement}
 use Rattle.opcode.proofs.piece.has.Tie as tie
 
--- `opcode::piece::has` meets its contract. The loop's invariant: what was compared so far, with what is left of p and of w, is the comparison from
--- the start. Assumes nothing.
-
--- `opcode::piece::has` meets its contract. The loop's invariant: what was compared so far, with what is left of p and of w, is the comparison from
--- the start. Assumes nothing.
-
--- `opcode::piece::has` meets its contract. The loop's invariant: what was compared so far, with what is left of p and of w, is the comparison from
--- the start. Assumes nothing.
-
 abbrev Inv-loop : tie.InvT-loop
 Inv-loop w at p ok₀ i₀ ok i = (i ≤ length p) × ((ok && startsWith (drop i p) (drop (at + i) w)) ≡ startsWith p (drop at w))
 
