@@ -54,7 +54,8 @@ module _ (kind : Kind) (ws sp : Bool) where
   as-numbers : (d : Instruction) → encoded kind ws sp d .reason ≡ 0 → encodedNumbers kind ws sp (numbers d) ≡ encoded kind ws sp d
   as-numbers d e =
       let k : Writing layout numbers rule d = writes d e .0 in
-      word-numbers kind ws sp (numbers d) true true (k .range) (ap (keeps kind ws sp) (own kind ws sp d (k .keeps)) ∙ k .keeps) ∙ sym (writes d e .1)
+      word-numbers kind ws sp (numbers d) true true true (sym (k .range)) (sym (ap (keeps kind ws sp) (own kind ws sp d (k .keeps)) ∙ k .keeps)) refl
+      ∙ sym (writes d e .1)
 
   -- a word that reads as some numbers is the word of those numbers
   fields-word : (w : ℕ) (f : Fields) → w < 2 ^ 32 → fieldsRead (decoded kind ws sp w) ≡ good f → encodedNumbers kind ws sp (values f) ≡ made w

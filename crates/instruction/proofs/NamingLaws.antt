@@ -107,8 +107,9 @@ same kind f d h e =
     let i : Inside layout (values f) = within layout (values f) h in
     let t : Types (values f) (dtypeOf (f .dtype)) (elementOf kind (f .atype)) (elementOf kind (f .btype)) d =
     types (values f) (dtypeOf (f .dtype)) (elementOf kind (f .atype)) (elementOf kind (f .btype)) d e in
+    let j = i .1 .1 .1 .1 .1 .1 in
     ap numbers (sym (t .is))
-    ∙ rw (same-dtype (f .dtype) (t .dtype) (t .is-d), same-element kind (f .atype) (t .atype) (t .is-a), same-element kind (f .btype) (t .btype) (t .is-b), same-bit (f .sparse) (i .1 .0), same-bit (f .saturate) (i .1 .1 .0), same-bit (f .anegate) (i .1 .1 .1 .1 .1 .1 .0), same-bit (f .bnegate) (i .1 .1 .1 .1 .1 .1 .1 .0), same-bit (f .atranspose) (i .1 .1 .1 .1 .1 .1 .1 .1 .0), same-bit (f .btranspose) (i .1 .1 .1 .1 .1 .1 .1 .1 .1 .0))
+    ∙ rw (same-dtype (f .dtype) (t .dtype) (t .is-d), same-element kind (f .atype) (t .atype) (t .is-a), same-element kind (f .btype) (t .btype) (t .is-b), same-bit (f .sparse) (i .1 .0), same-bit (f .saturate) (i .1 .1 .0), same-bit (f .anegate) (j .0), same-bit (f .bnegate) (j .1 .0), same-bit (f .atranspose) (j .1 .1 .0), same-bit (f .btranspose) (j .1 .1 .1 .0))
 
 -- what a word says, as fields
 abbrev pub fieldsAt : ℕ → Fields

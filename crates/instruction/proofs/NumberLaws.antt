@@ -1,6 +1,6 @@
 -- The rules on a descriptor's numbers, before its types are named: the code tests them so. Assumes nothing.
 use Prim.Native.Nat.{ℕ, _<_, _^_}
-use mathlib.Core.Path.{_≡_, refl, ap, sym, _∙_, subst}
+use mathlib.Core.Path.{_≡_, refl, ap, ap₂, sym, _∙_, subst}
 use mathlib.Core.Bool.{Bool, true, false, _&&_, _||_, not, cond, Bool·beq}
 use mathlib.Core.List.{List, [], _∷_}
 use mathlib.Core.Option.{Option, none, some, Option·getD}
@@ -11,7 +11,7 @@ use borrow.Author.Tests.{eqb-false}
 use Rattle.laws.specs.Tests.{all, isSome}
 use Rattle.laws.specs.Layout.{says, stands, ranges, pack}
 use Rattle.laws.specs.Rules.{firstBroken}
-use Rattle.laws.proofs.BoolLaws.{never, and-split, and-l, cond-and}
+use Rattle.laws.proofs.BoolLaws.{never, and-split, and-join, and-l, and-r}
 use Rattle.laws.proofs.TestLaws.{find-passes, never-all}
 use Rattle.laws.proofs.FormatLaws.{read-both, read-none}
 use Rattle.laws.proofs.LayoutLaws.{packed, unpacked}
@@ -35,8 +35,8 @@ flags kind ws sp l =
     ∷ []
 
 -- a type that is found is of the kind
-of-kind : (kind : Kind) (c : ℕ) (t : Element) → elementOf kind c ≡ some t → ofKind kind t ≡ true
-of-kind kind c t e = and-split (ofKind kind t) (eqb c (code t)) (find-passes (λ x. ofKind kind x && eqb c (code x)) elements t e) .0
+found-of-kind : (kind : Kind) (c : ℕ) (t : Element) → elementOf kind c ≡ some t → ofKind kind t ≡ true
+found-of-kind kind c t e = and-split (ofKind kind t) (eqb c (code t)) (find-passes (λ x. ofKind kind x && eqb c (code x)) elements t e) .0
 
 by-options : (kind : Kind) (ws sp : Bool) (l : List ℕ) (x : Option Dtype) (y z : Option Element)
     → ((a : Element) → y ≡ some a → ofKind kind a ≡ true)
@@ -53,7 +53,7 @@ pub admitted : (kind : Kind) (ws sp : Bool) (l : List ℕ)
     ≡ keeps kind ws sp (named kind l)
 admitted kind ws sp l =
     by-options kind ws sp l (dtypeOf (getD l 3 0)) (elementOf kind (getD l 4 0)) (elementOf kind (getD l 5 0))
-    (of-kind kind (getD l 4 0)) (of-kind kind (getD l 5 0))
+    (found-of-kind kind (getD l 4 0)) (found-of-kind kind (getD l 5 0))
 
 -- reading goes by the fixed parts and the tests on numbers
 by-name : (kind : Kind) (ws sp : Bool) (w : ℕ) (x : Option Instruction) → named kind (says layout w) ≡ x
@@ -84,15 +84,18 @@ read-kept kind ws sp w f h e t =
     ap fieldsRead (reading kind ws sp w (values f) true e t)
     ∙ ap good (kept-same kind ws sp f (named kind (values f)) h refl (and-split (all (stands layout w)) (keeps kind ws sp (named kind (values f))) t .1))
 
-pub read-fields : (kind : Kind) (ws sp : Bool) (w : ℕ) (f : Fields) → w < 2 ^ 32 → values f ≡ says layout w
-    → (all (stands layout w) && keeps kind ws sp (named kind (values f))) ≡ true → fieldsRead (decoded kind ws sp w) ≡ good f
-read-fields kind ws sp w f b e t =
-    let s : all (stands layout w) ≡ true = and-l (all (stands layout w)) (keeps kind ws sp (named kind (values f))) t in
-    read-kept kind ws sp w f (subst (λ (l : List ℕ). all (ranges layout l) ≡ true) (sym e) (unpacked 32 layout w refl b s .0)) e t
+-- by the code's two tests
+pub read-fields : (kind : Kind) (ws sp : Bool) (w : ℕ) (f : Fields) (s k : Bool) → w < 2 ^ 32 → values f ≡ says layout w
+    → s ≡ all (stands layout w) → k ≡ keeps kind ws sp (named kind (values f)) → s && k ≡ true → fieldsRead (decoded kind ws sp w) ≡ good f
+read-fields kind ws sp w f s k b e p q t =
+    let stand : all (stands layout w) ≡ true = sym p ∙ and-l s k t in
+    let range : all (ranges layout (values f)) ≡ true =
+    subst (λ (l : List ℕ). all (ranges layout l) ≡ true) (sym e) (unpacked 32 layout w refl b stand .0) in
+    read-kept kind ws sp w f range e (and-join _ _ stand (sym q ∙ and-r s k t))
 
-pub read-refused : (kind : Kind) (ws sp : Bool) (w : ℕ) (f : Fields) → values f ≡ says layout w
-    → (all (stands layout w) && keeps kind ws sp (named kind (values f))) ≡ false → decoded kind ws sp w ≡ noDescriptor
-read-refused kind ws sp w f e t = reading kind ws sp w (values f) false e t
+pub read-refused : (kind : Kind) (ws sp : Bool) (w : ℕ) (f : Fields) (s k : Bool) → values f ≡ says layout w
+    → s ≡ all (stands layout w) → k ≡ keeps kind ws sp (named kind (values f)) → s && k ≡ false → decoded kind ws sp w ≡ noDescriptor
+read-refused kind ws sp w f s k e p q t = reading kind ws sp w (values f) false e (ap₂ _&&_ (sym p) (sym q) ∙ t)
 
 -- a word that is not read has no descriptor
 pub unread : (kind : Kind) (ws sp : Bool) (w : ℕ) → (decoded kind ws sp w .reason ≡ 0 → ⊥) → decoded kind ws sp w ≡ noDescriptor
@@ -103,17 +106,21 @@ unread kind ws sp w n = by-test (all (stands layout w) && keeps kind ws sp (name
     by-test false e = e
 
 -- the word of numbers by the code's two tests
-pub word-numbers : (kind : Kind) (ws sp : Bool) (l : List ℕ) (b k : Bool)
-    → all (ranges layout l) ≡ b → keeps kind ws sp (named kind l) ≡ k → encodedNumbers kind ws sp l ≡ cond (b && k) (made (pack layout l)) noWord
+pub word-numbers : (kind : Kind) (ws sp : Bool) (l : List ℕ) (b k t : Bool)
+    → b ≡ all (ranges layout l) → k ≡ keeps kind ws sp (named kind l) → b && k ≡ t → encodedNumbers kind ws sp l ≡ cond t (made (pack layout l)) noWord
 unfolding encodedNumbers
-word-numbers kind ws sp l b k h e = rw (h, e)
+word-numbers kind ws sp l b k t p q e = ap (λ (x : Bool). cond x (made (pack layout l)) noWord) (ap₂ _&&_ (sym p) (sym q) ∙ e)
+
+pub word-made : (kind : Kind) (ws sp : Bool) (l : List ℕ) (w : ℕ) (b k : Bool) → w ≡ pack layout l
+    → b ≡ all (ranges layout l) → k ≡ keeps kind ws sp (named kind l) → b && k ≡ true → made w ≡ encodedNumbers kind ws sp l
+word-made kind ws sp l w b k e p q t = ap made e ∙ sym (word-numbers kind ws sp l b k true p q t)
 
 -- and their reason
-pub numbers-reason : (kind : Kind) (ws sp : Bool) (f : Fields) (b k : Bool)
-    → all (ranges layout (values f)) ≡ b → keeps kind ws sp (named kind (values f)) ≡ k
-    → fieldsReason kind ws sp f ≡ cond (b && k) (firstBroken (listing kind ws f)) 12
-numbers-reason kind ws sp f b k h e =
-    ap (λ (a : InstructionWord). cond (eqb (a .reason) 0) (firstBroken (listing kind ws f)) 12) (word-numbers kind ws sp (values f) b k h e) ∙ by-test (b && k)
+pub numbers-reason : (kind : Kind) (ws sp : Bool) (f : Fields) (b k t : Bool)
+    → b ≡ all (ranges layout (values f)) → k ≡ keeps kind ws sp (named kind (values f)) → b && k ≡ t
+    → fieldsReason kind ws sp f ≡ cond t (firstBroken (listing kind ws f)) 12
+numbers-reason kind ws sp f b k t p q e =
+    ap (λ (a : InstructionWord). cond (eqb (a .reason) 0) (firstBroken (listing kind ws f)) 12) (word-numbers kind ws sp (values f) b k t p q e) ∙ by-test t
   where
     by-test : (t : Bool) → cond (eqb (cond t (made (pack layout (values f))) noWord .reason) 0) (firstBroken (listing kind ws f)) 12 ≡ cond t (firstBroken (listing kind ws f)) 12
     by-test true = refl

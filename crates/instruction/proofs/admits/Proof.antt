@@ -18,7 +18,11 @@ known-element-requires-2 : tie.Need-known-element-requires-2
 known-element-requires-2 c κs = search needs
 
 returns : tie.Need-returns
-returns c = rw (c .before .before .before .before .before .before .before .before .before .known-dtype .ensures, c .before .before .before .before .before .before .before .before .known-element .ensures, c .before .before .before .before .before .before .before .known-element2 .ensures, c .before .before .before .before .before .before .before .before .before .before .kind-number .ensures) (admitted (c .before .before .before .before .before .before .before .before .before .before .before .args .kind) (c .before .before .before .before .before .before .before .before .before .before .before .args .ws) (c .before .before .before .before .before .before .before .before .before .before .before .args .sp) (values (c .before .before .before .before .before .before .before .before .before .before .before .args .f)))
+returns c =
+    let k = c .before .before .before .before .before .before .before .before in
+    let x = k .before .before .before .args in
+    rw (k .before .known-dtype .ensures, k .known-element .ensures, c .before .before .before .before .before .before .before .known-element2 .ensures, k .before .before .kind-number .ensures)
+    (admitted (x .kind) (x .ws) (x .sp) (values (x .f)))
 
 pub admits-spec : {M : Type 1} → statement M
 admits-spec =

@@ -1,7 +1,7 @@
 -- `instruction::decode_fields` meets its contract: what the word says is kept or not, by `read-fields` and `read-refused`. Assumes nothing.
-use mathlib.Core.Path.{refl, sym, _∙_, ap, ap₂}
-use mathlib.Core.Bool.{_&&_}
+use mathlib.Core.Path.{refl, sym, _∙_, ap}
 use borrow.Author.Tests.{not-true, not-false}
+use Rattle.laws.proofs.BoolLaws.{and-join, and-left-false, and-right-false}
 use Rattle.instruction.specs.Instruction.{fieldsRead}
 use Rattle.instruction.proofs.NumberLaws.{read-fields, read-refused}
 use borrow.Author.Needs.{needs}
@@ -24,13 +24,28 @@ refused-fields-requires-2 : tie.Need-refused-fields-requires-2
 refused-fields-requires-2 c κs = search needs
 
 returns : tie.Need-returns
-returns c = c .refused-fields .ensures ∙ sym (ap fieldsRead (read-refused _ _ _ _ (c .before .before .before .split .result) (c .before .before .before .split .ensures) (ap₂ _&&_ (sym (c .before .before .fixed-stand .ensures) ∙ not-true _ (c .before .if1 .taken)) refl)))
+returns c =
+    let s = c .before .before .before .split in
+    let x = c .before .before .fixed-stand in
+    let out = not-true (x .result) (c .before .if1 .taken) in
+    c .refused-fields .ensures ∙ sym (ap fieldsRead (read-refused _ _ _ _ (s .result) (x .result) _ (s .ensures) (x .ensures) refl (and-left-false (x .result) _ out)))
 
 returns-2 : tie.Need-returns-2
-returns-2 c = c .refused-fields2 .ensures ∙ sym (ap fieldsRead (read-refused _ _ _ _ (c .before .before .before .before .before .split .result) (c .before .before .before .before .before .split .ensures) (ap₂ _&&_ (sym (c .before .before .before .before .fixed-stand .ensures) ∙ not-false _ (c .before .before .before .if1 .left)) (sym (c .before .before .admits .ensures) ∙ not-true _ (c .before .if2 .taken)))))
+returns-2 c =
+    let s = c .before .before .before .before .before .split in
+    let x = c .before .before .before .before .fixed-stand in
+    let y = c .before .before .admits in
+    let out = and-right-false (x .result) (y .result) (not-true (y .result) (c .before .if2 .taken)) in
+    c .refused-fields2 .ensures ∙ sym (ap fieldsRead (read-refused _ _ _ _ (s .result) (x .result) (y .result) (s .ensures) (x .ensures) (y .ensures) out))
 
 returns-3 : tie.Need-returns-3
-returns-3 c = sym (read-fields _ _ _ _ (c .before .before .before .before .split .result) (c .before .before .before .before .before .fits .word .fits) (c .before .before .before .before .split .ensures) (ap₂ _&&_ (sym (c .before .before .before .fixed-stand .ensures) ∙ not-false _ (c .before .before .if1 .left)) (sym (c .before .admits .ensures) ∙ not-false _ (c .if2 .left))))
+returns-3 c =
+    let x = c .before .before .before .fixed-stand in
+    let s = c .before .before .before .before .split in
+    let y = c .before .admits in
+    let fits = c .before .before .before .before .before .fits .word .fits in
+    let both = and-join (x .result) (y .result) (not-false (x .result) (c .before .before .if1 .left)) (not-false (y .result) (c .if2 .left)) in
+    sym (read-fields _ _ _ _ (s .result) (x .result) (y .result) fits (s .ensures) (x .ensures) (y .ensures) both)
 
 pub decode-fields-spec : {M : Type 1} → statement M
 decode-fields-spec =

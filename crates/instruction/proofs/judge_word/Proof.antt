@@ -1,6 +1,6 @@
 -- `instruction::judge_word` meets its contract: the fields of a word that is read are judged by the listing. Assumes nothing.
 use Prim.Native.Nat.{ℕ}
-use mathlib.Core.Path.{sym, _∙_, ap, ap₂}
+use mathlib.Core.Path.{sym, _∙_, ap}
 use mathlib.Core.Bool.{_&&_}
 use borrow.Author.Tests.{not-true, not-false}
 use Rattle.instruction.proofs.NumberLaws.{read-fields, read-refused, judged-read, judged-refused}
@@ -21,10 +21,22 @@ listing-reason-requires : tie.Need-listing-reason-requires
 listing-reason-requires c κs = search needs
 
 returns : tie.Need-returns
-returns c = sym (judged-refused _ _ _ _ (read-refused _ _ _ _ (c .before .before .before .split .result) (c .before .before .before .split .ensures) (ap₂ _&&_ (sym (c .before .before .fixed-stand .ensures)) (sym (c .before .admits .ensures)) ∙ not-true _ (c .if1 .taken))))
+returns c =
+    let s = c .before .before .before .split in
+    let x = c .before .before .fixed-stand in
+    let y = c .before .admits in
+    let out = not-true (x .result && y .result) (c .if1 .taken) in
+    sym (judged-refused _ _ _ _ (read-refused _ _ _ _ (s .result) (x .result) (y .result) (s .ensures) (x .ensures) (y .ensures) out))
 
 returns-2 : tie.Need-returns-2
-returns-2 c = ap (λ (x : ℕ). record { reason = x; n = c .before .before .before .before .split .result .n }) (c .listing-reason .ensures) ∙ sym (judged-read _ _ _ _ (c .before .before .before .before .split .result) (read-fields _ _ _ _ (c .before .before .before .before .split .result) (c .before .before .before .before .before .fits .word .fits) (c .before .before .before .before .split .ensures) (ap₂ _&&_ (sym (c .before .before .before .fixed-stand .ensures)) (sym (c .before .before .admits .ensures)) ∙ not-false _ (c .before .if1 .left))))
+returns-2 c =
+    let s = c .before .before .before .before .split in
+    let x = c .before .before .before .fixed-stand in
+    let y = c .before .before .admits in
+    let fits = c .before .before .before .before .before .fits .word .fits in
+    let both = not-false (x .result && y .result) (c .before .if1 .left) in
+    let read = read-fields _ _ _ _ (s .result) (x .result) (y .result) fits (s .ensures) (x .ensures) (y .ensures) both in
+    ap (λ (n : ℕ). record { reason = n; n = s .result .n }) (c .listing-reason .ensures) ∙ sym (judged-read _ _ _ _ (s .result) read)
 
 pub judge-word-spec : {M : Type 1} → statement M
 judge-word-spec =

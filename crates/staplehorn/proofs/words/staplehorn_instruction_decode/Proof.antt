@@ -25,10 +25,16 @@ array-of-requires : tie.Need-array-of-requires
 array-of-requires c κs = search needs
 
 returns : tie.Need-returns
-returns c = (sym (c .before .before .if1 .taken) ∙ ap (λ (a : FieldsRead). a .reason) (c .before .before .before .before .decode-word .ensures), c .array-of .ensures ∙ ap (λ (a : FieldsRead). values (a .fields)) (c .before .before .before .before .decode-word .ensures))
+returns c =
+    let e = c .before .before .before .before .decode-word .ensures in
+    (sym (c .before .before .if1 .taken) ∙ ap (λ (a : FieldsRead). a .reason) e, c .array-of .ensures ∙ ap (λ (a : FieldsRead). values (a .fields)) e)
 
 returns-2 : tie.Need-returns-2
-returns-2 c = (ap (λ (a : FieldsRead). a .reason) (c .before .before .before .decode-word .ensures), sym (ap (λ (a : InstructionRead). numbers (a .descriptor)) (refused (opcodeOf (c .before .before .before .before .args .kind) (c .before .before .before .before .args .ws) (c .before .before .before .before .args .sp)) (c .before .before .before .before .args .word) (λ e. c .before .if1 .left (ap (λ (a : FieldsRead). a .reason) (c .before .before .before .decode-word .ensures) ∙ e)))))
+returns-2 c =
+    let e = c .before .before .before .decode-word .ensures in
+    let x = c .before .before .before .before .args in
+    let none-read = refused (opcodeOf (x .kind) (x .ws) (x .sp)) (x .word) (λ z. c .before .if1 .left (ap (λ (a : FieldsRead). a .reason) e ∙ z)) in
+    (ap (λ (a : FieldsRead). a .reason) e, sym (ap (λ (a : InstructionRead). numbers (a .descriptor)) none-read))
 
 pub staplehorn-instruction-decode-spec : {M : Type 1} → statement M
 staplehorn-instruction-decode-spec =
