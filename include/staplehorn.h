@@ -31,7 +31,7 @@ extern "C" {
 #define STAPLEHORN_VERSION_NUMBER 200
 
 /* Bytes of stack that are enough for any call. */
-#define STAPLEHORN_STACK 65536
+#define STAPLEHORN_STACK 32768
 
 /* The version of the library that is linked, as a number: to be compared with STAPLEHORN_VERSION_NUMBER. */
 uint32_t staplehorn_version(void);

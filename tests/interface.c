@@ -90,11 +90,30 @@ static void sheets(void) {
     is(staplehorn_report((const uint8_t *)sheet, strlen(sheet), room, sizeof room - 1, &length), 19, "short room");
 }
 
+/* Null is allowed where the length is 0. */
+static void nothing(void) {
+    uint32_t answer[STAPLEHORN_ANSWER_FIELDS];
+    uint8_t room[1];
+    size_t length = 7;
+    const char *sheet = "sheet\t1\tsm_100a\n0\texit;\n";
+    is(staplehorn_judge(NULL, 0, NULL, 0, answer), STAPLEHORN_REASON_LAYOUT, "no sheet");
+    is(answer[STAPLEHORN_LINE], 1, "line of no sheet");
+    is(staplehorn_judge((const uint8_t *)sheet, strlen(sheet), NULL, 0, answer), STAPLEHORN_REASON_PASSED, "no list");
+    is(staplehorn_report(NULL, 0, NULL, 0, &length), STAPLEHORN_REASON_ROOM, "no report");
+    is(length, 0, "length of no report");
+    is(staplehorn_statement_reason(NULL, 0), STAPLEHORN_REASON_FORM, "no statement");
+    is(staplehorn_statement_canonical(NULL, 0, room, 1, &length), STAPLEHORN_REASON_FORM, "no text");
+    is(staplehorn_statement_canonical((const uint8_t *)"exit;", 5, NULL, 0, &length), STAPLEHORN_REASON_ROOM, "no room");
+}
+
 int main(void) {
+    is(staplehorn_version(), STAPLEHORN_VERSION_NUMBER, "version");
+    is((uint64_t)strcmp(staplehorn_reason_text(4), "a number is too large"), 0, "reason's text");
+    nothing();
     words();
     shared();
     statements();
     sheets();
     printf("%d answers right, %d wrong\n", right, wrong);
-    return wrong != 0 || right < 45;
+    return wrong != 0 || right < 58;
 }

@@ -94,9 +94,8 @@ impl Said {
     /// Each field with its bits and its value, and the name of a type.
     fn table(&mut self, sort: Sort, values: &[u64]) {
         for (i, (f, &v)) in sort.fields().iter().zip(values).enumerate() {
-            let bits = if f.low == f.high { f.low.to_string() } else { format!("{}-{}", f.low, f.high) };
             let name = name_in(sort.codes(i), v).map_or(String::new(), |name| format!(" {name}"));
-            let _ = writeln!(self.text, "{bits:<6} {:<12} {v}{name}", f.name);
+            let _ = writeln!(self.text, "{:<6} {:<12} {v}{name}", f.bits(), f.name);
         }
     }
 }
@@ -163,7 +162,7 @@ fn encode(sort: Sort, values: &[u64]) -> Said {
             said
         }
         (Err(reason), sort) => {
-            let mut said = Said::reason(Some(reason));
+            let mut said = Said { text: format!("reason {}: no word has these fields\n", reason.number()), good: false };
             said.broken(broken);
             said.table(sort, values);
             said

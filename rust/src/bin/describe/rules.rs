@@ -73,6 +73,14 @@ impl Field {
         value % self.unit == 0 && value / self.unit <= self.mask()
     }
 
+    pub fn bits(&self) -> String {
+        if self.low == self.high {
+            self.low.to_string()
+        } else {
+            format!("{}-{}", self.low, self.high)
+        }
+    }
+
     fn range(&self) -> String {
         match (self.mask() * self.unit, self.unit) {
             (1, _) => "0 or 1".into(),
@@ -134,7 +142,7 @@ impl Broken {
 
     fn too_wide(&mut self, fields: &[Field], values: &[u64]) {
         for (f, &v) in fields.iter().zip(values) {
-            self.unless(f.fits(v), || format!("{} {v}: bits {}-{} hold {}", f.name, f.low, f.high, f.range()));
+            self.unless(f.fits(v), || format!("{} {v}: bits {} hold {}", f.name, f.bits(), f.range()));
         }
     }
 }
@@ -144,8 +152,8 @@ pub fn no_reading(o: Opcode, v: &[u64; 13], rest: u64) -> Vec<String> {
     let kind = kind_name(o.kind);
     let mut b = Broken::default();
     b.too_wide(&INSTRUCTION, v);
-    b.unless(rest == 0, || format!("bit {}: must be 0", bits(rest)));
-    b.unless(v[SPARSE] == o.sp as u64, || format!("sparse {}: 1 with .sp, 0 without", v[SPARSE]));
+    b.unless(rest == 0, || format!("bits {}: must be 0", bits(rest)));
+    b.unless(v[SPARSE] == o.sp as u64, || format!("sparse {}: {} .sp", v[SPARSE], if o.sp { "1 with" } else { "0 without" }));
     b.unless(o.sp || v[SELECTOR] == 0, || format!("selector {}: 0 without .sp", v[SELECTOR]));
     b.unless(o.kind == I8 || v[SATURATE] == 0, || format!("saturate {}: only i8 may saturate", v[SATURATE]));
     b.unless(name_in(DTYPES, v[DTYPE]).is_some(), || format!("dtype {}: f16 0, f32 1, s32 2", v[DTYPE]));
@@ -199,7 +207,7 @@ pub fn not_listed(o: Opcode, v: &[u64; 13]) -> Vec<String> {
 pub fn no_shared(v: &[u64; 6], fixed: u64, rest: u64) -> Vec<String> {
     let mut b = Broken::default();
     b.too_wide(&SHARED, v);
-    b.unless(rest == 0, || format!("bit {}: must be 0", bits(rest)));
+    b.unless(rest == 0, || format!("bits {}: must be 0", bits(rest)));
     b.unless(fixed == 1, || format!("bits 46-48 hold {fixed}: must be 1"));
     b.unless(name_in(SWIZZLES, v[SWIZZLE]).is_some(), || format!("swizzle {}: 0, 1, 2, 4 or 6", v[SWIZZLE]));
     b.unless(v[SWIZZLE] != 0 || v[BASE] == 0, || format!("base {}: 0 where swizzle is 0", v[BASE]));

@@ -1,4 +1,4 @@
-/* describe OPCODE WORD: what a descriptor word says.
+/* fields OPCODE WORD: what a descriptor word says, from C (bin/describe says more).
    OPCODE is f16, tf32, f8f6f4 or i8, with .ws and .sp behind it where they stand, or `shared`. WORD is hex or decimal.
    Exit status: 0 the word is good, 1 refused, 2 a wrong command line. */
 #include <ctype.h>
@@ -60,6 +60,6 @@ int main(int argc, char **argv) {
         if (isdigit((unsigned char)argv[2][0]) && *end == '\0' && errno == 0) status =
             strcmp(argv[1], "shared") == 0 ? shared(word) : instruction(argv[1], word);
     }
-    if (status == 2) fprintf(stderr, "usage: describe f16|tf32|f8f6f4|i8[.ws][.sp]|shared WORD\n");
+    if (status == 2) fprintf(stderr, "usage: fields f16|tf32|f8f6f4|i8[.ws][.sp]|shared WORD\n");
     return status;
 }

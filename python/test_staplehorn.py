@@ -1,0 +1,83 @@
+"""The module gives the library's answers."""
+import os
+import threading
+import unittest
+
+import staplehorn as s
+
+ROOT = os.path.dirname(os.path.dirname(os.path.abspath(__file__)))
+
+
+def contents(name):
+    with open(os.path.join(ROOT, name), "rb") as file:
+        return file.read()
+
+
+class Module(unittest.TestCase):
+    def refused(self, reason, function, *args, **more):
+        with self.assertRaises(s.Refused) as caught:
+            function(*args, **more)
+        self.assertEqual(caught.exception.reason, reason)
+        return caught.exception
+
+    def test_sheets(self):
+        given = contents("crates/foot/stdin")
+        self.assertEqual(s.judge(given), s.Passed(9, 96, [0, 64, 0]))
+        self.assertEqual(s.judge(bytearray(given)).starts, [0, 64, 0])
+        self.assertEqual(s.report(given), contents("crates/foot/stdout"))
+        leak = self.refused(s.Reason.EXIT, s.judge, contents("examples/leak.sheet"))
+        self.assertEqual((leak.line, leak.held, leak.peak), (6, 32, 96))
+        self.assertEqual(str(leak), "line 6: exit while columns are held, a line after exit, or no exit")
+        self.assertEqual(s.report(b""), b"2\t1\t0\t0\n")
+        self.assertEqual(str(self.refused(1, s.judge, b"x" * 65537)), "the sheet has over 65,536 bytes or 4,096 lines")
+        self.refused(2, s.judge, b"sheet\t1\tsm_100a\n0\texit;\0\n")
+
+    def test_data(self):
+        names = sorted(n for n in os.listdir(os.path.join(ROOT, "data")) if n.endswith(".sheet"))
+        self.assertGreater(len(names), 200)
+        for name in names:
+            self.assertEqual(s.report(contents("data/" + name)), contents("data/" + name[:-5] + "report"), name)
+
+    def test_statements(self):
+        self.assertEqual(s.canonical(b"mov.b32  x ,0x10 ;"), b"mov.b32 x, 16;")
+        self.refused(4, s.canonical, b"mov.b32 x, 4294967296;")
+        self.refused(3, s.statement, b"exit")
+        s.statement(b"exit;")
+
+    def test_words(self):
+        fields = s.Instruction(dtype=1, n=64, m=128)
+        self.assertEqual(s.instruction_decode("f16", 0x08100010), fields)
+        self.assertEqual(s.instruction_encode("f16", fields), 0x08100010)
+        s.instruction_judge("f16", 0x08100010)
+        s.instruction_listed("f16", fields)
+        self.refused(13, s.instruction_judge, "i8", 0x080A00A0)
+        self.refused(12, s.instruction_decode, "f16", 1)
+        self.refused(12, s.instruction_decode, "f16", 1 << 32)
+        self.refused(12, s.instruction_encode, "f16", fields._replace(n=64 + (1 << 32)))
+        self.refused(12, s.instruction_decode, "f17", 0)
+        self.assertEqual(s.instruction_k("tf32", sp=True), 16)
+        self.assertEqual(s.shared_decode(0x0000400800100000), s.Shared(leading=256, stride=128))
+        self.assertEqual(s.shared_encode(s.Shared(leading=256, stride=128)), 0x0000400800100000)
+        self.refused(12, s.shared_encode, s.Shared(start=8))
+        s.request(32)
+        self.refused(9, s.request, 96)
+        self.refused(9, s.request, 32 + (1 << 32))
+
+    def test_threads(self):
+        given, wanted, wrong = contents("crates/foot/stdin"), contents("crates/foot/stdout"), []
+
+        def work():
+            for _ in range(200):
+                if s.report(given) != wanted:
+                    wrong.append(1)
+
+        threads = [threading.Thread(target=work) for _ in range(4)]
+        for thread in threads:
+            thread.start()
+        for thread in threads:
+            thread.join()
+        self.assertEqual(wrong, [])
+
+
+if __name__ == "__main__":
+    unittest.main()
