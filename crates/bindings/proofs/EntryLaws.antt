@@ -9,8 +9,7 @@ use borrow.Author.Tests.{lt-ltb, le-ltb}
 use Rattle.tokens.specs.declared.Name.{Name}
 use Rattle.rules.specs.Counting.{least}
 use Rattle.search.proofs.SearchLaws.{least-more, least-here, least-end}
-use Rattle.bindings.specs.declared.Bindings.{Bindings}
-use Rattle.bindings.specs.Table.{homeOf, entryAt, stops, stopsAt, stepsOf, entryOf, entry, written, bindOf}
+use Rattle.bindings.specs.Table.{homeOf, entryAt, stops, stopsAt, stepsOf, entryOf}
 
 module _ (hi lo widths : List ℕ) (name : Name) where
   -- so many entries have been passed
@@ -50,13 +49,3 @@ module _ (hi lo widths : List ℕ) (name : Name) where
   pub entry-end : (i : ℕ) → Passed i → 128 ≤ i → 128 ≡ entryOf hi lo widths name
   unfolding stepsOf
   entry-end i p h = sym (at-none (omega (arith, least-end (stopsAt hi lo widths name) i 128 (p .1) (p .0) h)))
-
--- ---- binding: what a caller that writes the entry in place has done
-module _ (t : Bindings) (name : Name) (width number at : ℕ) (e : at ≡ entry t name) where
-  pub bind-here : at < 128 → record { next = written t at name width number; reason = 0 } ≡ bindOf t name width number
-  unfolding bindOf
-  bind-here h = simp (← e, lt-ltb at 128 h)
-
-  pub bind-full : 128 ≤ at → record { next = t; reason = 7 } ≡ bindOf t name width number
-  unfolding bindOf
-  bind-full h = simp (← e, le-ltb at 128 h)

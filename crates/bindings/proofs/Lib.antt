@@ -1,5 +1,4 @@
 -- Laws that belong to no one function.
 pub mod EntryLaws
 pub mod WriteLaws
-pub mod CountLaws
 pub mod ShowLaws

@@ -1,8 +1,8 @@
 -- A table that shows the values of a state answers as the rules say, and its next table shows what the line does to them. The search for a name ends at an
 -- unbound entry exactly where the rules have no value, and nowhere exactly where all 128 entries have other names. Assumes nothing.
-use Prim.Native.Nat.{ℕ, zero, suc, _+_, _<_}
+use Prim.Native.Nat.{ℕ, zero, suc, _+_, _^_, _<_}
 use mathlib.Core.Path.{_≡_, refl, sym, ap, _∙_, subst}
-use mathlib.Core.Bool.{Bool, true, false, not, _||_, cond}
+use mathlib.Core.Bool.{Bool, true, false, not, cond}
 use mathlib.Core.List.{List, [], _∷_}
 use mathlib.Core.Logic.{_⊎_, inl, inr}
 use native.Mathlib.Omega.{arith}
@@ -10,23 +10,20 @@ use lib.Dec.{ltb, eqb}
 use lib.ListN.{getD, length, replicate, length-set, length-replicate}
 use lib.Seq.{getD-set-same}
 use borrow.Author.Tests.{lt-ltb, le-ltb, eqb-true, eqb-false, ne-eqb}
-use Rattle.laws.specs.Rules.{firstBroken}
 use Rattle.tokens.specs.declared.Name.{Name}
 use Rattle.tokens.specs.Names.{sameName}
-use Rattle.statement.specs.declared.Statement.the-variants.{Mov32, Mov64}
 use Rattle.rules.specs.Counting.{count}
-use Rattle.rules.specs.State.{State, Binding, lowest, isLive, isBound, widthOf, numberOf, bind}
-use Rattle.rules.specs.Reasons.{roomFor, openRules}
-use Rattle.rules.specs.Sheet.{effect}
-use Rattle.rules.proofs.CountingLaws.{bool, clash}
-use Rattle.rules.proofs.ByForm.{mov32-first, mov64-first}
-use Rattle.search.proofs.NameLaws.{same-true, same-name, other-name}
+use Rattle.rules.specs.State.{State, Binding, isBound, widthOf, numberOf, bind}
+use Rattle.rules.specs.Reasons.{roomFor}
+use Rattle.laws.proofs.BoolLaws.{bool, clash}
+use Rattle.search.proofs.NameLaws.{same-true, same-name}
+use Rattle.search.proofs.ValueLaws.{own-width, own-number, own-bound, other-width, other-number, other-bound, bound-length}
+use Rattle.search.proofs.CountLaws.{count-all, count-less, count-one}
 use Rattle.bindings.specs.declared.Bindings.{Bindings}
 use Rattle.bindings.specs.declared.Value.{Value}
-use Rattle.bindings.specs.Table.{valueIn, empty, entryAt, entry, written, bindOf, lookupOf}
+use Rattle.bindings.specs.Table.{valueIn, empty, entryAt, entry, written, lookupOf}
 use Rattle.bindings.specs.Shows.{nameAt, isFull, valueOf, Shows, Tells}
-use Rattle.bindings.proofs.CountLaws.{count-all, count-less, count-one}
-use Rattle.bindings.proofs.WriteLaws.{stopAt, ith-is, stop-cases, stop-not, EndsAt, Nowhere, ends-at, nowhere, search-ends, entry-below, comes-up, width-new, name-new, name-old, width-old, number-old, own-ends, other-ends, other-nowhere, new-elsewhere}
+use Rattle.bindings.proofs.WriteLaws.{Entry, stopAt, ith-is, stop-cases, stop-not, EndsAt, Nowhere, ends-at, nowhere, search-ends, entry-below, comes-up, width-new, name-new, name-old, width-old, number-old, own-ends, other-ends, other-nowhere, new-elsewhere}
 
 -- ---- values bound
 value-path : (a b c d : ℕ) → a ≡ b → c ≡ d → _≡_ {A = Value} (record { width = a; number = c }) (record { width = b; number = d })
@@ -40,79 +37,6 @@ lookup-at t m j e h = rw (e, lt-ltb j 128 h)
 lookup-none : (t : Bindings) (m : Name) → entry t m ≡ 128 → lookupOf t m ≡ record { width = 0; number = 0 }
 unfolding valueIn
 lookup-none t m e = rw e
-
--- ---- the list of values, with a name bound
-module _ (b : Binding) where
-  bound-width : (l : List Binding) → widthOf (b .name) (bind b l) ≡ b .width
-  unfolding widthOf bind
-  bound-width [] = rw (same-name (b .name) (b .name) refl)
-  bound-width (c ∷ l) = at (sameName (c .name) (b .name)) refl (bound-width l)
-    where
-      at : (t : Bool) → sameName (c .name) (b .name) ≡ t → widthOf (b .name) (bind b l) ≡ b .width → widthOf (b .name) (cond t (b ∷ l) (c ∷ bind b l)) ≡ b .width
-      at true e ih = rw (same-name (b .name) (b .name) refl)
-      at false e ih = rw e ih
-
-  bound-number : (l : List Binding) → numberOf (b .name) (bind b l) ≡ b .number
-  unfolding numberOf bind
-  bound-number [] = rw (same-name (b .name) (b .name) refl)
-  bound-number (c ∷ l) = at (sameName (c .name) (b .name)) refl (bound-number l)
-    where
-      at : (t : Bool) → sameName (c .name) (b .name) ≡ t → numberOf (b .name) (bind b l) ≡ b .number → numberOf (b .name) (cond t (b ∷ l) (c ∷ bind b l)) ≡ b .number
-      at true e ih = rw (same-name (b .name) (b .name) refl)
-      at false e ih = rw e ih
-
-  bound-is : (l : List Binding) → isBound (b .name) (bind b l) ≡ true
-  unfolding isBound bind
-  bound-is [] = rw (same-name (b .name) (b .name) refl)
-  bound-is (c ∷ l) = at (sameName (c .name) (b .name)) refl (bound-is l)
-    where
-      at : (t : Bool) → sameName (c .name) (b .name) ≡ t → isBound (b .name) (bind b l) ≡ true → isBound (b .name) (cond t (b ∷ l) (c ∷ bind b l)) ≡ true
-      at true e ih = rw (same-name (b .name) (b .name) refl)
-      at false e ih = rw e ih
-
-  bound-length : (l : List Binding) → length (bind b l) ≡ cond (isBound (b .name) l) 0 1 + length l
-  unfolding isBound bind
-  bound-length [] = refl
-  bound-length (c ∷ l) = at (sameName (c .name) (b .name)) (bound-length l)
-    where
-      at : (t : Bool) → length (bind b l) ≡ cond (isBound (b .name) l) 0 1 + length l
-          → length (cond t (b ∷ l) (c ∷ bind b l)) ≡ cond (t || isBound (b .name) l) 0 1 + suc (length l)
-      at true ih = omega arith
-      at false ih = omega arith
-
-  module _ (m : Name) (o : m ≡ b .name → ⊥) where
-    not-here : sameName (b .name) m ≡ false
-    not-here = other-name (b .name) m (λ e. o (sym e))
-
-    other-width : (l : List Binding) → widthOf m (bind b l) ≡ widthOf m l
-    unfolding widthOf bind
-    other-width [] = rw not-here
-    other-width (c ∷ l) = at (sameName (c .name) (b .name)) refl (other-width l)
-      where
-        at : (t : Bool) → sameName (c .name) (b .name) ≡ t → widthOf m (bind b l) ≡ widthOf m l
-            → widthOf m (cond t (b ∷ l) (c ∷ bind b l)) ≡ cond (sameName (c .name) m) (c .width) (widthOf m l)
-        at true e ih = rw (not-here, other-name (c .name) m (λ z. o (sym z ∙ same-true (c .name) (b .name) e)))
-        at false e ih = rw ih
-
-    other-number : (l : List Binding) → numberOf m (bind b l) ≡ numberOf m l
-    unfolding numberOf bind
-    other-number [] = rw not-here
-    other-number (c ∷ l) = at (sameName (c .name) (b .name)) refl (other-number l)
-      where
-        at : (t : Bool) → sameName (c .name) (b .name) ≡ t → numberOf m (bind b l) ≡ numberOf m l
-            → numberOf m (cond t (b ∷ l) (c ∷ bind b l)) ≡ cond (sameName (c .name) m) (c .number) (numberOf m l)
-        at true e ih = rw (not-here, other-name (c .name) m (λ z. o (sym z ∙ same-true (c .name) (b .name) e)))
-        at false e ih = rw ih
-
-    other-is : (l : List Binding) → isBound m (bind b l) ≡ isBound m l
-    unfolding isBound bind
-    other-is [] = rw not-here
-    other-is (c ∷ l) = at (sameName (c .name) (b .name)) refl (other-is l)
-      where
-        at : (t : Bool) → sameName (c .name) (b .name) ≡ t → isBound m (bind b l) ≡ isBound m l
-            → isBound m (cond t (b ∷ l) (c ∷ bind b l)) ≡ sameName (c .name) m || isBound m l
-        at true e ih = rw (not-here, other-name (c .name) m (λ z. o (sym z ∙ same-true (c .name) (b .name) e)))
-        at false e ih = rw ih
 
 -- ---- nothing is bound
 zeros : (n j : ℕ) → _≡_ {A = ℕ} (getD (replicate n 0) j 0) 0
@@ -140,6 +64,7 @@ shows-empty = record {
   blank = λ j e. empty-width j;
   value = λ n. empty-lookup n (search-ends empty n);
   wide = λ n. refl;
+  narrow = λ n e. absurd (omega (arith, e));
   size = refl;
 }
 
@@ -158,6 +83,9 @@ module _ (t : Bindings) (values : List Binding) (h : Shows t values) (n : Name) 
   below : p < 128
   below = entry-below n q
 
+  here : Entry t n width number p
+  here = record { hi-128 = h .hi-128; lo-128 = h .lo-128; widths-128 = h .widths-128; below = below; wide = w }
+
   -- at another name the entry was unbound
   was-unbound : (m : Name) → (m ≡ n → ⊥) → stopAt t m p ≡ true → getD (t .widths) p 0 ≡ 0
   was-unbound m o s = at (stop-cases t m p s) (stop-cases t n p (sym (ith-is t n q) ∙ e .1))
@@ -171,8 +99,8 @@ module _ (t : Bindings) (values : List Binding) (h : Shows t values) (n : Name) 
       → _≡_ {A = Value} (record { width = getD (new .widths) j 0; number = getD (new .numbers) j 0 }) (record { width = 0; number = 0 })
   blank-at j c o z =
       value-path (getD (new .widths) j 0) 0 (getD (new .numbers) j 0) 0
-      (width-old t n width number p (h .hi-128) (h .lo-128) (h .widths-128) below w j o ∙ z)
-      (number-old t n width number p (h .hi-128) (h .lo-128) (h .widths-128) below w j o ∙ h .blank j z)
+      (width-old here j o ∙ z)
+      (number-old here j o ∙ h .blank j z)
 
   -- the search for another name that now ends elsewhere than it did ends at an unbound entry
   moved-on : (m : Name) → (m ≡ n → ⊥) → entry t m ≡ p → ((r : ℕ) × EndsAt new m r) ⊎ Nowhere new m → lookupOf new m ≡ record { width = 0; number = 0 }
@@ -184,11 +112,11 @@ module _ (t : Bindings) (values : List Binding) (h : Shows t values) (n : Name) 
       j = entryAt m (r .0)
 
       apart : j ≡ p → ⊥
-      apart = new-elsewhere t n width number p (h .hi-128) (h .lo-128) (h .widths-128) below w m (r .0) o (r .1)
+      apart = new-elsewhere here m (r .0) o (r .1)
 
       named-m : (getD (new .widths) j 0 ≡ 0) ⊎ (nameAt new j ≡ m) → 0 < getD (t .widths) j 0 → nameAt t j ≡ m
-      named-m (inl z) y = absurd (omega (arith, width-old t n width number p (h .hi-128) (h .lo-128) (h .widths-128) below w j apart))
-      named-m (inr z) y = sym (name-old t n width number p (h .hi-128) (h .lo-128) (h .widths-128) below w j apart) ∙ z
+      named-m (inl z) y = absurd (omega (arith, width-old here j apart))
+      named-m (inr z) y = sym (name-old here j apart) ∙ z
 
       bare : (eqb (getD (t .widths) j 0) 0 ≡ true) ⊎ (eqb (getD (t .widths) j 0) 0 ≡ false) → getD (t .widths) j 0 ≡ 0
       bare (inl z) = eqb-true (getD (t .widths) j 0) 0 z
@@ -203,40 +131,40 @@ module _ (t : Bindings) (values : List Binding) (h : Shows t values) (n : Name) 
     where
       at : ((r : ℕ) × EndsAt t m r) ⊎ Nowhere t m → lookupOf new m ≡ lookupOf t m
       at (inr r) =
-          lookup-none new m (nowhere new m (other-nowhere t n width number p (h .hi-128) (h .lo-128) (h .widths-128) below w m o r))
+          lookup-none new m (nowhere new m (other-nowhere here m o r))
           ∙ sym (lookup-none t m (nowhere t m r))
-      at (inl r) = here (bool (eqb (entryAt m (r .0)) p))
+      at (inl r) = there (bool (eqb (entryAt m (r .0)) p))
         where
           old : lookupOf t m ≡ record { width = getD (t .widths) (entryAt m (r .0)) 0; number = getD (t .numbers) (entryAt m (r .0)) 0 }
           old = lookup-at t m (entryAt m (r .0)) (ends-at t m (r .0) (r .1)) (entry-below m (r .0))
 
-          here : (eqb (entryAt m (r .0)) p ≡ true) ⊎ (eqb (entryAt m (r .0)) p ≡ false) → lookupOf new m ≡ lookupOf t m
-          here (inl z) =
+          there : (eqb (entryAt m (r .0)) p ≡ true) ⊎ (eqb (entryAt m (r .0)) p ≡ false) → lookupOf new m ≡ lookupOf t m
+          there (inl z) =
               let y : entryAt m (r .0) ≡ p = eqb-true (entryAt m (r .0)) p z in
               let x : getD (t .widths) p 0 ≡ 0 = was-unbound m o (ap (stopAt t m) (sym y) ∙ sym (ith-is t m (r .0)) ∙ r .1 .1) in
               moved-on m o (ends-at t m (r .0) (r .1) ∙ y) (search-ends new m)
               ∙ sym (old ∙ ap (λ (j : ℕ). record { width = getD (t .widths) j 0; number = getD (t .numbers) j 0 }) y
               ∙ value-path (getD (t .widths) p 0) 0 (getD (t .numbers) p 0) 0 x (h .blank p x))
-          here (inr z) =
+          there (inr z) =
               let y : entryAt m (r .0) ≡ p → ⊥ = eqb-false (entryAt m (r .0)) p z in
               let j : ℕ = entryAt m (r .0) in
               lookup-at new m j
-              (ends-at new m (r .0) (other-ends t n width number p (h .hi-128) (h .lo-128) (h .widths-128) below w m (r .0) o (r .1) y))
+              (ends-at new m (r .0) (other-ends here m (r .0) o (r .1) y))
               (entry-below m (r .0))
               ∙ value-path (getD (new .widths) j 0) (getD (t .widths) j 0) (getD (new .numbers) j 0) (getD (t .numbers) j 0)
-              (width-old t n width number p (h .hi-128) (h .lo-128) (h .widths-128) below w j y)
-              (number-old t n width number p (h .hi-128) (h .lo-128) (h .widths-128) below w j y)
+              (width-old here j y)
+              (number-old here j y)
               ∙ sym old
 
   -- and the name to what was written
   own-entry : entry new n ≡ p
-  own-entry = ends-at new n q (own-ends t n width number p (h .hi-128) (h .lo-128) (h .widths-128) below w q e refl)
+  own-entry = ends-at new n q (own-ends here q e refl)
 
   own-lookup : lookupOf new n ≡ record { width = width; number = number }
   own-lookup =
       lookup-at new n p own-entry below
       ∙ value-path (getD (new .widths) p 0) width (getD (new .numbers) p 0) number
-      (width-new t n width number p (h .hi-128) (h .lo-128) (h .widths-128) below w)
+      (width-new here)
       (getD-set-same (t .numbers) p number 0 (omega (arith, h .numbers-128, below)))
 
   values-new : (m : Name) → lookupOf new m ≡ valueOf m (bind b values)
@@ -245,12 +173,12 @@ module _ (t : Bindings) (values : List Binding) (h : Shows t values) (n : Name) 
       at : (sameName m n ≡ true) ⊎ (sameName m n ≡ false) → lookupOf new m ≡ valueOf m (bind b values)
       at (inl z) =
           subst (λ (x : Name). lookupOf new x ≡ valueOf x (bind b values)) (sym (same-true m n z))
-          (own-lookup ∙ sym (value-path (widthOf n (bind b values)) width (numberOf n (bind b values)) number (bound-width b values) (bound-number b values)))
+          (own-lookup ∙ sym (value-path (widthOf n (bind b values)) width (numberOf n (bind b values)) number (own-width b values) (own-number b values)))
       at (inr z) =
           let o : m ≡ n → ⊥ = λ y. clash (same-name m n y) z in
           other-lookup m o
           ∙ h .value m
-          ∙ sym (value-path (widthOf m (bind b values)) (widthOf m values) (numberOf m (bind b values)) (numberOf m values) (other-width b m o values) (other-number b m o values))
+          ∙ sym (value-path (widthOf m (bind b values)) (widthOf m values) (numberOf m (bind b values)) (numberOf m values) (other-width b values m o) (other-number b values m o))
 
   wide-new : (m : Name) → not (eqb (widthOf m (bind b values)) 0) ≡ isBound m (bind b values)
   wide-new m = at (bool (sameName m n))
@@ -258,10 +186,10 @@ module _ (t : Bindings) (values : List Binding) (h : Shows t values) (n : Name) 
       at : (sameName m n ≡ true) ⊎ (sameName m n ≡ false) → not (eqb (widthOf m (bind b values)) 0) ≡ isBound m (bind b values)
       at (inl z) =
           subst (λ (x : Name). not (eqb (widthOf x (bind b values)) 0) ≡ isBound x (bind b values)) (sym (same-true m n z))
-          (rw (bound-width b values, ne-eqb width 0 (omega arith)) (sym (bound-is b values)))
+          (rw (own-width b values, ne-eqb width 0 (omega arith)) (sym (own-bound b values)))
       at (inr z) =
           let o : m ≡ n → ⊥ = λ y. clash (same-name m n y) z in
-          rw (other-width b m o values, other-is b m o values) (h .wide m)
+          rw (other-width b values m o, other-bound b values m o) (h .wide m)
 
   found-new : (j : ℕ) → j < 128 → 0 < getD (new .widths) j 0 → entry new (nameAt new j) ≡ j
   found-new j c y = at (bool (eqb j p))
@@ -269,14 +197,14 @@ module _ (t : Bindings) (values : List Binding) (h : Shows t values) (n : Name) 
       at : (eqb j p ≡ true) ⊎ (eqb j p ≡ false) → entry new (nameAt new j) ≡ j
       at (inl z) =
           subst (λ (x : ℕ). entry new (nameAt new x) ≡ x) (sym (eqb-true j p z))
-          (ap (entry new) (name-new t n width number p (h .hi-128) (h .lo-128) (h .widths-128) below w) ∙ own-entry)
-      at (inr z) = ap (entry new) (name-old t n width number p (h .hi-128) (h .lo-128) (h .widths-128) below w j o) ∙ there (search-ends t (nameAt t j))
+          (ap (entry new) (name-new here) ∙ own-entry)
+      at (inr z) = ap (entry new) (name-old here j o) ∙ there (search-ends t (nameAt t j))
         where
           o : j ≡ p → ⊥
           o = eqb-false j p z
 
           full : 0 < getD (t .widths) j 0
-          full = omega (arith, y, width-old t n width number p (h .hi-128) (h .lo-128) (h .widths-128) below w j o)
+          full = omega (arith, y, width-old here j o)
 
           was : entry t (nameAt t j) ≡ j
           was = h .found j c full
@@ -289,7 +217,7 @@ module _ (t : Bindings) (values : List Binding) (h : Shows t values) (n : Name) 
           there (inl r) =
               let x : entryAt (nameAt t j) (r .0) ≡ j = sym (ends-at t (nameAt t j) (r .0) (r .1)) ∙ was in
               ends-at new (nameAt t j) (r .0)
-              (other-ends t n width number p (h .hi-128) (h .lo-128) (h .widths-128) below w (nameAt t j) (r .0) another (r .1) (λ u. o (sym x ∙ u)))
+              (other-ends here (nameAt t j) (r .0) another (r .1) (λ u. o (sym x ∙ u)))
               ∙ x
 
   blank-new : (j : ℕ) → getD (new .widths) j 0 ≡ 0 → getD (new .numbers) j 0 ≡ 0
@@ -297,15 +225,15 @@ module _ (t : Bindings) (values : List Binding) (h : Shows t values) (n : Name) 
     where
       at : (eqb j p ≡ true) ⊎ (eqb j p ≡ false) → getD (new .numbers) j 0 ≡ 0
       at (inl z) =
-          absurd (omega (arith, w, y, ap (λ (x : ℕ). getD (new .widths) x 0) (eqb-true j p z), width-new t n width number p (h .hi-128) (h .lo-128) (h .widths-128) below w))
+          absurd (omega (arith, w, y, ap (λ (x : ℕ). getD (new .widths) x 0) (eqb-true j p z), width-new here))
       at (inr z) =
           let o : j ≡ p → ⊥ = eqb-false j p z in
-          number-old t n width number p (h .hi-128) (h .lo-128) (h .widths-128) below w j o
-          ∙ h .blank j (sym (width-old t n width number p (h .hi-128) (h .lo-128) (h .widths-128) below w j o) ∙ y)
+          number-old here j o
+          ∙ h .blank j (sym (width-old here j o) ∙ y)
 
   -- the name was bound where its entry was
-  own-bound : isFull (t .widths) p ≡ isBound n values
-  own-bound =
+  was-bound : isFull (t .widths) p ≡ isBound n values
+  was-bound =
       ap (λ (x : Value). not (eqb (x .width) 0)) (sym (lookup-at t n p (ends-at t n q e) below) ∙ h .value n) ∙ h .wide n
 
   one-more : (u : Bool) (x y : ℕ) → x + cond u 1 0 ≡ y + 1 → x ≡ cond u 0 1 + y
@@ -317,20 +245,34 @@ module _ (t : Bindings) (values : List Binding) (h : Shows t values) (n : Name) 
       one-more (isBound n values) (count (isFull (new .widths)) 128) (length values) counted-one ∙ sym (bound-length b values)
     where
       agree : (j : ℕ) → (j ≡ p → ⊥) → isFull (new .widths) j ≡ isFull (t .widths) j
-      agree j o = ap (λ (x : ℕ). not (eqb x 0)) (width-old t n width number p (h .hi-128) (h .lo-128) (h .widths-128) below w j o)
+      agree j o = ap (λ (x : ℕ). not (eqb x 0)) (width-old here j o)
 
       full : isFull (new .widths) p ≡ true
-      full = ap not (ne-eqb (getD (new .widths) p 0) 0 (omega (arith, w, width-new t n width number p (h .hi-128) (h .lo-128) (h .widths-128) below w)))
+      full = ap not (ne-eqb (getD (new .widths) p 0) 0 (omega (arith, w, width-new here)))
 
       counted-one : count (isFull (new .widths)) 128 + cond (isBound n values) 1 0 ≡ length values + 1
       counted-one =
-          ap (λ (u : Bool). count (isFull (new .widths)) 128 + cond u 1 0) (sym own-bound)
+          ap (λ (u : Bool). count (isFull (new .widths)) 128 + cond u 1 0) (sym was-bound)
           ∙ count-one (isFull (new .widths)) (isFull (t .widths)) p 128 below agree
           ∙ ap (λ (u : Bool). count (isFull (t .widths)) 128 + cond u 1 0) full
           ∙ ap (λ (x : ℕ). x + 1) (h .size)
 
-  pub bound-shows : Shows new (bind b values)
-  bound-shows = record {
+  -- a 32-bit value has 32 bits
+  narrow-new : (width ≡ 32 → number < 2 ^ 32) → (m : Name) → widthOf m (bind b values) ≡ 32 → numberOf m (bind b values) < 2 ^ 32
+  narrow-new f m y = at (bool (sameName m n))
+    where
+      at : (sameName m n ≡ true) ⊎ (sameName m n ≡ false) → numberOf m (bind b values) < 2 ^ 32
+      at (inl z) =
+          let i : m ≡ n = same-true m n z in
+          let j : width ≡ 32 = sym (own-width b values) ∙ ap (λ (v : Name). widthOf v (bind b values)) (sym i) ∙ y in
+          omega (arith, f j, ap (λ (v : Name). numberOf v (bind b values)) i, own-number b values)
+      at (inr z) =
+          let o : m ≡ n → ⊥ = λ v. clash (same-name m n v) z in
+          let j : widthOf m values ≡ 32 = sym (other-width b values m o) ∙ y in
+          omega (arith, h .narrow m j, other-number b values m o)
+
+  pub bound-shows : (width ≡ 32 → number < 2 ^ 32) → Shows new (bind b values)
+  bound-shows f = record {
     hi-128 = length-set (t .hi) p (n .hi) ∙ h .hi-128;
     lo-128 = length-set (t .lo) p (n .lo) ∙ h .lo-128;
     numbers-128 = length-set (t .numbers) p number ∙ h .numbers-128;
@@ -339,6 +281,7 @@ module _ (t : Bindings) (values : List Binding) (h : Shows t values) (n : Name) 
     blank = blank-new;
     value = values-new;
     wide = wide-new;
+    narrow = narrow-new f;
     size = size-new;
   }
 
@@ -348,20 +291,6 @@ ends-below t n q e = lt-ltb (entry t n) 128 (omega (arith, ends-at t n q e, entr
 
 nowhere-below : (t : Bindings) (n : Name) → Nowhere t n → ltb (entry t n) 128 ≡ false
 nowhere-below t n e = le-ltb (entry t n) 128 (omega (arith, nowhere t n e))
-
-bind-reason : (t : Bindings) (n : Name) (width number : ℕ) (u : Bool) → ltb (entry t n) 128 ≡ u → bindOf t n width number .reason ≡ cond u 0 7
-unfolding bindOf
-bind-reason t n width number true z = rw z
-bind-reason t n width number false z = rw z
-
-bind-next : (t : Bindings) (n : Name) (width number q : ℕ) → EndsAt t n q → bindOf t n width number .next ≡ written t (entryAt n q) n width number
-unfolding bindOf
-bind-next t n width number q e = rw (ends-at t n q e, lt-ltb (entryAt n q) 128 (entry-below n q))
-
--- not live, and room: in the order of the line
-mov-order : (live room : Bool) → _≡_ {A = ℕ} (cond (not live) (cond room 0 7) 6) (cond live 6 (cond room 0 7))
-mov-order true room = refl
-mov-order false room = refl
 
 module _ (t : Bindings) (s : State) (h : Shows t (s .values)) where
   -- room for a name is where its search ends
@@ -374,7 +303,7 @@ module _ (t : Bindings) (s : State) (h : Shows t (s .values)) where
           here : (isBound n (s .values) ≡ true) ⊎ (isBound n (s .values) ≡ false) → roomFor s n ≡ true
           here (inl z) = rw z
           here (inr z) =
-              let y : isFull (t .widths) (entryAt n (q .0)) ≡ false = own-bound t (s .values) h n 1 0 (omega arith) (q .0) (q .1) ∙ z in
+              let y : isFull (t .widths) (entryAt n (q .0)) ≡ false = was-bound t (s .values) h n 1 0 (omega arith) (q .0) (q .1) ∙ z in
               rw (z, lt-ltb (length (s .values)) 128 (omega (arith, h .size, count-less (isFull (t .widths)) 128 (entryAt n (q .0)) (entry-below n (q .0)) y)))
       at (inr q) = rw (none, full) (sym (nowhere-below t n q))
         where
@@ -390,43 +319,21 @@ module _ (t : Bindings) (s : State) (h : Shows t (s .values)) where
           full : ltb (length (s .values)) 128 ≡ false
           full = le-ltb (length (s .values)) 128 (omega (arith, h .size, count-all (isFull (t .widths)) 128 bound))
 
-  mov-reason : (n : Name) (width v : ℕ)
-      → _≡_ {A = ℕ} (cond (not (isLive n (s .live))) (cond (roomFor s n) 0 7) 6) (cond (isLive n (s .live)) 6 (bindOf t n width v .reason))
-  mov-reason n width v =
-      mov-order (isLive n (s .live)) (roomFor s n)
-      ∙ ap (cond (isLive n (s .live)) 6) (sym (bind-reason t n width v (roomFor s n) (sym (room n))))
-
-  reason32 : (n : Name) (held w v : ℕ) → firstBroken (openRules lowest s held w (Mov32 n v)) ≡ cond (isLive n (s .live)) 6 (bindOf t n 32 v .reason)
-  reason32 n held w v = mov32-first lowest s held w n v ∙ mov-reason n 32 v
-
-  reason64 : (n : Name) (held w v : ℕ) → firstBroken (openRules lowest s held w (Mov64 n v)) ≡ cond (isLive n (s .live)) 6 (bindOf t n 64 v .reason)
-  reason64 n held w v = mov64-first lowest s held w n v ∙ mov-reason n 64 v
-
-  next-shows : (n : Name) (width v : ℕ) → 0 < width → bindOf t n width v .reason ≡ 0
-      → Shows (bindOf t n width v .next) (bind (record { name = n; width = width; number = v }) (s .values))
-  next-shows n width v c z = at (search-ends t n)
+  -- the entry at which the search ends, written
+  next-shows : (n : Name) (width v : ℕ) → 0 < width → (width ≡ 32 → v < 2 ^ 32) → entry t n < 128
+      → Shows (written t (entry t n) n width v) (bind (record { name = n; width = width; number = v }) (s .values))
+  next-shows n width v c f z = at (search-ends t n)
     where
-      at : ((q : ℕ) × EndsAt t n q) ⊎ Nowhere t n → Shows (bindOf t n width v .next) (bind (record { name = n; width = width; number = v }) (s .values))
+      at : ((q : ℕ) × EndsAt t n q) ⊎ Nowhere t n → Shows (written t (entry t n) n width v) (bind (record { name = n; width = width; number = v }) (s .values))
       at (inl q) =
-          subst (λ (x : Bindings). Shows x (bind (record { name = n; width = width; number = v }) (s .values))) (sym (bind-next t n width v (q .0) (q .1)))
-          (bound-shows t (s .values) h n width v c (q .0) (q .1))
-      at (inr q) = absurd (omega (arith, z, bind-reason t n width v false (nowhere-below t n q)))
-
-  shows32 : (n : Name) (w v : ℕ) → bindOf t n 32 v .reason ≡ 0 → Shows (bindOf t n 32 v .next) (effect lowest s w (Mov32 n v) .values)
-  unfolding effect
-  shows32 n w v z = next-shows n 32 v (omega arith) z
-
-  shows64 : (n : Name) (w v : ℕ) → bindOf t n 64 v .reason ≡ 0 → Shows (bindOf t n 64 v .next) (effect lowest s w (Mov64 n v) .values)
-  unfolding effect
-  shows64 n w v z = next-shows n 64 v (omega arith) z
+          subst (λ (i : ℕ). Shows (written t i n width v) (bind (record { name = n; width = width; number = v }) (s .values))) (sym (ends-at t n (q .0) (q .1)))
+          (bound-shows t (s .values) h n width v c (q .0) (q .1) f)
+      at (inr q) = absurd (omega (arith, z, nowhere t n q))
 
   -- THE CLAIM
   pub tells : Tells t s
   tells = record {
-    lookup = h .value;
     bound = λ n. ap (λ (x : Value). not (eqb (x .width) 0)) (h .value n) ∙ h .wide n;
-    bind32 = reason32;
-    bind64 = reason64;
-    bound32 = shows32;
-    bound64 = shows64;
+    room = room;
+    binds = next-shows;
   }

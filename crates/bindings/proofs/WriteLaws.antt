@@ -13,9 +13,9 @@ use borrow.Author.Tests.{ltb-true, ltb-false, eqb-true, eqb-false, ne-eqb}
 use Rattle.tokens.specs.declared.Name.{Name}
 use Rattle.tokens.specs.Names.{sameName}
 use Rattle.rules.specs.Counting.{least}
-use Rattle.rules.proofs.CountingLaws.{bool, clash, or-cases, least-hit, least-below}
-use Rattle.search.proofs.ChoiceLaws.{or-right, or-neither}
-use Rattle.search.proofs.NameLaws.{same-true, same-name, other-name}
+use Rattle.laws.proofs.BoolLaws.{bool, clash, or-cases, or-right, or-neither}
+use Rattle.rules.proofs.CountingLaws.{least-hit, least-below}
+use Rattle.search.proofs.NameLaws.{name-path, same-true, same-name, other-name}
 use Rattle.search.proofs.SearchLaws.{least-is, least-none}
 use Rattle.bindings.specs.declared.Bindings.{Bindings}
 use Rattle.bindings.specs.Table.{homeOf, entryAt, stops, stopsAt, stepsOf, entry, written}
@@ -107,72 +107,75 @@ comes-up m j h =
     ((j + 256 - homeOf m) * 35 % 128, omega arith, around (homeOf m) j (j + 256 - homeOf m) h (omega arith) (omega arith))
 
 -- ---- an entry written
-module _ (t : Bindings) (n : Name) (width number p : ℕ)
-    (hi-128 : length (t .hi) ≡ 128) (lo-128 : length (t .lo) ≡ 128) (widths-128 : length (t .widths) ≡ 128)
-    (b : p < 128) (w : 0 < width)
-  where
-    abbrev new : Bindings
-    new = written t p n width number
+-- an entry of a table, at a width that is not 0
+pub record Entry (t : Bindings) (n : Name) (width number p : ℕ) : Type 0 where
+  pub hi-128 : length (t .hi) ≡ 128
+  pub lo-128 : length (t .lo) ≡ 128
+  pub widths-128 : length (t .widths) ≡ 128
+  pub below : p < 128
+  pub wide : 0 < width
 
-    pub width-new : getD (new .widths) p 0 ≡ width
-    width-new = getD-set-same (t .widths) p width 0 (omega arith)
+module _ {t : Bindings} {n : Name} {width number p : ℕ} (x : Entry t n width number p) where
+  abbrev new : Bindings
+  new = written t p n width number
 
-    pub name-new : nameAt new p ≡ n
-    name-new = names (getD (new .hi) p 0) (n .hi) (getD (new .lo) p 0) (n .lo) (getD-set-same (t .hi) p (n .hi) 0 (omega arith)) (getD-set-same (t .lo) p (n .lo) 0 (omega arith))
-      where
-        names : (a b c d : ℕ) → a ≡ b → c ≡ d → _≡_ {A = Name} (record { hi = a; lo = c }) (record { hi = b; lo = d })
-        names a b c d e f = cc
+  pub width-new : getD (new .widths) p 0 ≡ width
+  width-new = getD-set-same (t .widths) p width 0 (omega (arith, x .widths-128, x .below))
 
-    -- other entries are as they were
-    pub name-old : (j : ℕ) → (j ≡ p → ⊥) → nameAt new j ≡ nameAt t j
-    name-old j o = names (getD (new .hi) j 0) (getD (t .hi) j 0) (getD (new .lo) j 0) (getD (t .lo) j 0) (getD-set-other (t .hi) p j (n .hi) 0 o) (getD-set-other (t .lo) p j (n .lo) 0 o)
-      where
-        names : (a b c d : ℕ) → a ≡ b → c ≡ d → _≡_ {A = Name} (record { hi = a; lo = c }) (record { hi = b; lo = d })
-        names a b c d e f = cc
+  pub name-new : nameAt new p ≡ n
+  name-new =
+      name-path (getD (new .hi) p 0) (n .hi) (getD (new .lo) p 0) (n .lo)
+      (getD-set-same (t .hi) p (n .hi) 0 (omega (arith, x .hi-128, x .below))) (getD-set-same (t .lo) p (n .lo) 0 (omega (arith, x .lo-128, x .below)))
 
-    pub width-old : (j : ℕ) → (j ≡ p → ⊥) → getD (new .widths) j 0 ≡ getD (t .widths) j 0
-    width-old j o = getD-set-other (t .widths) p j width 0 o
+  -- other entries are as they were
+  pub name-old : (j : ℕ) → (j ≡ p → ⊥) → nameAt new j ≡ nameAt t j
+  name-old j o =
+      name-path (getD (new .hi) j 0) (getD (t .hi) j 0) (getD (new .lo) j 0) (getD (t .lo) j 0)
+      (getD-set-other (t .hi) p j (n .hi) 0 o) (getD-set-other (t .lo) p j (n .lo) 0 o)
 
-    pub number-old : (j : ℕ) → (j ≡ p → ⊥) → getD (new .numbers) j 0 ≡ getD (t .numbers) j 0
-    number-old j o = getD-set-other (t .numbers) p j number 0 o
+  pub width-old : (j : ℕ) → (j ≡ p → ⊥) → getD (new .widths) j 0 ≡ getD (t .widths) j 0
+  width-old j o = getD-set-other (t .widths) p j width 0 o
 
-    stop-old : (m : Name) (j : ℕ) → (j ≡ p → ⊥) → stopAt new m j ≡ stopAt t m j
-    stop-old m j o = rw (width-old j o) (ap (λ (x : Name). eqb (getD (t .widths) j 0) 0 || sameName x m) (name-old j o))
+  pub number-old : (j : ℕ) → (j ≡ p → ⊥) → getD (new .numbers) j 0 ≡ getD (t .numbers) j 0
+  number-old j o = getD-set-other (t .numbers) p j number 0 o
 
-    stop-other : (m : Name) → (m ≡ n → ⊥) → stopAt new m p ≡ false
-    stop-other m o =
-        rw (width-new, ne-eqb width 0 (omega arith)) (other-name (nameAt new p) m (λ e. o (sym e ∙ name-new)))
+  stop-old : (m : Name) (j : ℕ) → (j ≡ p → ⊥) → stopAt new m j ≡ stopAt t m j
+  stop-old m j o = rw (width-old j o) (ap (λ (y : Name). eqb (getD (t .widths) j 0) 0 || sameName y m) (name-old j o))
 
-    stop-own : stopAt new n p ≡ true
-    stop-own = or-right (eqb (getD (new .widths) p 0) 0) (sameName (nameAt new p) n) (same-name (nameAt new p) n name-new)
+  stop-other : (m : Name) → (m ≡ n → ⊥) → stopAt new m p ≡ false
+  stop-other m o =
+      rw (width-new, ne-eqb width 0 (omega (arith, x .wide))) (other-name (nameAt new p) m (λ e. o (sym e ∙ name-new)))
 
-    -- what a search of another name passes, it passes still
-    pass-other : (m : Name) (i : ℕ) → (m ≡ n → ⊥) → ith t m i ≡ false → ith new m i ≡ false
-    pass-other m i o e = at (bool (eqb (entryAt m i) p))
-      where
-        at : (eqb (entryAt m i) p ≡ true) ⊎ (eqb (entryAt m i) p ≡ false) → ith new m i ≡ false
-        at (inl z) = ith-is new m i ∙ ap (stopAt new m) (eqb-true (entryAt m i) p z) ∙ stop-other m o
-        at (inr z) = ith-is new m i ∙ stop-old m (entryAt m i) (eqb-false (entryAt m i) p z) ∙ sym (ith-is t m i) ∙ e
+  stop-own : stopAt new n p ≡ true
+  stop-own = or-right (eqb (getD (new .widths) p 0) 0) (sameName (nameAt new p) n) (same-name (nameAt new p) n name-new)
 
-    -- the name itself, whose search ended here
-    pub own-ends : (q : ℕ) → EndsAt t n q → entryAt n q ≡ p → EndsAt new n q
-    own-ends q e f = (e .0, ith-is new n q ∙ ap (stopAt new n) f ∙ stop-own, passed)
-      where
-        passed : (i : ℕ) → i < q → ith new n i ≡ false
-        passed i h =
-            ith-is new n i
-            ∙ stop-old n (entryAt n i) (λ z. clash (ith-is t n i ∙ ap (stopAt t n) (z ∙ sym f) ∙ sym (ith-is t n q) ∙ e .1) (e .2 i h))
-            ∙ sym (ith-is t n i)
-            ∙ e .2 i h
+  -- what a search of another name passes, it passes still
+  pass-other : (m : Name) (i : ℕ) → (m ≡ n → ⊥) → ith t m i ≡ false → ith new m i ≡ false
+  pass-other m i o e = at (bool (eqb (entryAt m i) p))
+    where
+      at : (eqb (entryAt m i) p ≡ true) ⊎ (eqb (entryAt m i) p ≡ false) → ith new m i ≡ false
+      at (inl z) = ith-is new m i ∙ ap (stopAt new m) (eqb-true (entryAt m i) p z) ∙ stop-other m o
+      at (inr z) = ith-is new m i ∙ stop-old m (entryAt m i) (eqb-false (entryAt m i) p z) ∙ sym (ith-is t m i) ∙ e
 
-    -- another name, whose search ended elsewhere, or nowhere
-    pub other-ends : (m : Name) (q : ℕ) → (m ≡ n → ⊥) → EndsAt t m q → (entryAt m q ≡ p → ⊥) → EndsAt new m q
-    other-ends m q o e f =
-        (e .0, ith-is new m q ∙ stop-old m (entryAt m q) f ∙ sym (ith-is t m q) ∙ e .1, λ i h. pass-other m i o (e .2 i h))
+  -- the name itself, whose search ended here
+  pub own-ends : (q : ℕ) → EndsAt t n q → entryAt n q ≡ p → EndsAt new n q
+  own-ends q e f = (e .0, ith-is new n q ∙ ap (stopAt new n) f ∙ stop-own, passed)
+    where
+      passed : (i : ℕ) → i < q → ith new n i ≡ false
+      passed i h =
+          ith-is new n i
+          ∙ stop-old n (entryAt n i) (λ z. clash (ith-is t n i ∙ ap (stopAt t n) (z ∙ sym f) ∙ sym (ith-is t n q) ∙ e .1) (e .2 i h))
+          ∙ sym (ith-is t n i)
+          ∙ e .2 i h
 
-    pub other-nowhere : (m : Name) → (m ≡ n → ⊥) → Nowhere t m → Nowhere new m
-    other-nowhere m o e i h = pass-other m i o (e i h)
+  -- another name, whose search ended elsewhere, or nowhere
+  pub other-ends : (m : Name) (q : ℕ) → (m ≡ n → ⊥) → EndsAt t m q → (entryAt m q ≡ p → ⊥) → EndsAt new m q
+  other-ends m q o e f =
+      (e .0, ith-is new m q ∙ stop-old m (entryAt m q) f ∙ sym (ith-is t m q) ∙ e .1, λ i h. pass-other m i o (e .2 i h))
 
-    -- a search that ends now ended elsewhere than at the entry written, and at the same names and widths
-    pub new-elsewhere : (m : Name) (q : ℕ) → (m ≡ n → ⊥) → EndsAt new m q → entryAt m q ≡ p → ⊥
-    new-elsewhere m q o e z = clash (sym (ith-is new m q) ∙ e .1) (ap (stopAt new m) z ∙ stop-other m o)
+  pub other-nowhere : (m : Name) → (m ≡ n → ⊥) → Nowhere t m → Nowhere new m
+  other-nowhere m o e i h = pass-other m i o (e i h)
+
+  -- a search that ends now ended elsewhere than at the entry written, and at the same names and widths
+  pub new-elsewhere : (m : Name) (q : ℕ) → (m ≡ n → ⊥) → EndsAt new m q → entryAt m q ≡ p → ⊥
+  new-elsewhere m q o e z = clash (sym (ith-is new m q) ∙ e .1) (ap (stopAt new m) z ∙ stop-other m o)

@@ -1,21 +1,18 @@
--- A table shows the values of a state of the rules: each name is bound to the same in both. proofs/ShowLaws.antt shows that looking up and binding
--- then answer and go on as the rules say. Assumes nothing.
-use Prim.Native.Nat.{ℕ, _<_}
+-- A table shows the values of a state of the rules: each name is bound to the same in both. proofs/ShowLaws.antt shows that it
+-- then finds a name, and room for one, where the rules do, and goes on as they do. Assumes nothing.
+use Prim.Native.Nat.{ℕ, _^_, _<_}
 use mathlib.Core.Path.{_≡_}
-use mathlib.Core.Bool.{Bool, not, cond}
+use mathlib.Core.Bool.{Bool, not}
 use mathlib.Core.List.{List}
-use lib.Dec.{eqb}
+use lib.Dec.{ltb, eqb}
 use lib.ListN.{getD, length}
-use Rattle.laws.specs.Rules.{firstBroken}
 use Rattle.tokens.specs.declared.Name.{Name}
-use Rattle.statement.specs.declared.Statement.the-variants.{Mov32, Mov64}
 use Rattle.rules.specs.Counting.{count}
-use Rattle.rules.specs.State.{State, Binding, lowest, isLive, isBound, widthOf, numberOf}
-use Rattle.rules.specs.Reasons.{openRules}
-use Rattle.rules.specs.Sheet.{effect}
+use Rattle.rules.specs.State.{State, Binding, isBound, widthOf, numberOf, bind}
+use Rattle.rules.specs.Reasons.{roomFor}
 use Rattle.bindings.specs.declared.Bindings.{Bindings}
 use Rattle.bindings.specs.declared.Value.{Value}
-use Rattle.bindings.specs.Table.{entry, bindOf, lookupOf}
+use Rattle.bindings.specs.Table.{entry, written, lookupOf}
 
 -- the name of entry j
 abbrev pub nameAt : Bindings → ℕ → Name
@@ -37,19 +34,19 @@ pub record Shows (t : Bindings) (values : List Binding) : Type 0 where
   -- the search for the name of a bound entry ends there, and an unbound entry has no number
   pub found : (j : ℕ) → j < 128 → 0 < getD (t .widths) j 0 → entry t (nameAt t j) ≡ j
   pub blank : (j : ℕ) → getD (t .widths) j 0 ≡ 0 → getD (t .numbers) j 0 ≡ 0
-  -- each name is bound to the same, at a width that is not 0, and as many are bound
+  -- each name is bound to the same, at a width that is not 0, and a 32-bit value has 32 bits
   pub value : (n : Name) → lookupOf t n ≡ valueOf n values
   pub wide : (n : Name) → not (eqb (widthOf n values) 0) ≡ isBound n values
+  pub narrow : (n : Name) → widthOf n values ≡ 32 → numberOf n values < 2 ^ 32
+  -- and as many are bound
   pub size : count (isFull (t .widths)) 128 ≡ length values
 
 -- ---- the claim: what a table that shows the values of a state tells of it
 pub record Tells (t : Bindings) (s : State) : Type 0 where
-  -- what a name is bound to, and whether it is
-  pub lookup : (n : Name) → lookupOf t n ≡ valueOf n (s .values)
+  -- whether a name is bound
   pub bound : (n : Name) → not (eqb (lookupOf t n .width) 0) ≡ isBound n (s .values)
-  -- the reason of a mov, if the name is not that of a live allocation
-  pub bind32 : (n : Name) (held w v : ℕ) → firstBroken (openRules lowest s held w (Mov32 n v)) ≡ cond (isLive n (s .live)) 6 (bindOf t n 32 v .reason)
-  pub bind64 : (n : Name) (held w v : ℕ) → firstBroken (openRules lowest s held w (Mov64 n v)) ≡ cond (isLive n (s .live)) 6 (bindOf t n 64 v .reason)
-  -- the next table of a bind that is accepted shows what the line does
-  pub bound32 : (n : Name) (w v : ℕ) → bindOf t n 32 v .reason ≡ 0 → Shows (bindOf t n 32 v .next) (effect lowest s w (Mov32 n v) .values)
-  pub bound64 : (n : Name) (w v : ℕ) → bindOf t n 64 v .reason ≡ 0 → Shows (bindOf t n 64 v .next) (effect lowest s w (Mov64 n v) .values)
+  -- there is room for a name where the search for it ends (reason 7)
+  pub room : (n : Name) → roomFor s n ≡ ltb (entry t n) 128
+  -- the table with that entry written shows the values with the name bound, anew or again
+  pub binds : (n : Name) (width v : ℕ) → 0 < width → (width ≡ 32 → v < 2 ^ 32) → entry t n < 128
+      → Shows (written t (entry t n) n width v) (bind (record { name = n; width = width; number = v }) (s .values))

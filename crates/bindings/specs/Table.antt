@@ -1,4 +1,4 @@
--- The table of value names (document 01, 'Booking'): 128 entries, each with a name, its number and its width, which is 0 where the entry is unbound.
+-- The table of value names (docs/FORMAT.md, 'Booking'): 128 entries, each with a name, its number and its width, which is 0 where the entry is unbound.
 -- Assumes nothing.
 use Prim.Native.Nat.{ℕ, _+_, _*_, _%_}
 use mathlib.Core.Bool.{Bool, _||_, cond}
@@ -9,7 +9,6 @@ use Rattle.tokens.specs.declared.Name.{Name}
 use Rattle.tokens.specs.Names.{sameName}
 use Rattle.rules.specs.Counting.{least}
 use Rattle.bindings.specs.declared.Bindings.{Bindings}
-use Rattle.bindings.specs.declared.Bound.{Bound}
 use Rattle.bindings.specs.declared.Value.{Value}
 
 -- no name is bound
@@ -42,16 +41,11 @@ entryOf hi lo widths name = cond (ltb (stepsOf hi lo widths name) 128) (entryAt 
 abbrev pub entry : Bindings → Name → ℕ
 entry t name = entryOf (t .hi) (t .lo) (t .widths) name
 
--- ---- the methods
+-- ---- what is written and what is found
 -- the table with one entry written
 abbrev pub written : Bindings → ℕ → Name → ℕ → ℕ → Bindings
 written t i name width number =
     record { hi = set (t .hi) i (name .hi); lo = set (t .lo) i (name .lo); numbers = set (t .numbers) i number; widths = set (t .widths) i width }
-
--- the name bound, anew or again; or the same table and reason 7, a 129th name
-unfoldable pub bindOf : Bindings → Name → ℕ → ℕ → Bound
-bindOf t name width number =
-    cond (ltb (entry t name) 128) (record { next = written t (entry t name) name width number; reason = 0 }) (record { next = t; reason = 7 })
 
 -- the width and the number of a name; width 0 where it is unbound
 unfoldable pub valueIn : List ℕ → List ℕ → List ℕ → List ℕ → Name → Value

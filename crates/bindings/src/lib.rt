@@ -2,7 +2,7 @@
 // entry is unbound).
 ghost use mathlib.Core.Path.{_≡_};
 ghost use Prim.Native.Nat.{_≤_};
-ghost use Rattle.bindings.specs.Table.{empty, homeOf, stops, entryOf, bindOf, valueIn, lookupOf};
+ghost use Rattle.bindings.specs.Table.{empty, homeOf, stops, entryOf, valueIn};
 use tokens::Name;
 
 pub struct Bindings {
@@ -10,12 +10,6 @@ pub struct Bindings {
     pub lo: [u64; 128],
     pub numbers: [u64; 128],
     pub widths: [u8; 128],
-}
-
-// The next table and 0, or the same table and reason 7.
-pub struct Bound {
-    pub next: Bindings,
-    pub reason: u32,
 }
 
 // What a name is bound to; width 0 where it is unbound.
@@ -39,8 +33,8 @@ fn is_stop(hi: u64, lo: u64, width: u8, name: Name) -> bool
     (width == 0) | ((hi == name.hi) & (lo == name.lo))
 }
 
-// The entry of a name, bound or the first for it that is unbound; or 128. It leaves the table where it is: a caller that keeps the
-// table in a local may look a name up, and write the entry, in place.
+// The entry of a name, bound or the first for it that is unbound; or 128. The table is left where it is: a caller that keeps it in
+// a local writes the entry in place.
 pub fn entry<'a>(hi: &'a [u64; 128], lo: &'a [u64; 128], widths: &'a [u8; 128], name: Name) -> usize
     ensures { λ r. ⌜ r ≡ entryOf (now (hi .entry)) (now (lo .entry)) (now (widths .entry)) name ⌝ }
 {
@@ -89,33 +83,5 @@ impl Bindings {
             numbers: [0u64; 128],
             widths: [0u8; 128],
         }
-    }
-
-    // Binds a name, or binds it again, at either width; or reason 7.
-    pub fn bind(mut self, name: Name, width: u8, number: u64) -> Bound
-        ensures { λ r. ⌜ r ≡ bindOf self name width number ⌝ }
-    {
-        let at = entry(&self.hi, &self.lo, &self.widths, name);
-        if 128 <= at {
-            return Bound {
-                next: self,
-                reason: 7,
-            };
-        }
-        self.hi[at] = name.hi;
-        self.lo[at] = name.lo;
-        self.numbers[at] = number;
-        self.widths[at] = width;
-        Bound {
-            next: self,
-            reason: 0,
-        }
-    }
-
-    // What a name is bound to.
-    pub fn lookup(self, name: Name) -> Value
-        ensures { λ r. ⌜ r ≡ lookupOf self name ⌝ }
-    {
-        lookup_in(&self.hi, &self.lo, &self.numbers, &self.widths, name)
     }
 }

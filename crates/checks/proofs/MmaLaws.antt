@@ -21,39 +21,39 @@ use Rattle.statement.specs.Canonical.{sparse}
 use Rattle.rules.specs.State.{State, lowest, isLive, columnsOf, widthOf, numberOf}
 use Rattle.rules.specs.Reasons.{laneOf, columnOf, sharedReads, mmaEnds, operandNamed, metadataNamed, operandReads, operandEnds, metadataEnds, mmaNamed, mmaReads, allEnd, instructionOf, fieldsOf, openRules}
 use Rattle.rules.proofs.ByForm.{mmaOrder, mma-listed}
-use Rattle.rules.proofs.CountingLaws.{clash}
+use Rattle.laws.proofs.BoolLaws.{and-r}
 use Rattle.ledger.specs.declared.Span.{Span}
 use Rattle.ledger.specs.Booking.{findIn}
 use Rattle.ledger.specs.Shows.{Slots}
+use Rattle.ledger.proofs.SlotLaws.{finds}
 use Rattle.bindings.specs.declared.Value.{Value}
 use Rattle.bindings.specs.Table.{valueIn}
 use Rattle.bindings.specs.Shows as bindings
-use Rattle.checks.specs.declared.Asked.{Asked}
+use Rattle.checks.specs.declared.Tested.{Tested}
 use Rattle.checks.specs.Tables.{Tables, table}
-use Rattle.checks.specs.Checks.{asked, Operands}
-use Rattle.checks.proofs.AccessLaws.{found-columns, found-live}
+use Rattle.checks.specs.Checks.{tested, Operands}
 
 -- ---- the tests of an operand
-asked-path : (a b c d e f : Bool) → a ≡ d → b ≡ e → c ≡ f → asked a b c ≡ asked d e f
-asked-path a b c d e f p q r = cc
+tested-path : (a b c d e f : Bool) → a ≡ d → b ≡ e → c ≡ f → tested a b c ≡ tested d e f
+tested-path a b c d e f p q r = cc
 
-pub address-asked : (s : State) (hi lo columns : List ℕ) (h : Slots hi lo columns (s .live)) (a : Address) (needed : ℕ)
+pub address-tested : (s : State) (hi lo columns : List ℕ) (h : Slots hi lo columns (s .live)) (a : Address) (needed : ℕ)
     (span : Span) → span ≡ findIn hi lo columns (a .base)
     → (end : Bool) → end ≡ eqb (laneOf a) 0 && leb (columnOf a + needed) (span .columns)
-    → asked (not (eqb (span .columns) 0)) true end ≡ asked (isLive (a .base) (s .live)) true (mmaEnds s a needed)
-address-asked s hi lo columns h a needed span p end q =
-    asked-path (not (eqb (span .columns) 0)) true end (isLive (a .base) (s .live)) true (mmaEnds s a needed)
-    (ap (λ (x : Span). not (eqb (x .columns) 0)) p ∙ found-live hi lo columns (s .live) h (a .base))
+    → tested (not (eqb (span .columns) 0)) true end ≡ tested (isLive (a .base) (s .live)) true (mmaEnds s a needed)
+address-tested s hi lo columns h a needed span p end q =
+    tested-path (not (eqb (span .columns) 0)) true end (isLive (a .base) (s .live)) true (mmaEnds s a needed)
+    (ap (λ (x : Span). not (eqb (x .columns) 0)) p ∙ finds hi lo columns (s .live) h .live (a .base))
     refl
     (q ∙ ap (λ (x : Span). eqb (laneOf a) 0 && leb (columnOf a + needed) (x .columns)) p
-    ∙ ap (λ (x : ℕ). eqb (laneOf a) 0 && leb (columnOf a + needed) x) (found-columns hi lo columns (s .live) h (a .base)))
+    ∙ ap (λ (x : ℕ). eqb (laneOf a) 0 && leb (columnOf a + needed) x) (finds hi lo columns (s .live) h .size (a .base)))
 
-pub descriptor-asked : (s : State) (hi lo numbers widths : List ℕ) (h : bindings.Shows (table hi lo numbers widths) (s .values)) (n : Name)
+pub descriptor-tested : (s : State) (hi lo numbers widths : List ℕ) (h : bindings.Shows (table hi lo numbers widths) (s .values)) (n : Name)
     (v : Value) → v ≡ valueIn hi lo numbers widths n
     → (d : SharedRead) → d ≡ shared.decoded (v .number)
-    → asked (eqb (v .width) 64) (eqb (d .reason) 0) true ≡ asked (eqb (widthOf n (s .values)) 64) (sharedReads s n) true
-descriptor-asked s hi lo numbers widths h n v p d q =
-    asked-path (eqb (v .width) 64) (eqb (d .reason) 0) true (eqb (widthOf n (s .values)) 64) (sharedReads s n) true
+    → tested (eqb (v .width) 64) (eqb (d .reason) 0) true ≡ tested (eqb (widthOf n (s .values)) 64) (sharedReads s n) true
+descriptor-tested s hi lo numbers widths h n v p d q =
+    tested-path (eqb (v .width) 64) (eqb (d .reason) 0) true (eqb (widthOf n (s .values)) 64) (sharedReads s n) true
     (ap (λ (x : Value). eqb (x .width) 64) (p ∙ h .value n))
     (ap (λ (x : SharedRead). eqb (x .reason) 0) q ∙ ap (λ (x : Value). eqb (shared.decoded (x .number) .reason) 0) (p ∙ h .value n))
     refl
@@ -62,26 +62,22 @@ descriptor-asked s hi lo numbers widths h n v p d q =
 both : (a b c d : Bool) → a ≡ c → b ≡ d → a && b ≡ c && d
 both a b c d p q = cc
 
-last : (a b : Bool) → a && b ≡ true → b ≡ true
-last true b e = e
-last false b e = absurd (clash e refl)
-
 -- what was found in the tables is what the state has
 pub operands : (s : State) (hi lo columns valueHi valueLo numbers widths : List ℕ) (h : Tables hi lo columns valueHi valueLo numbers widths s) (m : Mma)
     (d : Span) → d ≡ findIn hi lo columns (m .d .base)
-    → (a : Asked) → a ≡ asked (operandNamed s (m .a)) (operandReads s (m .a)) (operandEnds s (m .a))
-    → (b : Asked) → b ≡ asked (eqb (widthOf (m .b) (s .values)) 64) (sharedReads s (m .b)) true
-    → (e : Asked) → e ≡ asked (metadataNamed s (m .metadata)) true (metadataEnds s (m .metadata))
+    → (a : Tested) → a ≡ tested (operandNamed s (m .a)) (operandReads s (m .a)) (operandEnds s (m .a))
+    → (b : Tested) → b ≡ tested (eqb (widthOf (m .b) (s .values)) 64) (sharedReads s (m .b)) true
+    → (e : Tested) → e ≡ tested (metadataNamed s (m .metadata)) true (metadataEnds s (m .metadata))
     → (v : Value) → v ≡ valueIn valueHi valueLo numbers widths (m .idesc) → Operands m (d .columns) a b e v s
 operands s hi lo columns valueHi valueLo numbers widths h m d pd a pa b pb e pe v pv = record {
-  live = ap (λ (x : Span). not (eqb (x .columns) 0)) pd ∙ found-live hi lo columns (s .live) (h .slots) (m .d .base);
-  size = ap (λ (x : Span). x .columns) pd ∙ found-columns hi lo columns (s .live) (h .slots) (m .d .base);
+  live = ap (λ (x : Span). not (eqb (x .columns) 0)) pd ∙ finds hi lo columns (s .live) (h .slots) .live (m .d .base);
+  size = ap (λ (x : Span). x .columns) pd ∙ finds hi lo columns (s .live) (h .slots) .size (m .d .base);
   operand = pa;
   descriptor = pb;
   metadata = pe;
   width = width-is;
   number = number-is;
-  narrow = λ t. let u : widthOf (m .idesc) (s .values) ≡ 32 = sym width-is ∙ t in omega (arith, number-is, h .narrow (m .idesc) u);
+  narrow = λ t. let u : widthOf (m .idesc) (s .values) ≡ 32 = sym width-is ∙ t in omega (arith, number-is, h .values .narrow (m .idesc) u);
 }
   where
     width-is : v .width ≡ widthOf (m .idesc) (s .values)
@@ -90,7 +86,7 @@ operands s hi lo columns valueHi valueLo numbers widths h m d pd a pa b pb e pe 
     number-is : v .number ≡ numberOf (m .idesc) (s .values)
     number-is = ap (λ (x : Value). x .number) (pv ∙ h .values .value (m .idesc))
 
-module _ (s : State) (held w : ℕ) (m : Mma) (columns : ℕ) (a b e : Asked) (v : Value) (o : Operands m columns a b e v s) where
+module _ (s : State) (held w : ℕ) (m : Mma) (columns : ℕ) (a b e : Tested) (v : Value) (o : Operands m columns a b e v s) where
   -- the number of the first rule of listing that is broken
   abbrev listingOf : ℕ
   listingOf = firstBroken (instruction.listing (m .kind) (m .ws) (fieldsOf s m))
@@ -104,9 +100,9 @@ module _ (s : State) (held w : ℕ) (m : Mma) (columns : ℕ) (a b e : Asked) (v
       both _ _ _ _
       (both _ _ _ _
       (both _ _ _ _
-      (both _ _ _ _ (o .live) (ap (λ (x : Asked). x .named) (o .operand)))
-      (ap (λ (x : Asked). x .named) (o .descriptor)))
-      (ap (λ (x : Asked). x .named) (o .metadata)))
+      (both _ _ _ _ (o .live) (ap (λ (x : Tested). x .named) (o .operand)))
+      (ap (λ (x : Tested). x .named) (o .descriptor)))
+      (ap (λ (x : Tested). x .named) (o .metadata)))
       (ap (λ (x : ℕ). eqb x 32) (o .width))
 
   pub mma-6 : names ≡ false → 6 ≡ firstBroken (openRules lowest s held w (Multiply m))
@@ -117,7 +113,7 @@ module _ (s : State) (held w : ℕ) (m : Mma) (columns : ℕ) (a b e : Asked) (v
   module _ (n : names ≡ true) (word : ℕ) (pw : word ≡ v .number % 2 ^ 32) (sp : Bool) (ps : sp ≡ sparse (m .metadata))
       (i : FieldsRead) (pi : i ≡ instruction.fieldsRead (instruction.decoded (m .kind) (m .ws) sp word)) where
     small : v .number < 2 ^ 32
-    small = o .narrow (eqb-true (v .width) 32 (last (((not (eqb columns 0) && a .named) && b .named) && e .named) (eqb (v .width) 32) n))
+    small = o .narrow (eqb-true (v .width) 32 (and-r (((not (eqb columns 0) && a .named) && b .named) && e .named) (eqb (v .width) 32) n))
 
     word-is : word ≡ numberOf (m .idesc) (s .values)
     word-is = omega (arith, pw, small, o .number)
@@ -135,7 +131,7 @@ module _ (s : State) (held w : ℕ) (m : Mma) (columns : ℕ) (a b e : Asked) (v
     reads-is : descriptors ≡ all (mmaReads s m)
     reads-is =
         both _ _ _ _
-        (both _ _ _ _ (ap (λ (x : Asked). x .reads) (o .operand)) (ap (λ (x : Asked). x .reads) (o .descriptor)))
+        (both _ _ _ _ (ap (λ (x : Tested). x .reads) (o .operand)) (ap (λ (x : Tested). x .reads) (o .descriptor)))
         (ap (λ (x : FieldsRead). eqb (x .reason) 0) read-is)
 
     after-6 : (x : ℕ) → x ≡ mmaOrder true descriptors listingOf (all (allEnd s m)) → x ≡ firstBroken (openRules lowest s held w (Multiply m))
@@ -151,7 +147,7 @@ module _ (s : State) (held w : ℕ) (m : Mma) (columns : ℕ) (a b e : Asked) (v
     -- reason 13: the word has a reading, so its reason is that of the listing
     module _ (r : descriptors ≡ true) (j : ℕ) (pj : j ≡ instruction.wordReason (m .kind) (m .ws) sp word) where
       reason-is : eqb (instructionOf s m .reason) 0 ≡ true
-      reason-is = sym (ap (λ (x : FieldsRead). eqb (x .reason) 0) read-is) ∙ last (a .reads && b .reads) (eqb (i .reason) 0) r
+      reason-is = sym (ap (λ (x : FieldsRead). eqb (x .reason) 0) read-is) ∙ and-r (a .reads && b .reads) (eqb (i .reason) 0) r
 
       listing-is : j ≡ listingOf
       listing-is =
@@ -177,7 +173,7 @@ module _ (s : State) (held w : ℕ) (m : Mma) (columns : ℕ) (a b e : Asked) (v
             ∙ ap (λ (x : ℕ). eqb (laneOf (m .d)) 0 && leb (columnOf (m .d) + instructionOf s m .descriptor .n) x) (o .size)
 
         inside-is : (within && a .ends) && e .ends ≡ all (allEnd s m)
-        inside-is = both _ _ _ _ (both _ _ _ _ within-is (ap (λ (x : Asked). x .ends) (o .operand))) (ap (λ (x : Asked). x .ends) (o .metadata))
+        inside-is = both _ _ _ _ (both _ _ _ _ within-is (ap (λ (x : Tested). x .ends) (o .operand))) (ap (λ (x : Tested). x .ends) (o .metadata))
 
         pub mma-end : eqb j 0 ≡ true → (t : Bool) → (within && a .ends) && e .ends ≡ t → cond t 0 14 ≡ firstBroken (openRules lowest s held w (Multiply m))
         mma-end l t p =

@@ -1,9 +1,7 @@
 -- The arrays of a ledger and of a table of value names hold what a state of the rules has. Assumes nothing.
-use Prim.Native.Nat.{ℕ, _^_, _<_}
-use mathlib.Core.Path.{_≡_}
+use Prim.Native.Nat.{ℕ}
 use mathlib.Core.List.{List}
-use Rattle.tokens.specs.declared.Name.{Name}
-use Rattle.rules.specs.State.{State, widthOf, numberOf}
+use Rattle.rules.specs.State.{State}
 use Rattle.ledger.specs.Shows.{Slots}
 use Rattle.bindings.specs.declared.Bindings.{Bindings}
 use Rattle.bindings.specs.Shows as bindings
@@ -12,8 +10,7 @@ use Rattle.bindings.specs.Shows as bindings
 abbrev pub table : (hi lo numbers widths : List ℕ) → Bindings
 table hi lo numbers widths = record { hi = hi; lo = lo; numbers = numbers; widths = widths }
 
--- the live allocations, the values, and a 32-bit value has 32 bits
+-- the live allocations and the values
 pub record Tables (hi lo columns valueHi valueLo numbers widths : List ℕ) (s : State) : Type 0 where
   pub slots : Slots hi lo columns (s .live)
   pub values : bindings.Shows (table valueHi valueLo numbers widths) (s .values)
-  pub narrow : (n : Name) → widthOf n (s .values) ≡ 32 → numberOf n (s .values) < 2 ^ 32

@@ -7,7 +7,7 @@ ghost use Rattle.laws.specs.Rules.{firstBroken};
 ghost use Rattle.statement.specs.Canonical.{sparse};
 ghost use Rattle.statement.specs.Cells.{columnsOf};
 ghost use Rattle.rules.specs.Reasons.{closedRules};
-ghost use Rattle.checks.specs.Checks.{AccessJudged, AddressAsked, DescriptorAsked, OperandAsked, MetadataAsked, OperandsJudged, MmaJudged};
+ghost use Rattle.checks.specs.Checks.{AccessJudged, AddressTested, DescriptorTested, OperandTested, MetadataTested, OperandsJudged, MmaJudged};
 use bindings::Value;
 use statement::Access;
 use statement::Address;
@@ -19,8 +19,8 @@ use statement::Shape;
 use statement::Statement;
 use tokens::Name;
 
-// What is asked of an operand of an mma: a name of its sort, a descriptor that reads, and columns inside the allocation.
-pub struct Asked {
+// The tests of an operand of an mma: a name of its sort, a descriptor that reads, and columns inside the allocation.
+pub struct Tested {
     pub named: bool,
     pub reads: bool,
     pub ends: bool,
@@ -68,23 +68,23 @@ pub fn access_reason<'a>(
     ensures { λ r. ⌜ AccessJudged (now (hi .entry)) (now (lo .entry)) (now (columns .entry)) warp a r ⌝ }
 {
     if cells::is_miscounted(a) {
-        return 5;
+        return reasons::REGISTERS;
     }
     let address = a.address;
     let base = address.base;
     let span = ledger::find_in(hi, lo, columns, base);
     if span.columns == 0 {
-        return 6;
+        return reasons::NAME;
     }
     let shape = a.shape;
     let num = a.num;
     if !is_lane(warp, cells::lanes(shape), address.offset) {
-        return 8;
+        return reasons::WARP;
     }
     if ends_within(address.offset, columns_needed(shape, num), span.columns) {
-        0
+        reasons::PASSED
     } else {
-        14
+        reasons::CELLS
     }
 }
 
@@ -92,22 +92,26 @@ pub fn access_reason<'a>(
 pub fn closed_reason(t: Statement) -> u32
     ensures { λ r. ⌜ r ≡ firstBroken (closedRules t) ⌝ }
 {
-    if cells::is_counted(t) { 15 } else { 5 }
+    if cells::is_counted(t) {
+        reasons::EXIT
+    } else {
+        reasons::REGISTERS
+    }
 }
 
 // An address of an mma that needs some columns.
-fn address_asked<'a>(
+fn address_tested<'a>(
     hi: &'a [u64; 16],
     lo: &'a [u64; 16],
     columns: &'a [u16; 16],
     a: Address,
     needed: u32,
-) -> Asked
-    ensures { λ r. ⌜ AddressAsked (now (hi .entry)) (now (lo .entry)) (now (columns .entry)) a needed r ⌝ }
+) -> Tested
+    ensures { λ r. ⌜ AddressTested (now (hi .entry)) (now (lo .entry)) (now (columns .entry)) a needed r ⌝ }
 {
     let base = a.base;
     let span = ledger::find_in(hi, lo, columns, base);
-    Asked {
+    Tested {
         named: span.columns != 0,
         reads: true,
         ends: mma_within(a.offset, needed, span.columns),
@@ -115,18 +119,18 @@ fn address_asked<'a>(
 }
 
 // The name of a shared memory descriptor.
-fn descriptor_asked<'a>(
+fn descriptor_tested<'a>(
     hi: &'a [u64; 128],
     lo: &'a [u64; 128],
     numbers: &'a [u64; 128],
     widths: &'a [u8; 128],
     name: Name,
-) -> Asked
-    ensures { λ r. ⌜ DescriptorAsked (now (hi .entry)) (now (lo .entry)) (now (numbers .entry)) (now (widths .entry)) name r ⌝ }
+) -> Tested
+    ensures { λ r. ⌜ DescriptorTested (now (hi .entry)) (now (lo .entry)) (now (numbers .entry)) (now (widths .entry)) name r ⌝ }
 {
     let v = bindings::lookup_in(hi, lo, numbers, widths, name);
     let d = shared_memory::decode(v.number);
-    Asked {
+    Tested {
         named: v.width == 64,
         reads: d.reason == 0,
         ends: true,
@@ -134,7 +138,7 @@ fn descriptor_asked<'a>(
 }
 
 // Operand a.
-fn operand_asked<'a>(
+fn operand_tested<'a>(
     hi: &'a [u64; 16],
     lo: &'a [u64; 16],
     columns: &'a [u16; 16],
@@ -143,31 +147,31 @@ fn operand_asked<'a>(
     numbers: &'a [u64; 128],
     widths: &'a [u8; 128],
     a: Operand,
-) -> Asked
-    ensures { λ r. ⌜ OperandAsked (now (hi .entry)) (now (lo .entry)) (now (columns .entry)) (now («value_hi» .entry)) (now («value_lo» .entry)) (now (numbers .entry)) (now (widths .entry)) a r ⌝ }
+) -> Tested
+    ensures { λ r. ⌜ OperandTested (now (hi .entry)) (now (lo .entry)) (now (columns .entry)) (now («value_hi» .entry)) (now («value_lo» .entry)) (now (numbers .entry)) (now (widths .entry)) a r ⌝ }
 {
     match a {
-        Operand::Descriptor(name) => descriptor_asked(value_hi, value_lo, numbers, widths, name),
-        Operand::Address(address) => address_asked(hi, lo, columns, address, 8),
+        Operand::Descriptor(name) => descriptor_tested(value_hi, value_lo, numbers, widths, name),
+        Operand::Address(address) => address_tested(hi, lo, columns, address, 8),
     }
 }
 
 // The metadata of a sparse a.
-fn metadata_asked<'a>(
+fn metadata_tested<'a>(
     hi: &'a [u64; 16],
     lo: &'a [u64; 16],
     columns: &'a [u16; 16],
     metadata: Metadata,
-) -> Asked
-    ensures { λ r. ⌜ MetadataAsked (now (hi .entry)) (now (lo .entry)) (now (columns .entry)) metadata r ⌝ }
+) -> Tested
+    ensures { λ r. ⌜ MetadataTested (now (hi .entry)) (now (lo .entry)) (now (columns .entry)) metadata r ⌝ }
 {
     match metadata {
-        Metadata::Dense => Asked {
+        Metadata::Dense => Tested {
             named: true,
             reads: true,
             ends: true,
         },
-        Metadata::Sparse(address) => address_asked(hi, lo, columns, address, 2),
+        Metadata::Sparse(address) => address_tested(hi, lo, columns, address, 2),
     }
 }
 
@@ -187,13 +191,13 @@ fn low(number: u64) -> u32
     (number % 4294967296) as u32
 }
 
-// The reason of an mma from the columns of d and what is asked of the operands a and b and of the metadata e; `v` is the
+// The reason of an mma from the columns of d and the tests of the operands a and b and of the metadata e; `v` is the
 // value of idesc.
-fn operands_reason(m: Mma, columns: u32, a: Asked, b: Asked, e: Asked, v: Value) -> u32
+fn operands_reason(m: Mma, columns: u32, a: Tested, b: Tested, e: Tested, v: Value) -> u32
     ensures { λ r. ⌜ OperandsJudged m columns a b e v r ⌝ }
 {
     if !((columns != 0) & a.named & b.named & e.named & (v.width == 32)) {
-        return 6;
+        return reasons::NAME;
     }
     let address = m.d;
     let metadata = m.metadata;
@@ -202,16 +206,16 @@ fn operands_reason(m: Mma, columns: u32, a: Asked, b: Asked, e: Asked, v: Value)
     let sp = is_sparse(metadata);
     let i = instruction::decode_fields(kind, m.ws, sp, word);
     if !(a.reads & b.reads & (i.reason == 0)) {
-        return 12;
+        return reasons::DESCRIPTOR;
     }
     let listing = instruction::judge(kind, m.ws, sp, word);
     if listing != 0 {
         return listing;
     }
     if mma_within(address.offset, i.fields.n, columns) & a.ends & e.ends {
-        0
+        reasons::PASSED
     } else {
-        14
+        reasons::CELLS
     }
 }
 
@@ -232,7 +236,7 @@ pub fn mma_reason<'a>(
     let operand = m.a;
     let metadata = m.metadata;
     let d = ledger::find_in(hi, lo, columns, address.base);
-    let a = operand_asked(
+    let a = operand_tested(
         hi,
         lo,
         columns,
@@ -242,8 +246,8 @@ pub fn mma_reason<'a>(
         widths,
         operand,
     );
-    let b = descriptor_asked(value_hi, value_lo, numbers, widths, m.b);
-    let e = metadata_asked(hi, lo, columns, metadata);
+    let b = descriptor_tested(value_hi, value_lo, numbers, widths, m.b);
+    let e = metadata_tested(hi, lo, columns, metadata);
     let v = bindings::lookup_in(value_hi, value_lo, numbers, widths, m.idesc);
     operands_reason(m, d.columns, a, b, e, v)
 }

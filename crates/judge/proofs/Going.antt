@@ -16,7 +16,7 @@ use Rattle.lines.proofs.SheetLaws.{line-seen}
 use Rattle.lines.proofs.SheetTheorems.{After, after-header, one-more, all-done, step-more, step-after}
 use Rattle.laws.specs.Rules.{firstBroken}
 use Rattle.rules.specs.declared.Answer.{Answer}
-use Rattle.rules.specs.State.{State, opened, lowest, widthOf}
+use Rattle.rules.specs.State.{State, opened, lowest}
 use Rattle.rules.specs.Sheet.{Line, lineRules, lineEffect, given, requested, released, sum, heldAfter, peakUpTo, ours, stateBy, startsBy, rulesBy, reasonBy, stopBy, answer, closing, stateAfter, startsUpTo, answerOf, startsOf}
 use Rattle.rules.specs.Claims.{AllKept}
 use Rattle.rules.proofs.CountingLaws.{bool}
@@ -58,12 +58,10 @@ abbrev from : Ledger → Bindings → Arrays
 from l t = arrays (l .hi) (l .lo) (l .columns) (t .hi) (t .lo) (t .numbers) (t .widths)
 
 empty-kept : Kept (from ledger.empty bindings.empty) opening opened
-unfolding widthOf
 empty-kept = record {
   tables = record {
     slots = ledger-laws.shows-empty .slots;
     values = bindings-laws.shows-empty;
-    narrow = λ n e. absurd (omega (arith, e));
   };
   warp = refl;
   relinquished = refl;

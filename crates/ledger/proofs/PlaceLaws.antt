@@ -1,21 +1,17 @@
 -- One pass over the slots finds the lowest place. Below the start so far nothing fits, for an allocation is met there; from it on all slots looked at
 -- are empty, and they are not enough yet. Assumes nothing.
 use Prim.Native.Nat.{ℕ, _+_, _*_, _/_, _≤_, _<_, max}
-use mathlib.Core.Path.{_≡_, refl, ap, _∙_}
-use mathlib.Core.Bool.{Bool, true, false, not, _&&_, cond}
+use mathlib.Core.Path.{_≡_, ap, _∙_}
+use mathlib.Core.Bool.{Bool, true, false, not, cond, and-false}
 use mathlib.Core.List.{List}
 use mathlib.Core.Logic.{_⊎_, inl, inr}
 use native.Mathlib.Omega.{arith}
 use lib.Dec.{leb, ltb, eqb}
 use lib.ListN.{getD}
 use borrow.Author.Tests.{ltb-true, ltb-false, lt-ltb, le-ltb, le-leb, lt-leb, eqb-true, eqb-false, eq-eqb, ne-eqb}
-use Rattle.rules.proofs.CountingLaws.{bool}
+use Rattle.laws.proofs.BoolLaws.{bool}
 use Rattle.search.proofs.SearchLaws.{least-is, least-none, none-passes, some-passes}
 use Rattle.ledger.specs.Slots.{meetsAt, fitsAt, placeOf, pastOf}
-
-and-false : (a : Bool) → a && false ≡ false
-and-false true = refl
-and-false false = refl
 
 -- when an allocation is met
 pub meets-in : (columns : List ℕ) (start requested j : ℕ)

@@ -8,7 +8,7 @@ use mathlib.Core.Option.{Option, none, some}
 use native.Mathlib.Omega.{arith}
 use lib.Dec.{ltb, eqb}
 use lib.ListN.{getD, set, replicate, getD-replicate}
-use borrow.Author.Tests.{ltb-true, lt-ltb, eqb-true, eq-eqb, ne-eqb}
+use borrow.Author.Tests.{ltb-true, lt-ltb, eqb-true, not-true}
 use Rattle.laws.specs.Rules.{firstBroken}
 use Rattle.laws.specs.Tests.{isSome}
 use Rattle.request.specs.Request.{legal}
@@ -22,12 +22,11 @@ use Rattle.rules.proofs.CountingLaws.{least-hit}
 use Rattle.rules.proofs.ByForm.{alloc-first, dealloc-first, relinquish-first}
 use Rattle.ledger.specs.declared.Ledger.{Ledger}
 use Rattle.ledger.specs.declared.Booked.{Booked}
-use Rattle.ledger.specs.declared.Span.{Span}
 use Rattle.ledger.specs.Slots.{fitsAt, placeOf, total}
-use Rattle.ledger.specs.Booking.{empty, slot, place, isLive, mayBook, columnsOf, allocRules, releaseRules, relinquishRules, withAllocation, withoutAllocation, afterRelinquish, booked, allocOf, releaseOf, relinquishOf, findIn, findOf, heldOf}
+use Rattle.ledger.specs.Booking.{empty, slot, place, isLive, mayBook, columnsOf, allocRules, releaseRules, relinquishRules, withAllocation, withoutAllocation, afterRelinquish, booked, allocOf, releaseOf, relinquishOf}
 use Rattle.ledger.specs.Shows.{Slots, Shows, Tells}
 use Rattle.ledger.proofs.BookingLaws.{legal-range}
-use Rattle.ledger.proofs.SlotLaws.{live-slot, columns-slot, live-columns, columns-none, place-slot, place-empty, slots-none, slots-alloc, slots-release}
+use Rattle.ledger.proofs.SlotLaws.{live-slot, columns-slot, place-slot, place-empty, slots-none, slots-alloc, slots-release}
 
 -- ---- what is booked, by its reason
 pick-reason : (l next : Ledger) (reason start : ℕ) (t : Bool) → eqb reason 0 ≡ t
@@ -45,10 +44,6 @@ booked-next l next reason start e = rw e
 kept : (b : Bool) (x m : ℕ) → 0 < m → cond b x m ≡ 0 → (b ≡ true) × (x ≡ 0)
 kept true x m p e = (refl, e)
 kept false x m p e = absurd (omega arith)
-
-not-kept : (b : Bool) → not b ≡ true → b ≡ false
-not-kept true e = sym e
-not-kept false e = refl
 
 -- ---- orders of tests
 alloc-order : (live bound warp size permit here there : Bool) → (size ≡ true → here ≡ there)
@@ -118,26 +113,6 @@ module _ (l : Ledger) (s : State) (h : Shows l s) where
   placed-test : (k : ℕ) → legal k ≡ true → ltb (place l k) 16 ≡ isSome (lowest (s .live) k)
   placed-test k e = ap (λ (p : ℕ). ltb p 16) (place-test k e) ∙ sym (placed-if (s .live) k)
 
-  find-test : (n : Name) (t : Bool) → isLive l n ≡ t
-      → cond {A = Span} t (record { start = slot l n * 32; columns = columnsOf l n }) (record { start = 0; columns = 0 }) .columns ≡ rules.columnsOf n (s .live)
-  find-test n true e = columns-test n
-  find-test n false e = sym (columns-none (s .live) n (sym (live-test n) ∙ e))
-
-  found : (n : Name) → findOf l n .columns ≡ rules.columnsOf n (s .live)
-  unfolding findIn
-  found n = find-test n (isLive l n) refl
-
-  found-live : (n : Name) → not (eqb (findOf l n .columns) 0) ≡ rules.isLive n (s .live)
-  found-live n = rw (found n) (at (rules.isLive n (s .live)) refl)
-    where
-      at : (t : Bool) → rules.isLive n (s .live) ≡ t → not (eqb (rules.columnsOf n (s .live)) 0) ≡ t
-      at true e =
-          ap not (ne-eqb (rules.columnsOf n (s .live)) 0 (omega (arith, live-columns (l .hi) (l .lo) (l .columns) (s .live) (h .slots) n e)))
-      at false e = ap not (eq-eqb (rules.columnsOf n (s .live)) 0 (columns-none (s .live) n e))
-
-  held : heldOf l ≡ rules.total (s .live)
-  held = h .slots .sum
-
   -- the reasons
   alloc-reason : (n : Name) (held w k : ℕ) → firstBroken (openRules lowest s held w (Alloc n k)) ≡ cond (rules.isBound n (s .values)) 6 (allocOf l n w k .reason)
   unfolding allocOf
@@ -171,7 +146,7 @@ module _ (l : Ledger) (s : State) (h : Shows l s) where
       let c = kept (legal k) _ 9 (omega arith) (b .1) in
       let d = kept (not (l .relinquished)) _ 10 (omega arith) (c .1) in
       let f = kept (ltb (place l k) 16) 0 11 (omega arith) (d .1) in
-      (sym (live-test n) ∙ not-kept (isLive l n) (a .0), b .0, c .0, ltb-true (place l k) 16 (f .0), z)
+      (sym (live-test n) ∙ not-true (isLive l n) (a .0), b .0, c .0, ltb-true (place l k) 16 (f .0), z)
 
   -- the slot that is found is empty
   free : (k : ℕ) → legal k ≡ true → place l k < 16 → getD (l .columns) (place l k) 0 ≡ 0
@@ -231,9 +206,6 @@ module _ (l : Ledger) (s : State) (h : Shows l s) where
   -- THE CLAIM
   pub tells : Tells l s
   tells = record {
-    live = found-live;
-    find = found;
-    held = held;
     alloc = alloc-reason;
     release = release-reason;
     relinquish = relinquish-reason;

@@ -9,19 +9,20 @@ use native.Mathlib.Omega.{arith}
 use lib.Dec.{leb, ltb, eqb}
 use lib.ListN.{getD, set, length, length-set, List·getD-eq-default}
 use lib.Seq.{getD-set-same, getD-set-other}
-use borrow.Author.Tests.{ltb-true, ltb-false, leb-true, lt-ltb, le-leb, eqb-true, eqb-false, eq-eqb, ne-eqb}
-use Rattle.laws.proofs.TestLaws.{and-split, and-join}
+use borrow.Author.Tests.{ltb-true, ltb-false, leb-true, lt-ltb, le-leb, eqb-true, eqb-false, eq-eqb, ne-eqb, not-true, not-false}
+use Rattle.laws.proofs.BoolLaws.{bool, clash, same-test, and-split, and-join, and-cases, and-left-false, and-right-false, or-cases, or-left, or-right, or-neither}
 use Rattle.tokens.specs.declared.Name.{Name}
 use Rattle.tokens.specs.Names.{sameName}
 use Rattle.rules.specs.Counting.{least, every}
 use Rattle.rules.specs.State as rules
 use Rattle.rules.specs.State.{Allocation, covers, isFree, freeFrom}
-use Rattle.rules.proofs.CountingLaws.{bool, clash, or-cases, not-t, not-f, least-le, least-hit, least-below, every-at, every-all}
-use Rattle.search.proofs.ChoiceLaws.{same-test, or-left, or-right, or-neither, and-cases, and-left-false, and-right-false}
+use Rattle.rules.proofs.CountingLaws.{least-le, least-hit, least-below, every-at, every-all}
 use Rattle.search.proofs.NameLaws.{same-true, same-name, other-name}
 use Rattle.search.proofs.SearchLaws.{least-at-most, least-agree}
+use Rattle.ledger.specs.declared.Span.{Span}
 use Rattle.ledger.specs.Slots.{ownsAt, slotOf, meetsAt, fitsAt, placeOf, total}
-use Rattle.ledger.specs.Shows.{Among, Unique, slotAt, Slots}
+use Rattle.ledger.specs.Booking.{findIn}
+use Rattle.ledger.specs.Shows.{Among, Unique, slotAt, Slots, Finds}
 use Rattle.ledger.proofs.PlaceLaws.{meets-in}
 
 -- ---- lists of allocations
@@ -38,7 +39,7 @@ taken-among (b ∷ l) c e = at (and-cases (not (covers b c)) (isFree l c) e) (ta
   where
     at : (not (covers b c) ≡ false) ⊎ (isFree l c ≡ false) → (isFree l c ≡ false → (a : Allocation) × Among a l × (covers a c ≡ true))
         → (a : Allocation) × Among a (b ∷ l) × (covers a c ≡ true)
-    at (inl e) ih = (b, inl refl, not-f (covers b c) e)
+    at (inl e) ih = (b, inl refl, not-false (covers b c) e)
     at (inr e) ih = let r = ih e in (r .0, inr (r .1), r .2)
 
 covers-in : (a : Allocation) (c : ℕ) → a .start ≤ c → c < a .start + a .columns → covers a c ≡ true
@@ -74,7 +75,7 @@ columns-of a (b ∷ l) n u (inl q) e = rw (same-name (b .name) n (sym (ap (λ (z
 columns-of a (b ∷ l) n u (inr m) e =
     rw (other-name (b .name) n (λ z. clash (among-live a l (b .name) m (e ∙ sym z)) (u .0))) (columns-of a l n (u .1) m e)
 
-pub columns-none : (l : List Allocation) (n : Name) → rules.isLive n l ≡ false → rules.columnsOf n l ≡ 0
+columns-none : (l : List Allocation) (n : Name) → rules.isLive n l ≡ false → rules.columnsOf n l ≡ 0
 unfolding rules.columnsOf rules.isLive
 columns-none [] n e = refl
 columns-none (b ∷ l) n e =
@@ -91,7 +92,7 @@ unfolding ownsAt
 owns-out hi lo columns n i e =
     let t : (not (eqb (getD columns i 0) 0) ≡ true) × (sameName (slotAt hi lo columns i .name) n ≡ true) =
     and-split (not (eqb (getD columns i 0) 0)) (sameName (slotAt hi lo columns i .name) n) e in
-    (same-true (slotAt hi lo columns i .name) n (t .1), omega (arith, eqb-false (getD columns i 0) 0 (not-t (eqb (getD columns i 0) 0) (t .0))))
+    (same-true (slotAt hi lo columns i .name) n (t .1), omega (arith, eqb-false (getD columns i 0) 0 (not-true (eqb (getD columns i 0) 0) (t .0))))
 
 meets-out : (columns : List ℕ) (s k j : ℕ) → meetsAt columns s k j ≡ true → (0 < getD columns j 0) × (j * 32 < s + k) × (s < j * 32 + getD columns j 0)
 unfolding meetsAt
@@ -101,7 +102,7 @@ meets-out columns s k j e =
     let c = ltb s (j * 32 + getD columns j 0) in
     let t : (a ≡ true) × ((b && c) ≡ true) = and-split a (b && c) e in
     let u : (b ≡ true) × (c ≡ true) = and-split b c (t .1) in
-    (omega (arith, eqb-false (getD columns j 0) 0 (not-t (eqb (getD columns j 0) 0) (t .0))), ltb-true (j * 32) (s + k) (u .0), ltb-true s (j * 32 + getD columns j 0) (u .1))
+    (omega (arith, eqb-false (getD columns j 0) 0 (not-true (eqb (getD columns j 0) 0) (t .0))), ltb-true (j * 32) (s + k) (u .0), ltb-true s (j * 32 + getD columns j 0) (u .1))
 
 -- ---- the slots show the list
 module _ (hi lo columns : List ℕ) (live : List Allocation) (m : Slots hi lo columns live) where
@@ -141,11 +142,31 @@ module _ (hi lo columns : List ℕ) (live : List Allocation) (m : Slots hi lo co
           List·getD-eq-default columns 0 (omega (arith, m .columns-16, ltb-false (slotOf hi lo columns n) 16 e))
           ∙ sym (columns-none live n (sym (live-slot n) ∙ e))
 
-  pub live-columns : (n : Name) → rules.isLive n live ≡ true → 0 < rules.columnsOf n live
+  live-columns : (n : Name) → rules.isLive n live ≡ true → 0 < rules.columnsOf n live
   live-columns n e =
       let h = live-among live n e in
       let d = m .down (h .0) (h .1) in
       omega (arith, columns-of (h .0) live n (m .unique) (h .1) (h .2), d .3)
+
+  -- what is found of a name
+  found-size : (n : Name) → findIn hi lo columns n .columns ≡ rules.columnsOf n live
+  unfolding findIn
+  found-size n = at (ltb (slotOf hi lo columns n) 16) refl
+    where
+      at : (t : Bool) → ltb (slotOf hi lo columns n) 16 ≡ t
+          → cond {A = Span} t (record { start = slotOf hi lo columns n * 32; columns = getD columns (slotOf hi lo columns n) 0 }) (record { start = 0; columns = 0 }) .columns ≡ rules.columnsOf n live
+      at true e = columns-slot n
+      at false e = sym (columns-none live n (sym (live-slot n) ∙ e))
+
+  found-live : (n : Name) → not (eqb (findIn hi lo columns n .columns) 0) ≡ rules.isLive n live
+  found-live n = rw (found-size n) (at (rules.isLive n live) refl)
+    where
+      at : (t : Bool) → rules.isLive n live ≡ t → not (eqb (rules.columnsOf n live) 0) ≡ t
+      at true e = ap not (ne-eqb (rules.columnsOf n live) 0 (omega (arith, live-columns n e)))
+      at false e = ap not (eq-eqb (rules.columnsOf n live) 0 (columns-none live n e))
+
+  pub finds : Finds hi lo columns live
+  finds = record { live = found-live; size = found-size }
 
   -- columns are free in the list exactly if they are in the slots
   clash-at : (k i : ℕ) → 0 < k → freeFrom live k (i * 32) ≡ true → least (meetsAt columns (i * 32) k) 16 < 16 → ⊥

@@ -1,4 +1,4 @@
--- What each method of the ledger answers, and the next ledger (document 01, 'Booking'). Assumes nothing.
+-- What each method of the ledger answers, and the next ledger (docs/FORMAT.md, 'Booking'). Assumes nothing.
 use Prim.Native.Nat.{ℕ, _*_}
 use mathlib.Core.Bool.{Bool, true, false, not, _||_, cond}
 use mathlib.Core.List.{List, [], _∷_}
@@ -10,7 +10,7 @@ use Rattle.tokens.specs.declared.Name.{Name}
 use Rattle.ledger.specs.declared.Ledger.{Ledger}
 use Rattle.ledger.specs.declared.Booked.{Booked}
 use Rattle.ledger.specs.declared.Span.{Span}
-use Rattle.ledger.specs.Slots.{slotOf, placeOf, total}
+use Rattle.ledger.specs.Slots.{slotOf, placeOf}
 
 -- no allocation, no warp fixed, not relinquished
 abbrev pub empty : Ledger
@@ -94,10 +94,3 @@ findIn hi lo columns name =
     cond (ltb (slotOf hi lo columns name) 16)
     (record { start = slotOf hi lo columns name * 32; columns = getD columns (slotOf hi lo columns name) 0 })
     (record { start = 0; columns = 0 })
-
-abbrev pub findOf : Ledger → Name → Span
-findOf l name = findIn (l .hi) (l .lo) (l .columns) name
-
--- the columns of all live allocations
-abbrev pub heldOf : Ledger → ℕ
-heldOf l = total (l .columns) 16

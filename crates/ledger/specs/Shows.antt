@@ -17,7 +17,7 @@ use Rattle.rules.specs.Reasons.{openRules}
 use Rattle.rules.specs.Sheet.{effect, startList}
 use Rattle.ledger.specs.declared.Ledger.{Ledger}
 use Rattle.ledger.specs.Slots.{total}
-use Rattle.ledger.specs.Booking.{allocOf, releaseOf, relinquishOf, findOf, heldOf}
+use Rattle.ledger.specs.Booking.{allocOf, releaseOf, relinquishOf, findIn}
 
 -- an allocation is one of a list
 abbrev pub Among : Allocation → List Allocation → Type 0
@@ -52,12 +52,14 @@ pub record Shows (l : Ledger) (s : State) : Type 0 where
   pub warp : warpOf l ≡ s .warp
   pub relinquished : l .relinquished ≡ s .relinquished
 
--- ---- the claim: what a ledger that shows a state tells of it
+-- ---- the claims
+-- what the slots tell of a name: it is live where an allocation is found, which has its columns
+pub record Finds (hi lo columns : List ℕ) (l : List Allocation) : Type 0 where
+  pub live : (n : Name) → not (eqb (findIn hi lo columns n .columns) 0) ≡ rules.isLive n l
+  pub size : (n : Name) → findIn hi lo columns n .columns ≡ rules.columnsOf n l
+
+-- what the methods of a ledger that shows a state tell of it
 pub record Tells (l : Ledger) (s : State) : Type 0 where
-  -- a name is live where an allocation is found, which has its columns; and the columns held
-  pub live : (n : Name) → not (eqb (findOf l n .columns) 0) ≡ rules.isLive n (s .live)
-  pub find : (n : Name) → findOf l n .columns ≡ rules.columnsOf n (s .live)
-  pub held : heldOf l ≡ rules.total (s .live)
   -- the reason of each method is that of the line; of an alloc, if the name is not bound to a value
   pub alloc : (n : Name) (held w k : ℕ) → firstBroken (openRules lowest s held w (Alloc n k)) ≡ cond (rules.isBound n (s .values)) 6 (allocOf l n w k .reason)
   pub release : (n : Name) (held w k : ℕ) → firstBroken (openRules lowest s held w (Dealloc n k)) ≡ releaseOf l n w k .reason

@@ -6,7 +6,7 @@ ghost use mathlib.Core.Bool.{not, _||_};
 ghost use Prim.Native.Nat.{_+_, _≤_, _<_};
 ghost use lib.Dec.{eqb};
 ghost use Rattle.ledger.specs.Slots.{owns, slotOf, placeOf, pastOf, total};
-ghost use Rattle.ledger.specs.Booking.{empty, unchanged, allocOf, releaseOf, relinquishOf, findIn, findOf, heldOf};
+ghost use Rattle.ledger.specs.Booking.{empty, unchanged, allocOf, releaseOf, relinquishOf, findIn};
 use tokens::Name;
 
 // Slot by slot the name and the columns of an allocation, 0 columns where there is none. `fixed`: a warp is fixed, and
@@ -154,20 +154,20 @@ impl Ledger {
     {
         let at = slot_of(&self.hi, &self.lo, &self.columns, name);
         if at < 16 {
-            return refused(self, 6);
+            return refused(self, reasons::NAME);
         }
         if !is_allowed(self.fixed, self.warp, warp) {
-            return refused(self, 8);
+            return refused(self, reasons::WARP);
         }
-        if request::reason(requested) != 0 {
-            return refused(self, 9);
+        if request::reason(requested) != reasons::PASSED {
+            return refused(self, reasons::COLUMNS);
         }
         if self.relinquished {
-            return refused(self, 10);
+            return refused(self, reasons::RELINQUISHED);
         }
         let place = place_for(&self.columns, requested);
         if 16 <= place {
-            return refused(self, 11);
+            return refused(self, reasons::SPACE);
         }
         let i = place as usize;
         let columns = requested as u16;
@@ -179,7 +179,7 @@ impl Ledger {
         let start = place * 32;
         Booked {
             next: self,
-            reason: 0,
+            reason: reasons::PASSED,
             start,
         }
     }
@@ -190,18 +190,18 @@ impl Ledger {
     {
         let at = slot_of(&self.hi, &self.lo, &self.columns, name);
         if 16 <= at {
-            return refused(self, 6);
+            return refused(self, reasons::NAME);
         }
         if !is_allowed(self.fixed, self.warp, warp) {
-            return refused(self, 8);
+            return refused(self, reasons::WARP);
         }
         if wide(self.columns[at]) != released {
-            return refused(self, 9);
+            return refused(self, reasons::COLUMNS);
         }
         self.columns[at] = 0;
         Booked {
             next: self,
-            reason: 0,
+            reason: reasons::PASSED,
             start: 0,
         }
     }
@@ -211,29 +211,15 @@ impl Ledger {
         ensures { λ r. ⌜ r ≡ relinquishOf self warp ⌝ }
     {
         if !is_allowed(self.fixed, self.warp, warp) {
-            return refused(self, 8);
+            return refused(self, reasons::WARP);
         }
         self.fixed = true;
         self.warp = warp;
         self.relinquished = true;
         Booked {
             next: self,
-            reason: 0,
+            reason: reasons::PASSED,
             start: 0,
         }
-    }
-
-    // The allocation of a name.
-    pub fn find(self, name: Name) -> Span
-        ensures { λ r. ⌜ r ≡ findOf self name ⌝ }
-    {
-        find_in(&self.hi, &self.lo, &self.columns, name)
-    }
-
-    // The columns of all allocations.
-    pub fn held(self) -> u32
-        ensures { λ r. ⌜ r ≡ heldOf self ⌝ }
-    {
-        held_in(&self.columns)
     }
 }

@@ -1,3 +1,4 @@
-pub mod ChoiceLaws
 pub mod NameLaws
+pub mod ValueLaws
 pub mod SearchLaws
+pub mod CountLaws

@@ -5,12 +5,11 @@ use mathlib.Core.Bool.{true, false}
 use mathlib.Core.Logic.{_⊎_, inl, inr}
 use lib.Dec.{eqb}
 use borrow.Author.Tests.{eqb-true, eq-eqb}
-use Rattle.laws.proofs.TestLaws.{and-split, and-join}
+use Rattle.laws.proofs.BoolLaws.{bool, and-split, and-join}
 use Rattle.tokens.specs.declared.Name.{Name}
 use Rattle.tokens.specs.Names.{sameName}
-use Rattle.rules.proofs.CountingLaws.{bool}
 
-name-path : (a b c d : ℕ) → a ≡ b → c ≡ d → _≡_ {A = Name} (record { hi = a; lo = c }) (record { hi = b; lo = d })
+pub name-path : (a b c d : ℕ) → a ≡ b → c ≡ d → _≡_ {A = Name} (record { hi = a; lo = c }) (record { hi = b; lo = d })
 name-path a b c d p q = cc
 
 pub same-true : (a b : Name) → sameName a b ≡ true → a ≡ b

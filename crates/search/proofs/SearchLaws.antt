@@ -8,7 +8,8 @@ use native.Mathlib.Omega.{arith}
 use lib.Dec.{ltb, eqb}
 use borrow.Author.Tests.{le-ltb, eq-eqb, ne-eqb}
 use Rattle.rules.specs.Counting.{least}
-use Rattle.rules.proofs.CountingLaws.{clash, least-le, least-hit, least-below}
+use Rattle.laws.proofs.BoolLaws.{clash}
+use Rattle.rules.proofs.CountingLaws.{least-le, least-hit, least-below}
 
 -- a number that passes is not below it
 pub least-at-most : (f : ℕ → Bool) (n i : ℕ) → f i ≡ true → least f n ≤ i

@@ -6,9 +6,9 @@ use mathlib.Core.Bool.{Bool, true, false, not, cond}
 use mathlib.Core.List.{List, [], _∷_}
 use mathlib.Core.Logic.{_⊎_, inl, inr}
 use native.Mathlib.Omega.{arith}
-use lib.Dec.{eqb}
+use lib.Dec.{ltb, eqb}
 use lib.ListN.{set}
-use borrow.Author.Tests.{eq-eqb, ne-eqb, eqb-true, eqb-false}
+use borrow.Author.Tests.{lt-ltb, le-ltb, eq-eqb, ne-eqb, eqb-true, eqb-false}
 use Rattle.laws.specs.Rules.{firstBroken}
 use Rattle.tokens.specs.declared.Name.{Name}
 use Rattle.tokens.specs.Names.{sameName}
@@ -16,25 +16,24 @@ use Rattle.statement.specs.declared.Access.{Access}
 use Rattle.statement.specs.declared.Mma.{Mma}
 use Rattle.statement.specs.declared.Statement.{Statement}
 use Rattle.statement.specs.declared.Statement.the-variants.{Mov32, Mov64, Alloc, Dealloc, Relinquish, Load, Store, WaitLoad, WaitStore, FenceBefore, FenceAfter, Multiply, Exit}
-use Rattle.rules.specs.State.{State, Binding, lowest, isLive, isBound, widthOf, numberOf, bind}
+use Rattle.rules.specs.State.{State, Binding, lowest, isLive, isBound, bind}
 use Rattle.rules.specs.Reasons.{openRules, closedRules, rules}
-use Rattle.rules.proofs.ByForm.{alloc-legal, wait-load-first, wait-store-first, fence-before-first, fence-after-first, exit-first}
+use Rattle.rules.proofs.ByForm.{movRules, mov32-first, mov64-first, alloc-legal, wait-load-first, wait-store-first, fence-before-first, fence-after-first, exit-first}
 use Rattle.statement.specs.Cells.{counted}
 use Rattle.rules.specs.Sheet.{statement, effect, given, requested, released, moved, startList}
 use Rattle.search.proofs.NameLaws.{same-true}
 use Rattle.ledger.specs.declared.Ledger.{Ledger}
 use Rattle.ledger.specs.declared.Booked.{Booked}
 use Rattle.ledger.specs.declared.Span.{Span}
-use Rattle.ledger.specs.Booking.{slot, releaseRules, relinquishRules, withoutAllocation, afterRelinquish, allocOf, releaseOf, relinquishOf, findIn, findOf}
+use Rattle.ledger.specs.Booking.{slot, releaseRules, relinquishRules, withoutAllocation, afterRelinquish, allocOf, releaseOf, relinquishOf, findIn}
 use Rattle.ledger.specs.Shows as ledger
 use Rattle.ledger.proofs.BookingLaws.{legal-range}
+use Rattle.ledger.proofs.SlotLaws.{finds}
 use Rattle.ledger.proofs.ShowLaws as ledger-laws
 use Rattle.bindings.specs.declared.Bindings.{Bindings}
-use Rattle.bindings.specs.declared.Bound.{Bound}
 use Rattle.bindings.specs.declared.Value.{Value}
-use Rattle.bindings.specs.Table.{entryOf, written, bindOf, valueIn}
+use Rattle.bindings.specs.Table.{entryOf, written, valueIn}
 use Rattle.bindings.specs.Shows as bindings
-use Rattle.bindings.proofs.EntryLaws.{bind-here, bind-full}
 use Rattle.bindings.proofs.ShowLaws as bindings-laws
 use Rattle.checks.specs.Tables.{table}
 use Rattle.checks.specs.Checks.{AccessJudged, MmaJudged}
@@ -149,7 +148,7 @@ unfolding effect given requested released
 exit-by a status held w true e s k = record {
   reasons = exit-reason s held w true e;
   keeps = λ y. record {
-    tables = record { slots = k .tables .slots; values = k .tables .values; narrow = k .tables .narrow };
+    tables = record { slots = k .tables .slots; values = k .tables .values };
     warp = k .warp;
     relinquished = k .relinquished;
     exited = refl;
@@ -262,7 +261,6 @@ module _ (a : Arrays) (status : Status) (s : State) (k : Kept a status s) where
           tables = record {
             slots = f z .slots;
             values = subst (λ (v : List Binding). bindings.Shows (table (a .valueHi) (a .valueLo) (a .numbers) (a .widths)) v) (sym g) (k .tables .values);
-            narrow = subst (λ (v : List Binding). (n : Name) → widthOf n v ≡ 32 → numberOf n v < 2 ^ 32) (sym g) (k .tables .narrow);
           };
           warp = f z .warp;
           relinquished = f z .relinquished;
@@ -380,136 +378,79 @@ alloc-6 held w a status n x v g z r p =
     (alloc-taken a status held w n x (λ e. z (ap (λ (y : Value). y .width) g ∙ e)))
 
 -- ---- mov
--- after a binding a name has what it had, or what was bound
-module _ (b : Binding) (m : Name) where
-  abbrev Has : List Binding → List Binding → Type 0
-  Has next l =
-      ((widthOf m next ≡ widthOf m l) × (numberOf m next ≡ numberOf m l))
-      ⊎ ((widthOf m next ≡ b .width) × (numberOf m next ≡ b .number))
+-- the reason of a mov of a name at either width
+abbrev movReason : State → Name → ℕ
+movReason s n = firstBroken (movRules s n)
 
-  first : (c : Binding) (l : List Binding) (t : Bool) → sameName (b .name) m ≡ t → (t ≡ false → sameName (c .name) m ≡ false) → Has (b ∷ l) (c ∷ l)
-  unfolding widthOf numberOf
-  first c l true e f = inr (rw e, rw e)
-  first c l false e f = inl (rw (e, f refl), rw (e, f refl))
+-- what either gives, by that reason, for any width and number
+abbrev MovGives : Name → (width number : ℕ) → Arrays → Status → Step → Arrays → Type 0
+MovGives n width v a status r after = (s : State) → Kept a status s → Gives (movReason s n) (moved s n width v) [] 0 0 a status r after
 
-  later : (c : Binding) (next l : List Binding) (t : Bool) → sameName (c .name) m ≡ t → Has next l → Has (c ∷ next) (c ∷ l)
-  unfolding widthOf numberOf
-  later c next l true e h = inl (rw e, rw e)
-  later c next l false e (inl h) = inl (rw (e, h .0), rw (e, h .1))
-  later c next l false e (inr h) = inr (rw (e, h .0), rw (e, h .1))
-
-  alone : (t : Bool) → sameName (b .name) m ≡ t → Has (b ∷ []) []
-  unfolding widthOf numberOf
-  alone true e = inr (rw e, rw e)
-  alone false e = inl (rw e, rw e)
-
-  has : (l : List Binding) → Has (bind b l) l
-  unfolding bind
-  has [] = alone (sameName (b .name) m) refl
-  has (c ∷ l) = at (sameName (c .name) (b .name)) refl (has l)
-    where
-      at : (t : Bool) → sameName (c .name) (b .name) ≡ t → Has (bind b l) l → Has (cond t (b ∷ l) (c ∷ bind b l)) (c ∷ l)
-      at true e h = first c l (sameName (b .name) m) refl (λ z. ap (λ (x : Name). sameName x m) (same-true (c .name) (b .name) e) ∙ z)
-      at false e h = later c (bind b l) l (sameName (c .name) m) refl h
-
-narrow-if : (b : Binding) (m : Name) (next l : List Binding) → (b .width ≡ 32 → b .number < 2 ^ 32) → (widthOf m l ≡ 32 → numberOf m l < 2 ^ 32)
-    → Has b m next l → widthOf m next ≡ 32 → numberOf m next < 2 ^ 32
-narrow-if b m next l f g (inl h) e = subst (λ (x : ℕ). x < 2 ^ 32) (sym (h .1)) (g (sym (h .0) ∙ e))
-narrow-if b m next l f g (inr h) e = subst (λ (x : ℕ). x < 2 ^ 32) (sym (h .1)) (f (sym (h .0) ∙ e))
-
-narrow-next : (b : Binding) (l : List Binding) → (b .width ≡ 32 → b .number < 2 ^ 32) → ((m : Name) → widthOf m l ≡ 32 → numberOf m l < 2 ^ 32)
-    → (m : Name) → widthOf m (bind b l) ≡ 32 → numberOf m (bind b l) < 2 ^ 32
-narrow-next b l f g m = narrow-if b m (bind b l) l f (g m) (has b m l)
+mov-done : (n : Name) (width v : ℕ) (a : Arrays) (status : Status) (r : Step) (after : Arrays)
+    → (0 < width → (width ≡ 32 → v < 2 ^ 32) → MovGives n width v a status r after) → MovDone n width v a status r after
+unfolding effect given requested released
+mov-done n width v a status r after f = record {
+  at32 = λ held w e g s k.
+      subst (λ (R : ℕ). Gives R (moved s n 32 v) [] 0 0 a status r after) (sym (mov32-first lowest s held w n v))
+      (subst (λ (x : ℕ). Gives (movReason s n) (moved s n x v) [] 0 0 a status r after) e (f (omega (arith, e)) (λ y. g) s k));
+  at64 = λ held w e s k.
+      subst (λ (R : ℕ). Gives R (moved s n 64 v) [] 0 0 a status r after) (sym (mov64-first lowest s held w n v))
+      (subst (λ (x : ℕ). Gives (movReason s n) (moved s n x v) [] 0 0 a status r after) e (f (omega (arith, e)) (λ y. absurd (omega (arith, e, y))) s k));
+}
 
 module _ (a : Arrays) (status : Status) (n : Name) (taken : Span) (e : taken ≡ findIn (a .hi) (a .lo) (a .columns) n) where
   abbrev values : Bindings
   values = table (a .valueHi) (a .valueLo) (a .numbers) (a .widths)
 
-  is-live : (taken .columns ≡ 0 → ⊥) → (s : State) → Kept a status s → isLive n (s .live) ≡ true
-  is-live z s k =
-      sym (tells a status s k .live n) ∙ ap not (ne-eqb (findOf (kept a status) n .columns) 0 (λ y. z (ap (λ (x : Span). x .columns) e ∙ y)))
-
-  not-live : taken .columns ≡ 0 → (s : State) → Kept a status s → isLive n (s .live) ≡ false
-  not-live z s k =
-      sym (tells a status s k .live n) ∙ ap not (eq-eqb (findOf (kept a status) n .columns) 0 (ap (λ (x : Span). x .columns) (sym e) ∙ z))
-
-  -- the reason, by whether the name is live
-  reason32 : (b : Bool) (held w v : ℕ) (s : State) → Kept a status s → isLive n (s .live) ≡ b
-      → firstBroken (openRules lowest s held w (Mov32 n v)) ≡ cond b 6 (bindOf values n 32 v .reason)
-  reason32 b held w v s k y = value-tells a status s k .bind32 n held w v ∙ ap (λ (x : Bool). cond x 6 (bindOf values n 32 v .reason)) y
-
-  reason64 : (b : Bool) (held w v : ℕ) (s : State) → Kept a status s → isLive n (s .live) ≡ b
-      → firstBroken (openRules lowest s held w (Mov64 n v)) ≡ cond b 6 (bindOf values n 64 v .reason)
-  reason64 b held w v s k y = value-tells a status s k .bind64 n held w v ∙ ap (λ (x : Bool). cond x 6 (bindOf values n 64 v .reason)) y
+  -- the name is live where an allocation was found
+  live-is : (s : State) → Kept a status s → isLive n (s .live) ≡ not (eqb (taken .columns) 0)
+  live-is s k = sym (finds (a .hi) (a .lo) (a .columns) (s .live) (k .tables .slots) .live n) ∙ ap (λ (x : Span). not (eqb (x .columns) 0)) (sym e)
 
   pub mov-6 : (width v : ℕ) → (taken .columns ≡ 0 → ⊥) → (r : Step) → r ≡ only status 6 → MovDone n width v a status r a
-  mov-6 width v z r p = subst (λ (x : Step). MovDone n width v a status x a) (sym p) (record {
-    at32 = λ held w f g s k. refused-gives a status _ 6 _ _ _ _ (sym (reason32 true held w v s k (is-live z s k))) (λ y. absurd (omega (arith, y)));
-    at64 = λ held w f s k. refused-gives a status _ 6 _ _ _ _ (sym (reason64 true held w v s k (is-live z s k))) (λ y. absurd (omega (arith, y)));
-  })
+  mov-6 width v z r p = subst (λ (x : Step). MovDone n width v a status x a) (sym p) (mov-done n width v a status (only status 6) a (λ c f s k.
+      refused-gives a status (movReason s n) 6 _ _ _ _ (sym (rw (live-is s k, ne-eqb (taken .columns) 0 z))) (λ y. absurd (omega (arith, y)))))
 
   module _ (z : taken .columns ≡ 0) (i : ℕ) (f : i ≡ entryOf (a .valueHi) (a .valueLo) (a .widths) n) where
-    full : (width v : ℕ) → 128 ≤ i → bindOf values n width v .reason ≡ 7
-    full width v h = ap (λ (x : Bound). x .reason) (sym (bind-full values n width v i f h))
+    -- then room for it decides
+    reason-is : (s : State) → Kept a status s → movReason s n ≡ cond (ltb i 128) 0 7
+    reason-is s k =
+        rw (live-is s k, eq-eqb (taken .columns) 0 z)
+        (ap (λ (b : Bool). cond b 0 7) (value-tells a status s k .room n ∙ ap (λ (j : ℕ). ltb j 128) (sym f)))
 
     pub mov-7 : (width v : ℕ) → 128 ≤ i → (r : Step) → r ≡ only status 7 → MovDone n width v a status r a
-    mov-7 width v h r p = subst (λ (x : Step). MovDone n width v a status x a) (sym p) (record {
-      at32 = λ held w g j s k. refused-gives a status _ 7 _ _ _ _ (sym (reason32 false held w v s k (not-live z s k) ∙ full 32 v h)) (λ y. absurd (omega (arith, y)));
-      at64 = λ held w g s k. refused-gives a status _ 7 _ _ _ _ (sym (reason64 false held w v s k (not-live z s k) ∙ full 64 v h)) (λ y. absurd (omega (arith, y)));
-    })
+    mov-7 width v h r p = subst (λ (x : Step). MovDone n width v a status x a) (sym p) (mov-done n width v a status (only status 7) a (λ c g s k.
+        refused-gives a status (movReason s n) 7 _ _ _ _ (sym (reason-is s k ∙ rw (le-ltb i 128 h))) (λ y. absurd (omega (arith, y)))))
 
     module _ (h : i < 128) (v : ℕ) where
       abbrev next : ℕ → Arrays
       next width =
           arrays (a .hi) (a .lo) (a .columns) (set (a .valueHi) i (n .hi)) (set (a .valueLo) i (n .lo)) (set (a .numbers) i v) (set (a .widths) i width)
 
-      here : (width : ℕ) → record { next = written values i n width v; reason = 0 } ≡ bindOf values n width v
-      here width = bind-here values n width v i f h
-
-      accepted : (width : ℕ) → bindOf values n width v .reason ≡ 0
-      accepted width = ap (λ (x : Bound). x .reason) (sym (here width))
-
       -- what is kept afterwards
-      kept-next : (width : ℕ) (s : State) → Kept a status s → (width ≡ 32 → v < 2 ^ 32)
-          → bindings.Shows (bindOf values n width v .next) (bind (record { name = n; width = width; number = v }) (s .values))
-          → Kept (next width) status (moved s n width v)
-      kept-next width s k g j = record {
+      kept-next : (width : ℕ) → 0 < width → (width ≡ 32 → v < 2 ^ 32) → (s : State) → Kept a status s → Kept (next width) status (moved s n width v)
+      kept-next width c g s k = record {
         tables = record {
           slots = k .tables .slots;
-          values = subst (λ (x : Bound). bindings.Shows (x .next) (bind (record { name = n; width = width; number = v }) (s .values))) (sym (here width)) j;
-          narrow = narrow-next (record { name = n; width = width; number = v }) (s .values) g (k .tables .narrow);
+          values = subst (λ (j : ℕ). bindings.Shows (written values j n width v) (bind (record { name = n; width = width; number = v }) (s .values))) (sym f)
+              (value-tells a status s k .binds n width v c g (omega (arith, f, h)));
         };
         warp = k .warp;
         relinquished = k .relinquished;
         exited = k .exited;
       }
 
-      moved-gives : (width R : ℕ) (s : State) → R ≡ 0 → Kept (next width) status (moved s n width v)
-          → Gives R (moved s n width v) [] 0 0 a status (only status 0) (next width)
-      moved-gives width R s y j = record {
-        reasons = sym y;
-        keeps = λ x. j;
+      moved-gives : (width : ℕ) → 0 < width → (width ≡ 32 → v < 2 ^ 32) → MovGives n width v a status (only status 0) (next width)
+      moved-gives width c g s k = record {
+        reasons = sym (reason-is s k ∙ rw (lt-ltb i 128 h));
+        keeps = λ x. kept-next width c g s k;
         starting = λ x. refl;
         asks = λ x. refl;
         returns = λ x. refl;
-        no-start = λ x g. refl;
+        no-start = λ x y. refl;
         unchanged = λ x. absurd (x refl);
       }
 
-      done32 : v < 2 ^ 32 → (held w : ℕ) → OpenDone held w (Mov32 n v) a status (only status 0) (next 32)
-      unfolding effect given requested released
-      done32 g held w s k =
-          moved-gives 32 (firstBroken (openRules lowest s held w (Mov32 n v))) s (reason32 false held w v s k (not-live z s k) ∙ accepted 32)
-          (kept-next 32 s k (λ y. g) (value-tells a status s k .bound32 n w v (accepted 32)))
-
-      done64 : (held w : ℕ) → OpenDone held w (Mov64 n v) a status (only status 0) (next 64)
-      unfolding effect given requested released
-      done64 held w s k =
-          moved-gives 64 (firstBroken (openRules lowest s held w (Mov64 n v))) s (reason64 false held w v s k (not-live z s k) ∙ accepted 64)
-          (kept-next 64 s k (λ y. absurd (omega (arith, y))) (value-tells a status s k .bound64 n w v (accepted 64)))
-
       pub mov-0 : (width : ℕ) (r : Step) → r ≡ only status 0 → MovDone n width v a status r (next width)
-      mov-0 width r p = subst (λ (x : Step). MovDone n width v a status x (next width)) (sym p) (record {
-        at32 = λ held w g j. subst (λ (x : ℕ). OpenDone held w (Mov32 n v) a status (only status 0) (next x)) (sym g) (done32 j held w);
-        at64 = λ held w g. subst (λ (x : ℕ). OpenDone held w (Mov64 n v) a status (only status 0) (next x)) (sym g) (done64 held w);
-      })
+      mov-0 width r p =
+          subst (λ (x : Step). MovDone n width v a status x (next width)) (sym p)
+          (mov-done n width v a status (only status 0) (next width) (moved-gives width))

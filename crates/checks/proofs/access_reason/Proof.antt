@@ -26,7 +26,11 @@ is-lane-requires : tie.Need-is-lane-requires
 is-lane-requires c κs = search needs
 
 returns-3 : tie.Need-returns-3
-returns-3 c s held h = access-8 s held _ _ _ _ _ h _ (c .before .before .before .before .before .find-in .ensures) (sym (c .before .before .before .before .before .before .before .before .before .is-miscounted .ensures) ∙ c .before .before .before .before .before .before .before .before .if1 .left) (ne-eqb _ _ (c .before .before .before .if2 .left)) _ _ (c .before .before .lanes .ensures) (c .before .is-lane .ensures) (not-true _ (c .if3 .taken))
+returns-3 c s held h =
+    let f = c .before .before .before .before .before in
+    access-8 s held _ _ _ _ _ h _ (f .find-in .ensures)
+    (sym (f .before .before .before .before .is-miscounted .ensures) ∙ f .before .before .before .if1 .left) (ne-eqb _ _ (c .before .before .before .if2 .left))
+    _ _ (c .before .before .lanes .ensures) (c .before .is-lane .ensures) (not-true _ (c .if3 .taken))
 
 columns-needed-requires : tie.Need-columns-needed-requires
 columns-needed-requires c κs = search needs
@@ -35,10 +39,22 @@ ends-within-requires : tie.Need-ends-within-requires
 ends-within-requires c κs = search needs
 
 returns-4 : tie.Need-returns-4
-returns-4 c s held h = access-end s held _ _ _ _ _ h _ (c .before .before .before .before .before .before .before .before .find-in .ensures) (sym (c .before .before .before .before .before .before .before .before .before .before .before .before .is-miscounted .ensures) ∙ c .before .before .before .before .before .before .before .before .before .before .before .if1 .left) (ne-eqb _ _ (c .before .before .before .before .before .before .if2 .left)) _ _ (c .before .before .before .before .before .lanes .ensures) (c .before .before .before .before .is-lane .ensures) _ _ (not-false _ (c .before .before .before .if3 .left)) (c .before .before .columns-needed .ensures) (c .before .ends-within .ensures) true (c .if4 .taken)
+returns-4 c s held h =
+    let l = c .before .before .before in
+    let f = l .before .before .before .before .before in
+    access-end s held _ _ _ _ _ h _ (f .find-in .ensures)
+    (sym (f .before .before .before .before .is-miscounted .ensures) ∙ f .before .before .before .if1 .left) (ne-eqb _ _ (l .before .before .before .if2 .left))
+    _ _ (l .before .before .lanes .ensures) (l .before .is-lane .ensures)
+    _ _ (not-false _ (l .if3 .left)) (c .before .before .columns-needed .ensures) (c .before .ends-within .ensures) true (c .if4 .taken)
 
 returns-5 : tie.Need-returns-5
-returns-5 c s held h = access-end s held _ _ _ _ _ h _ (c .before .before .before .before .before .before .before .before .find-in .ensures) (sym (c .before .before .before .before .before .before .before .before .before .before .before .before .is-miscounted .ensures) ∙ c .before .before .before .before .before .before .before .before .before .before .before .if1 .left) (ne-eqb _ _ (c .before .before .before .before .before .before .if2 .left)) _ _ (c .before .before .before .before .before .lanes .ensures) (c .before .before .before .before .is-lane .ensures) _ _ (not-false _ (c .before .before .before .if3 .left)) (c .before .before .columns-needed .ensures) (c .before .ends-within .ensures) false (c .if4 .left)
+returns-5 c s held h =
+    let l = c .before .before .before in
+    let f = l .before .before .before .before .before in
+    access-end s held _ _ _ _ _ h _ (f .find-in .ensures)
+    (sym (f .before .before .before .before .is-miscounted .ensures) ∙ f .before .before .before .if1 .left) (ne-eqb _ _ (l .before .before .before .if2 .left))
+    _ _ (l .before .before .lanes .ensures) (l .before .is-lane .ensures)
+    _ _ (not-false _ (l .if3 .left)) (c .before .before .columns-needed .ensures) (c .before .ends-within .ensures) false (c .if4 .left)
 
 pub access-reason-spec : {M : Type 1} → statement M
 access-reason-spec =

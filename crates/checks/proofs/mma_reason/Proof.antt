@@ -7,14 +7,14 @@ use Rattle.checks.proofs.mma_reason.Tie as tie
 find-in-requires : tie.Need-find-in-requires
 find-in-requires c κs = search needs
 
-operand-asked-requires : tie.Need-operand-asked-requires
-operand-asked-requires c κs = search needs
+operand-tested-requires : tie.Need-operand-tested-requires
+operand-tested-requires c κs = search needs
 
-descriptor-asked-requires : tie.Need-descriptor-asked-requires
-descriptor-asked-requires c κs = search needs
+descriptor-tested-requires : tie.Need-descriptor-tested-requires
+descriptor-tested-requires c κs = search needs
 
-metadata-asked-requires : tie.Need-metadata-asked-requires
-metadata-asked-requires c κs = search needs
+metadata-tested-requires : tie.Need-metadata-tested-requires
+metadata-tested-requires c κs = search needs
 
 lookup-in-requires : tie.Need-lookup-in-requires
 lookup-in-requires c κs = search needs
@@ -25,16 +25,16 @@ operands-reason-requires c κs = search needs
 returns : tie.Need-returns
 returns c s held w h =
     c .operands-reason .ensures s held w
-    (operands s _ _ _ _ _ _ _ h (c .before .before .before .before .before .before .before .args .m) _ (c .before .before .before .before .before .find-in .ensures) _ (c .before .before .before .before .operand-asked .ensures s h) _ (c .before .before .before .descriptor-asked .ensures s (h .values)) _ (c .before .before .metadata-asked .ensures s (h .slots)) _ (c .before .lookup-in .ensures))
+    (operands s _ _ _ _ _ _ _ h (c .before .before .before .before .before .before .before .args .m) _ (c .before .before .before .before .before .find-in .ensures) _ (c .before .before .before .before .operand-tested .ensures s h) _ (c .before .before .before .descriptor-tested .ensures s (h .values)) _ (c .before .before .metadata-tested .ensures s (h .slots)) _ (c .before .lookup-in .ensures))
 
 pub mma-reason-spec : {M : Type 1} → statement M
 mma-reason-spec =
     tie.close
     (tie.spec
     find-in-requires
-    operand-asked-requires
-    descriptor-asked-requires
-    metadata-asked-requires
+    operand-tested-requires
+    descriptor-tested-requires
+    metadata-tested-requires
     lookup-in-requires
     operands-reason-requires
     returns)

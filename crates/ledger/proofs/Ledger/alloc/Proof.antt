@@ -32,28 +32,51 @@ refused-requires-3 : tie.Need-refused-requires-3
 refused-requires-3 c κs = search needs
 
 returns-3 : tie.Need-returns-3
-returns-3 c = c .refused3 .ensures ∙ alloc-9 _ _ _ _ _ (c .before .before .before .before .before .before .slot-of .ensures) (c .before .before .before .before .before .if1 .left) _ (c .before .before .before .before .is-allowed .ensures) (c .before .before .before .if2 .left) _ (c .before .before .reason .ensures) (c .before .if3 .taken)
+returns-3 c =
+    let a = c .before .before .before .before in
+    c .refused3 .ensures
+    ∙ alloc-9 _ _ _ _ _ (a .before .before .slot-of .ensures) (a .before .if1 .left) _ (a .is-allowed .ensures) (c .before .before .before .if2 .left)
+    _ (c .before .before .reason .ensures) (c .before .if3 .taken)
 
 refused-requires-4 : tie.Need-refused-requires-4
 refused-requires-4 c κs = search needs
 
 returns-4 : tie.Need-returns-4
-returns-4 c = c .refused4 .ensures ∙ alloc-10 _ _ _ _ _ (c .before .before .before .before .before .before .before .slot-of .ensures) (c .before .before .before .before .before .before .if1 .left) _ (c .before .before .before .before .before .is-allowed .ensures) (c .before .before .before .before .if2 .left) _ (c .before .before .before .reason .ensures) (c .before .before .if3 .left) (c .before .if4 .taken)
+returns-4 c =
+    let r = c .before .before .before in
+    let a = r .before .before in
+    c .refused4 .ensures
+    ∙ alloc-10 _ _ _ _ _ (a .before .before .slot-of .ensures) (a .before .if1 .left) _ (a .is-allowed .ensures) (r .before .if2 .left)
+    _ (r .reason .ensures) (c .before .before .if3 .left) (c .before .if4 .taken)
 
 place-for-requires : tie.Need-place-for-requires
-place-for-requires c κs = let r = request-range (c .before .before .before .before .before .before .before .before .before .before .before .before .before .args .requested) _ (c .before .before .before .before .reason .ensures) (c .before .before .before .if3 .left) in (omega (arith, r .0), r .1)
+place-for-requires c κs =
+    let i = c .before .before .before in
+    let e = i .before .before .before .before .before .before .before .before .before .before in
+    let r = request-range (e .args .requested) _ (i .before .reason .ensures) (i .if3 .left) in
+    (omega (arith, r .0), r .1)
 
 refused-requires-5 : tie.Need-refused-requires-5
 refused-requires-5 c κs = search needs
 
 returns-5 : tie.Need-returns-5
-returns-5 c = c .refused5 .ensures ∙ alloc-11 _ _ _ _ _ (c .before .before .before .before .before .before .before .before .before .before .before .slot-of .ensures) (c .before .before .before .before .before .before .before .before .before .before .if1 .left) _ (c .before .before .before .before .before .before .before .before .before .is-allowed .ensures) (c .before .before .before .before .before .before .before .before .if2 .left) _ (c .before .before .before .before .before .before .before .reason .ensures) (c .before .before .before .before .before .before .if3 .left) (c .before .before .before .before .before .if4 .left) _ (c .before .before .place-for .ensures) (c .before .if5 .taken)
+returns-5 c =
+    let p = c .before .before in
+    let r = p .before .before .before .before .before in
+    let a = r .before .before in
+    c .refused5 .ensures
+    ∙ alloc-11 _ _ _ _ _ (a .before .before .slot-of .ensures) (a .before .if1 .left) _ (a .is-allowed .ensures) (r .before .if2 .left)
+    _ (r .reason .ensures) (p .before .before .before .before .if3 .left) (p .before .before .before .if4 .left) _ (p .place-for .ensures) (c .before .if5 .taken)
 
 cast-i : tie.Need-cast-i
 cast-i c = search needs
 
 cast-columns : tie.Need-cast-columns
-cast-columns c = let r = request-range (c .before .before .before .before .before .before .before .before .before .before .before .before .before .before .before .args .requested) _ (c .before .before .before .before .before .before .reason .ensures) (c .before .before .before .before .before .if3 .left) in omega (arith, r .1)
+cast-columns c =
+    let i = c .before .before .before .before .before in
+    let e = i .before .before .before .before .before .before .before .before .before .before in
+    let r = request-range (e .args .requested) _ (i .before .reason .ensures) (i .if3 .left) in
+    omega (arith, r .1)
 
 mul-self : tie.Need-mul-self
 mul-self c = search needs
@@ -77,7 +100,12 @@ mul-start : tie.Need-mul-start
 mul-start c = search needs
 
 returns-6 : tie.Need-returns-6
-returns-6 c = alloc-0 _ _ _ _ _ (c .before .before .before .before .before .before .before .before .before .before .slot-of .ensures) (c .before .before .before .before .before .before .before .before .before .if1 .left) _ (c .before .before .before .before .before .before .before .before .is-allowed .ensures) (c .before .before .before .before .before .before .before .if2 .left) _ (c .before .before .before .before .before .before .reason .ensures) (c .before .before .before .before .before .if3 .left) (c .before .before .before .before .if4 .left) _ (c .before .place-for .ensures) (c .if5 .left)
+returns-6 c =
+    let p = c .before in
+    let r = p .before .before .before .before .before in
+    let a = r .before .before in
+    alloc-0 _ _ _ _ _ (a .before .before .slot-of .ensures) (a .before .if1 .left) _ (a .is-allowed .ensures) (r .before .if2 .left)
+    _ (r .reason .ensures) (p .before .before .before .before .if3 .left) (p .before .before .before .if4 .left) _ (p .place-for .ensures) (c .if5 .left)
 
 pub alloc-spec : {M : Type 1} → statement M
 alloc-spec =

@@ -36,7 +36,11 @@ refused-requires-3 : tie.Need-refused-requires-3
 refused-requires-3 c κs = search needs
 
 returns-3 : tie.Need-returns-3
-returns-3 c = c .refused3 .ensures ∙ release-9 _ _ _ _ _ (c .before .before .before .before .before .before .before .slot-of .ensures) (c .before .before .before .before .before .before .if1 .left) _ (c .before .before .before .before .before .is-allowed .ensures) (c .before .before .before .before .if2 .left) _ (c .before .before .wide .ensures .0) (c .before .if3 .taken)
+returns-3 c =
+    let a = c .before .before .before .before .before in
+    c .refused3 .ensures
+    ∙ release-9 _ _ _ _ _ (a .before .before .slot-of .ensures) (a .before .if1 .left) _ (a .is-allowed .ensures) (c .before .before .before .before .if2 .left)
+    _ (c .before .before .wide .ensures .0) (c .before .if3 .taken)
 
 mul-self : tie.Need-mul-self
 mul-self c = search needs
@@ -45,7 +49,10 @@ element-write-self : tie.Need-element-write-self
 element-write-self c = search needs
 
 returns-4 : tie.Need-returns-4
-returns-4 c = release-0 _ _ _ _ _ (c .before .before .before .before .before .before .slot-of .ensures) (c .before .before .before .before .before .if1 .left) _ (c .before .before .before .before .is-allowed .ensures) (c .before .before .before .if2 .left) _ (c .before .wide .ensures .0) (c .if3 .left)
+returns-4 c =
+    let a = c .before .before .before .before in
+    release-0 _ _ _ _ _ (a .before .before .slot-of .ensures) (a .before .if1 .left) _ (a .is-allowed .ensures) (c .before .before .before .if2 .left)
+    _ (c .before .wide .ensures .0) (c .if3 .left)
 
 pub release-spec : {M : Type 1} → statement M
 release-spec =
