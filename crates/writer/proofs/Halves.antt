@@ -14,7 +14,7 @@ use Rattle.tokens.specs.Bytes.{pick, letter, wordByte, all}
 use Rattle.tokens.specs.Names.{sigil, isName, byteDigits, packed, lowBytes, strip, nameBytes, nameGiven}
 use Rattle.writer.specs.Outputs.{Out, outSeen, addC, halvesGiven}
 use Rattle.writer.proofs.Laws.{and-assoc, refused, join}
-use Rattle.writer.proofs.Digits.{power, short, q256, r256, less256, bytes-law}
+use Rattle.writer.proofs.Digits.{power, short, q256, r256, less256, bytes-law, tail}
 
 and-comm : (a b : Bool) → (a && b) ≡ (b && a)
 and-comm true true = refl
@@ -151,16 +151,25 @@ given-law n a b =
     let e : Same x y (n .hi) (n .lo) ≡ (eqb (length x) 8 || eqb (length y) 0) = same x y (n .hi) (n .lo) (half-length (n .hi) a) (half-value (n .hi) a) (half-value (n .lo) b) (led (lowBytes 8 (n .lo))) in
     rw e (and-comm (isName (x ++ y)) (eqb (length x) 8 || eqb (length y) 0))
 
--- ---- `name`
-module _ (n : Name) (x y : List ℕ) (b : Bool) (ex : x ≡ strip (lowBytes 8 (n .hi))) (ey : y ≡ strip (lowBytes 8 (n .lo))) (eb : b ≡ halvesGiven x y) (hi : n .hi < 2 ^ 64) (lo : n .lo < 2 ^ 64) where
-  name-by : nameGiven n ≡ b
-  name-by = given-law n hi lo ∙ sym (eb ∙ ap (λ l. halvesGiven l y) ex ∙ ap (halvesGiven (strip (lowBytes 8 (n .hi)))) ey)
+-- ---- `name`: h from a on and l from b on are the two halves
+module _ (n : Name) (h l : List ℕ) (a b : ℕ) (ok : Bool) (eh : drop a h ≡ strip (lowBytes 8 (n .hi))) (el : drop b l ≡ strip (lowBytes 8 (n .lo))) (is : ok ≡ halvesGiven (drop a h) (drop b l)) (hi : n .hi < 2 ^ 64) (lo : n .lo < 2 ^ 64) where
+  name-by : nameGiven n ≡ ok
+  name-by = rw (is, eh, el) (given-law n hi lo)
 
   -- a name that is not such as reading gives
-  pub name-none : (t : List ℕ) (at : ℕ) → b ≡ false → outSeen t 2561 ≡ addC (nameBytes n) (nameGiven n) (outSeen t at)
+  pub name-none : (t : List ℕ) (at : ℕ) → ok ≡ false → outSeen t 2561 ≡ addC (nameBytes n) (nameGiven n) (outSeen t at)
   name-none t at e = rw (name-by, e) (refused t (nameBytes n) at)
 
-  -- one half after the other
-  pub name-some : (o u r : Out) → b ≡ true → u ≡ addC x true o → r ≡ addC y true u → r ≡ addC (nameBytes n) (nameGiven n) o
-  unfolding nameBytes
-  name-some o u r e p q = rw (name-by, e, q, p, join x y true true o, ex, ey)
+  module _ (ah : length h ≡ 8) (al : length l ≡ 8) (o u : Out) (e : ok ≡ true) (p : u ≡ addC (take (8 - a) (drop a h)) true o) where
+    -- one half after the other
+    pub name-some : (r : Out) → r ≡ addC (take (8 - b) (drop b l)) true u → r ≡ addC (nameBytes n) (nameGiven n) o
+    unfolding nameBytes
+    name-some r q = rw (name-by, e, q, p, tail h 8 a ah, tail l 8 b al, eh, el, join)
+
+    -- the first alone, where the second is empty
+    pub name-short : 8 ≤ b → u ≡ addC (nameBytes n) (nameGiven n) o
+    unfolding nameBytes
+    name-short g =
+        let f : length l ≤ b = omega arith in
+        let z : strip (lowBytes 8 (n .lo)) ≡ [] = sym el ∙ drop-of-length-le l f in
+        rw (name-by, e, p, tail h 8 a ah, eh, z, append-nil)

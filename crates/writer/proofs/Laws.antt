@@ -4,7 +4,7 @@ use native.Mathlib.Omega.{arith}
 use native.Mathlib.Numerals.{add-one}
 use native.Mathlib.Nat.{add-suc}
 use mathlib.Core.Path.{_≡_, refl, sym, _∙_}
-use mathlib.Core.List.{List, [], _++_, append-assoc, append-nil}
+use mathlib.Core.List.{List, [], _∷_, _++_, append-assoc, append-nil}
 use mathlib.Core.Bool.{Bool, true, false, _&&_}
 use mathlib.Core.Logic.{_⊎_, inl, inr, ⊎-elim}
 use lib.ListN.{length, getD, take, drop, set, length-append, drop-of-length-le}
@@ -102,10 +102,6 @@ add-nothing t at = ⊎-elim in-room other (shows t at)
     in-room h =
         let k : length (take at t) + 0 ≤ 2560 = omega (arith, length-take-le at t (omega arith)) in
         rw (seen-wrote t at (h .0) (h .1), add-fits [] (take at t) (drop at t) k, append-nil)
-
--- nor by what is left of a list after its end
-pub add-end : (t l : List ℕ) (at i : ℕ) → length l ≤ i → outSeen t at ≡ addC (drop i l) true (outSeen t at)
-add-end t l at i h = rw (drop-of-length-le l h) (add-nothing t at)
 
 -- what is not given is refused
 pub refused : (t w : List ℕ) (at : ℕ) → outSeen t 2561 ≡ addC w false (outSeen t at)

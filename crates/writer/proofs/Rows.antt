@@ -14,7 +14,7 @@ use Rattle.tokens.specs.Numbers.{decimal}
 use Rattle.statement.specs.Forms.{Slot, Values, max32}
 use Rattle.statement.specs.Reading.{paired}
 use Rattle.statement.specs.Canonical.{slotText, slotGiven, moreRowText, rowText, rowGiven, offsetText, moreNamesText, namesText, allNames}
-use Rattle.writer.specs.Outputs.{Out, outSeen, addC, moreC}
+use Rattle.writer.specs.Outputs.{Out, outSeen, addC, firsts, namesGiven, pairText, moreC}
 use Rattle.writer.proofs.Laws.{join, and-true, and-false, and-assoc, and-swap, add-nothing}
 
 -- commas, operands and the semicolon
@@ -49,9 +49,6 @@ offset-some v o h = rw (ne-eqb v 0 h, join)
 abbrev nameAt : List ℕ → List ℕ → ℕ → Name
 nameAt a b i = record { hi = getD a i 0; lo = getD b i 0 }
 
-abbrev pub firsts : List ℕ → List ℕ → ℕ → List Name
-firsts a b n = paired (take n a) (take n b)
-
 firsts-drop : (a b : List ℕ) (n i : ℕ) → i < n → n ≤ length a → n ≤ length b → drop i (firsts a b n) ≡ nameAt a b i ∷ drop (suc i) (firsts a b n)
 firsts-drop a b zero i h p q = absurd (omega arith)
 firsts-drop [] b (suc n) i h p q = absurd (omega arith)
@@ -74,10 +71,6 @@ paired-right : (a b : List ℕ) → length (paired a b) ≤ length b
 paired-right [] b = omega arith
 paired-right (x ∷ a) [] = omega arith
 paired-right (x ∷ a) (y ∷ b) = omega (arith, paired-right a b)
-
--- as many names as are asked for, and names such as reading gives
-abbrev pub namesGiven : ℕ → List Name → Bool
-namesGiven n ns = eqb n (length ns) && ((ltb 0 (length ns) && leb (length ns) 128) && allNames ns)
 
 module _ (a b : List ℕ) (n : ℕ) where
   pub names-zero : n ≡ 0 → namesGiven n (firsts a b n) ≡ false
@@ -136,17 +129,17 @@ access-law w s n o = rw (join, join, join, append-assoc, append-assoc, append-as
 pub mma-law : (a b d e f : List ℕ) (o : Out) → addC (32 ∷ []) true (addC f true (addC e true (addC d true (addC b true (addC a true o))))) ≡ addC ((a ++ (b ++ (d ++ (e ++ f)))) ++ 32 ∷ []) true o
 mma-law a b d e f o = rw (join, join, join, join, join, append-assoc, append-assoc, append-assoc, append-assoc)
 
--- two operands, after a word and a space
-pair-law : (w x y : List ℕ) (b d : Bool) (o : Out)
-    → addC (59 ∷ []) true (addC y d (addC (44 ∷ 32 ∷ []) true (addC x b (addC (w ++ 32 ∷ []) true o)))) ≡ addC (w ++ (32 ∷ (x ++ (44 ∷ 32 ∷ (y ++ 59 ∷ []))))) (b && (d && true)) o
-pair-law w x y b d o = rw (join, join, join, join, append-assoc)
+-- two operands after a word
+pub pair-law : (w x y : List ℕ) (b d : Bool) (o : Out)
+    → addC (59 ∷ []) true (addC y d (addC (44 ∷ 32 ∷ []) true (addC x b (addC w true o)))) ≡ addC (w ++ pairText x y) (b && (d && true)) o
+pair-law w x y b d o = rw (join, join, join, join)
 
 -- the names come first in a ld
 pub load-law : (w x y : List ℕ) (e b d : Bool) (o : Out)
-    → addC (59 ∷ []) true (addC y d (addC (44 ∷ 32 ∷ []) true (addC x (e && b) (addC (w ++ 32 ∷ []) true o)))) ≡ addC (w ++ (32 ∷ (x ++ (44 ∷ 32 ∷ (y ++ 59 ∷ []))))) (e && (b && (d && true))) o
-load-law w x y e b d o = rw (pair-law w x y (e && b) d o, and-assoc e b (d && true))
+    → addC (59 ∷ []) true (addC y d (addC (44 ∷ 32 ∷ []) true (addC x (e && b) (addC (w ++ 32 ∷ []) true o)))) ≡ addC (w ++ (32 ∷ pairText x y)) (e && (b && (d && true))) o
+load-law w x y e b d o = rw (pair-law (w ++ 32 ∷ []) x y (e && b) d o, append-assoc, and-assoc e b (d && true))
 
 -- and second in a st
 pub store-law : (w x y : List ℕ) (e b d : Bool) (o : Out)
-    → addC (59 ∷ []) true (addC y (e && d) (addC (44 ∷ 32 ∷ []) true (addC x b (addC (w ++ 32 ∷ []) true o)))) ≡ addC (w ++ (32 ∷ (x ++ (44 ∷ 32 ∷ (y ++ 59 ∷ []))))) (e && (b && (d && true))) o
-store-law w x y e b d o = rw (pair-law w x y b (e && d) o, and-swap b e d)
+    → addC (59 ∷ []) true (addC y (e && d) (addC (44 ∷ 32 ∷ []) true (addC x b (addC (w ++ 32 ∷ []) true o)))) ≡ addC (w ++ (32 ∷ pairText x y)) (e && (b && (d && true))) o
+store-law w x y e b d o = rw (pair-law (w ++ 32 ∷ []) x y b (e && d) o, append-assoc, and-swap b e d)

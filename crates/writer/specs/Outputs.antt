@@ -7,12 +7,14 @@ use lib.Seq.{sets}
 use lib.Dec.{leb, eqb}
 use Rattle.tokens.specs.declared.Name.{Name}
 use Rattle.tokens.specs.Bytes.{pick}
-use Rattle.tokens.specs.Names.{isName}
+use Rattle.tokens.specs.Names.{isName, nameBytes}
 use Rattle.statement.specs.declared.Statement.{Statement}
 use Rattle.statement.specs.declared.Opcode.{Opcode}
 use Rattle.statement.specs.declared.Written.{Written}
 use Rattle.statement.specs.declared.Written.the-variants.{Length, Refused}
-use Rattle.statement.specs.Forms.{word, Slot, Values, row}
+use Rattle.statement.specs.Text.{bytes}
+use Rattle.statement.specs.Forms.{word, Slot, inBrackets, names, Values, row}
+use Rattle.statement.specs.Reading.{paired}
 use Rattle.statement.specs.Canonical.{slotText, slotGiven, rowText, rowGiven, textOf, given}
 
 -- what is written so far, and what stands after it; or that a value was not such as reading gives, or that there was no room, in a buffer of that length
@@ -29,10 +31,26 @@ unfoldable pub addC : List ℕ → Bool → Out → Out
 addC w b (wrote l m) = pick (b && leb (length l + length w) 2560) (wrote (l ++ w) (drop (length w) m)) (failed 2560)
 addC w b (failed n) = failed n
 
+-- the first names that two lists hold
+abbrev pub firsts : List ℕ → List ℕ → ℕ → List Name
+firsts a b n = paired (take n a) (take n b)
+
+-- as many names as are asked for, and names such as reading gives
+abbrev pub namesGiven : ℕ → List Name → Bool
+namesGiven n ns = eqb n (length ns) && slotGiven names ns
+
 -- a comma and an operand for each slot
 abbrev pub moreC : (ks : List Slot) → Values ks → Out → Out
 moreC [] v o = o
-moreC (k ∷ ks) v o = moreC ks (v .1) (addC (slotText k (v .0)) (slotGiven k (v .0)) (addC (44 ∷ 32 ∷ []) true o))
+moreC (k ∷ ks) v o = moreC ks (v .1) (addC (slotText k (v .0)) (slotGiven k (v .0)) (addC (bytes ", ") true o))
+
+-- a name, in brackets or not
+abbrev pub namedText : Bool → Name → List ℕ
+namedText b n = pick b (slotText inBrackets n) (nameBytes n)
+
+-- two operands and the semicolon
+abbrev pub pairText : List ℕ → List ℕ → List ℕ
+pairText x y = x ++ (bytes ", " ++ (y ++ bytes ";"))
 
 -- an opcode's word and its operands; `b`: what more has to hold
 abbrev pub formC : (o : Opcode) → Values (row o) → Bool → Out → Out

@@ -9,55 +9,35 @@ use statement::Shape;
 use tokens::Name;
 ghost use mathlib.Core.Path.{_≡_};
 ghost use Prim.Native.Nat.{_≤_};
-ghost use mathlib.Core.Bool.{true, false};
+ghost use mathlib.Core.Bool.{true, false, _&&_};
 ghost use mathlib.Core.List.{[], _∷_, _++_};
 ghost use lib.ListN.{length, take};
-ghost use lib.Dec.{eqb};
+ghost use lib.Dec.{leb, eqb};
 ghost use Rattle.statement.specs.declared.Opcode.the-variants as opcode;
 ghost use Rattle.statement.specs.declared.Statement.the-variants as statement;
+ghost use Rattle.tokens.specs.Names.{nameGiven};
+ghost use Rattle.tokens.specs.Numbers.{decimal};
 ghost use Rattle.statement.specs.Text.{bytes};
 ghost use Rattle.statement.specs.Forms.{word, shapeText, numText, kindText, option, name, operand};
 ghost use Rattle.statement.specs.Canonical.{opcodeOf, mmaValues, addressText, addressGiven};
 ghost use Rattle.statement.specs.Reading.{paired};
-ghost use Rattle.writer.specs.Outputs.{outSeen, addC, moreC, formC};
+ghost use Rattle.writer.specs.Outputs.{outSeen, addC, namedText, pairText, moreC, formC};
 
-pub fn mov32(t: &mut [u8; 2560], at: usize, n: Name, v: u32) -> usize
-    ensures { λ r. ⌜ outSeen (now (t .exit)) r ≡ formC (opcode.Mov32) (n, (v, tt)) true (outSeen (now (t .entry)) at) ⌝ }
+// An opcode's word and a space, a name (in brackets or not), and a number up to a limit.
+pub fn name_number(
+    t: &mut [u8; 2560],
+    w: &[u8],
+    n: Name,
+    bracketed: bool,
+    v: u64,
+    limit: u64,
+) -> usize
+    ensures { λ r. ⌜ outSeen (now (t .exit)) r ≡ addC (now (w .entry) ++ pairText (namedText bracketed n) (decimal v)) (nameGiven n && (leb v limit && true)) (outSeen (now (t .entry)) 0) ⌝ }
 {
-    let a = crate::output::put(t, at, b"mov.b32 ");
-    let b = crate::output::name(t, a, n);
+    let a = crate::output::put(t, 0, w);
+    let b = crate::operand::named(t, a, n, bracketed);
     let c = crate::output::put(t, b, b", ");
-    let d = crate::output::number(t, c, v as u64, 0xffff_ffff);
-    crate::output::put(t, d, b";")
-}
-
-pub fn mov64(t: &mut [u8; 2560], at: usize, n: Name, v: u64) -> usize
-    ensures { λ r. ⌜ outSeen (now (t .exit)) r ≡ formC (opcode.Mov64) (n, (v, tt)) true (outSeen (now (t .entry)) at) ⌝ }
-{
-    let a = crate::output::put(t, at, b"mov.b64 ");
-    let b = crate::output::name(t, a, n);
-    let c = crate::output::put(t, b, b", ");
-    let d = crate::output::number(t, c, v, 0xffff_ffff_ffff_ffff);
-    crate::output::put(t, d, b";")
-}
-
-pub fn dealloc(t: &mut [u8; 2560], at: usize, n: Name, v: u32) -> usize
-    ensures { λ r. ⌜ outSeen (now (t .exit)) r ≡ formC (opcode.Dealloc) (n, (v, tt)) true (outSeen (now (t .entry)) at) ⌝ }
-{
-    let a = crate::output::put(t, at, b"tcgen05.dealloc.cta_group::1.sync.aligned.b32 ");
-    let b = crate::output::name(t, a, n);
-    let c = crate::output::put(t, b, b", ");
-    let d = crate::output::number(t, c, v as u64, 0xffff_ffff);
-    crate::output::put(t, d, b";")
-}
-
-pub fn alloc(t: &mut [u8; 2560], at: usize, n: Name, v: u32) -> usize
-    ensures { λ r. ⌜ outSeen (now (t .exit)) r ≡ formC (opcode.Alloc false) (n, (v, tt)) true (outSeen (now (t .entry)) at) ⌝ }
-{
-    let a = crate::output::put(t, at, b"tcgen05.alloc.cta_group::1.sync.aligned.b32 ");
-    let b = crate::operand::brackets(t, a, n);
-    let c = crate::output::put(t, b, b", ");
-    let d = crate::output::number(t, c, v as u64, 0xffff_ffff);
+    let d = crate::output::number(t, c, v, limit);
     crate::output::put(t, d, b";")
 }
 
@@ -71,26 +51,26 @@ fn spelled(t: &mut [u8; 2560], at: usize, p: Spelling) -> usize
     crate::output::put(t, at, &bytes[..n])
 }
 
-pub fn shape_text(t: &mut [u8; 2560], at: usize, shape: Shape) -> usize
+fn shape_text(t: &mut [u8; 2560], at: usize, shape: Shape) -> usize
     ensures { λ r. ⌜ outSeen (now (t .exit)) r ≡ addC (shapeText shape) true (outSeen (now (t .entry)) at) ⌝ }
 {
     spelled(t, at, spellings::shape(shape))
 }
 
-pub fn num_text(t: &mut [u8; 2560], at: usize, num: Num) -> usize
+fn num_text(t: &mut [u8; 2560], at: usize, num: Num) -> usize
     ensures { λ r. ⌜ outSeen (now (t .exit)) r ≡ addC (numText num) true (outSeen (now (t .entry)) at) ⌝ }
 {
     spelled(t, at, spellings::num(num))
 }
 
-pub fn kind_text(t: &mut [u8; 2560], at: usize, kind: Kind) -> usize
+fn kind_text(t: &mut [u8; 2560], at: usize, kind: Kind) -> usize
     ensures { λ r. ⌜ outSeen (now (t .exit)) r ≡ addC (kindText kind) true (outSeen (now (t .entry)) at) ⌝ }
 {
     spelled(t, at, spellings::kind(kind))
 }
 
 // A part that may be left out.
-pub fn option_text(t: &mut [u8; 2560], at: usize, b: bool, w: &[u8]) -> usize
+fn option_text(t: &mut [u8; 2560], at: usize, b: bool, w: &[u8]) -> usize
     ensures { λ r. ⌜ outSeen (now (t .exit)) r ≡ addC (option b (now (w .entry))) true (outSeen (now (t .entry)) at) ⌝ }
 {
     if b {
@@ -100,35 +80,35 @@ pub fn option_text(t: &mut [u8; 2560], at: usize, b: bool, w: &[u8]) -> usize
 }
 
 // The word of a ld or st, which starts with w, and a space.
-pub fn access_word(t: &mut [u8; 2560], at: usize, w: &[u8], shape: Shape, num: Num) -> usize
-    ensures { λ r. ⌜ outSeen (now (t .exit)) r ≡ addC ((now (w .entry) ++ (shapeText shape ++ (numText num ++ bytes ".b32"))) ++ bytes " ") true (outSeen (now (t .entry)) at) ⌝ }
+fn access_word(t: &mut [u8; 2560], w: &[u8], shape: Shape, num: Num) -> usize
+    ensures { λ r. ⌜ outSeen (now (t .exit)) r ≡ addC ((now (w .entry) ++ (shapeText shape ++ (numText num ++ bytes ".b32"))) ++ bytes " ") true (outSeen (now (t .entry)) 0) ⌝ }
 {
-    let a = crate::output::put(t, at, w);
+    let a = crate::output::put(t, 0, w);
     let b = shape_text(t, a, shape);
     let c = num_text(t, b, num);
     crate::output::put(t, c, b".b32 ")
 }
 
-pub fn load(t: &mut [u8; 2560], at: usize, a: Access, hi: &[u64], lo: &[u64]) -> usize
-    ensures { λ r. ⌜ outSeen (now (t .exit)) r ≡ formC (opcode.Load (a .shape) (a .num)) (paired (take (a .registers) (now (hi .entry))) (take (a .registers) (now (lo .entry))), (a .address, tt)) (eqb (a .registers) (length (paired (take (a .registers) (now (hi .entry))) (take (a .registers) (now (lo .entry)))))) (outSeen (now (t .entry)) at) ⌝ }
+pub fn load(t: &mut [u8; 2560], a: Access, hi: &[u64], lo: &[u64]) -> usize
+    ensures { λ r. ⌜ outSeen (now (t .exit)) r ≡ formC (opcode.Load (a .shape) (a .num)) (paired (take (a .registers) (now (hi .entry))) (take (a .registers) (now (lo .entry))), (a .address, tt)) (eqb (a .registers) (length (paired (take (a .registers) (now (hi .entry))) (take (a .registers) (now (lo .entry)))))) (outSeen (now (t .entry)) 0) ⌝ }
 {
     let shape = a.shape;
     let num = a.num;
     let x = a.address;
-    let b = access_word(t, at, b"tcgen05.ld.sync.aligned", shape, num);
+    let b = access_word(t, b"tcgen05.ld.sync.aligned", shape, num);
     let c = crate::operand::names(t, b, hi, lo, a.registers);
     let d = crate::output::put(t, c, b", ");
     let e = crate::operand::address(t, d, x);
     crate::output::put(t, e, b";")
 }
 
-pub fn store(t: &mut [u8; 2560], at: usize, a: Access, hi: &[u64], lo: &[u64]) -> usize
-    ensures { λ r. ⌜ outSeen (now (t .exit)) r ≡ formC (opcode.Store (a .shape) (a .num)) (a .address, (paired (take (a .registers) (now (hi .entry))) (take (a .registers) (now (lo .entry))), tt)) (eqb (a .registers) (length (paired (take (a .registers) (now (hi .entry))) (take (a .registers) (now (lo .entry)))))) (outSeen (now (t .entry)) at) ⌝ }
+pub fn store(t: &mut [u8; 2560], a: Access, hi: &[u64], lo: &[u64]) -> usize
+    ensures { λ r. ⌜ outSeen (now (t .exit)) r ≡ formC (opcode.Store (a .shape) (a .num)) (a .address, (paired (take (a .registers) (now (hi .entry))) (take (a .registers) (now (lo .entry))), tt)) (eqb (a .registers) (length (paired (take (a .registers) (now (hi .entry))) (take (a .registers) (now (lo .entry)))))) (outSeen (now (t .entry)) 0) ⌝ }
 {
     let shape = a.shape;
     let num = a.num;
     let x = a.address;
-    let b = access_word(t, at, b"tcgen05.st.sync.aligned", shape, num);
+    let b = access_word(t, b"tcgen05.st.sync.aligned", shape, num);
     let c = crate::operand::address(t, b, x);
     let d = crate::output::put(t, c, b", ");
     let e = crate::operand::names(t, d, hi, lo, a.registers);
@@ -136,10 +116,10 @@ pub fn store(t: &mut [u8; 2560], at: usize, a: Access, hi: &[u64], lo: &[u64]) -
 }
 
 // The word of an mma, and a space.
-pub fn mma_word(t: &mut [u8; 2560], at: usize, ws: bool, sp: bool, kind: Kind) -> usize
-    ensures { λ r. ⌜ outSeen (now (t .exit)) r ≡ addC (word (opcode.Multiply ws sp kind) ++ bytes " ") true (outSeen (now (t .entry)) at) ⌝ }
+fn mma_word(t: &mut [u8; 2560], ws: bool, sp: bool, kind: Kind) -> usize
+    ensures { λ r. ⌜ outSeen (now (t .exit)) r ≡ addC (word (opcode.Multiply ws sp kind) ++ bytes " ") true (outSeen (now (t .entry)) 0) ⌝ }
 {
-    let a = crate::output::put(t, at, b"tcgen05.mma");
+    let a = crate::output::put(t, 0, b"tcgen05.mma");
     let b = option_text(t, a, ws, b".ws");
     let c = option_text(t, b, sp, b".sp");
     let d = crate::output::put(t, c, b".cta_group::1.kind::");
@@ -148,14 +128,14 @@ pub fn mma_word(t: &mut [u8; 2560], at: usize, ws: bool, sp: bool, kind: Kind) -
 }
 
 // An mma up to its b.
-fn mma_front(t: &mut [u8; 2560], at: usize, m: Mma, sp: bool) -> usize
-    ensures { λ r. ⌜ outSeen (now (t .exit)) r ≡ moreC (operand ∷ name ∷ []) (m .a, (m .b, tt)) (addC (addressText (m .d)) (addressGiven (m .d)) (addC (word (opcode.Multiply (m .ws) sp (m .kind)) ++ bytes " ") true (outSeen (now (t .entry)) at))) ⌝ }
+fn mma_front(t: &mut [u8; 2560], m: Mma, sp: bool) -> usize
+    ensures { λ r. ⌜ outSeen (now (t .exit)) r ≡ moreC (operand ∷ name ∷ []) (m .a, (m .b, tt)) (addC (addressText (m .d)) (addressGiven (m .d)) (addC (word (opcode.Multiply (m .ws) sp (m .kind)) ++ bytes " ") true (outSeen (now (t .entry)) 0))) ⌝ }
 {
     let kind = m.kind;
     let d = m.d;
     let a = m.a;
     let b = m.b;
-    let k1 = mma_word(t, at, m.ws, sp, kind);
+    let k1 = mma_word(t, m.ws, sp, kind);
     let k2 = crate::operand::address(t, k1, d);
     let k3 = crate::output::put(t, k2, b", ");
     let k4 = crate::operand::operand(t, k3, a);
@@ -176,17 +156,17 @@ fn mma_back(t: &mut [u8; 2560], at: usize, m: Mma) -> usize
     crate::output::put(t, k4, b";")
 }
 
-pub fn multiply(t: &mut [u8; 2560], at: usize, m: Mma) -> usize
-    ensures { λ r. ⌜ outSeen (now (t .exit)) r ≡ formC (opcodeOf (statement.Multiply m)) (mmaValues m (m .metadata)) true (outSeen (now (t .entry)) at) ⌝ }
+pub fn multiply(t: &mut [u8; 2560], m: Mma) -> usize
+    ensures { λ r. ⌜ outSeen (now (t .exit)) r ≡ formC (opcodeOf (statement.Multiply m)) (mmaValues m (m .metadata)) true (outSeen (now (t .entry)) 0) ⌝ }
 {
     let x = m.metadata;
     match x {
         Metadata::Dense => {
-            let a = mma_front(t, at, m, false);
+            let a = mma_front(t, m, false);
             mma_back(t, a, m)
         }
         Metadata::Sparse(e) => {
-            let a = mma_front(t, at, m, true);
+            let a = mma_front(t, m, true);
             let b = crate::output::put(t, a, b", ");
             let c = crate::operand::address(t, b, e);
             mma_back(t, c, m)

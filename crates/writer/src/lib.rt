@@ -12,27 +12,46 @@ ghost use Rattle.statement.specs.Canonical.{countOf, textOf, given};
 ghost use Rattle.statement.specs.Reading.{paired};
 ghost use Rattle.writer.specs.Outputs.{outSeen, addC, writtenOf, leftBy};
 
+// The largest numbers.
+const MAX32: u64 = 0xffff_ffff;
+
+const MAX64: u64 = 0xffff_ffff_ffff_ffff;
+
 // A statement's text in a buffer.
 fn compose(t: &mut [u8; 2560], statement: Statement, hi: &[u64], lo: &[u64]) -> usize
     ensures { λ r. ⌜ outSeen (now (t .exit)) r ≡ addC (textOf statement (paired (take (countOf statement) (now (hi .entry))) (take (countOf statement) (now (lo .entry))))) (given statement (paired (take (countOf statement) (now (hi .entry))) (take (countOf statement) (now (lo .entry))))) (outSeen (now (t .entry)) 0) ⌝ }
 {
     match statement {
-        Statement::Mov32(n, v) => form::mov32(t, 0, n, v),
-        Statement::Mov64(n, v) => form::mov64(t, 0, n, v),
-        Statement::Alloc(n, v) => form::alloc(t, 0, n, v),
-        Statement::Dealloc(n, v) => form::dealloc(t, 0, n, v),
+        Statement::Mov32(n, v) => form::name_number(t, b"mov.b32 ", n, false, v as u64, MAX32),
+        Statement::Mov64(n, v) => form::name_number(t, b"mov.b64 ", n, false, v, MAX64),
+        Statement::Alloc(n, v) => form::name_number(
+            t,
+            b"tcgen05.alloc.cta_group::1.sync.aligned.b32 ",
+            n,
+            true,
+            v as u64,
+            MAX32,
+        ),
+        Statement::Dealloc(n, v) => form::name_number(
+            t,
+            b"tcgen05.dealloc.cta_group::1.sync.aligned.b32 ",
+            n,
+            false,
+            v as u64,
+            MAX32,
+        ),
         Statement::Relinquish => output::put(
             t,
             0,
             b"tcgen05.relinquish_alloc_permit.cta_group::1.sync.aligned;",
         ),
-        Statement::Load(a) => form::load(t, 0, a, hi, lo),
-        Statement::Store(a) => form::store(t, 0, a, hi, lo),
+        Statement::Load(a) => form::load(t, a, hi, lo),
+        Statement::Store(a) => form::store(t, a, hi, lo),
         Statement::WaitLoad => output::put(t, 0, b"tcgen05.wait::ld.sync.aligned;"),
         Statement::WaitStore => output::put(t, 0, b"tcgen05.wait::st.sync.aligned;"),
         Statement::FenceBefore => output::put(t, 0, b"tcgen05.fence::before_thread_sync;"),
         Statement::FenceAfter => output::put(t, 0, b"tcgen05.fence::after_thread_sync;"),
-        Statement::Multiply(m) => form::multiply(t, 0, m),
+        Statement::Multiply(m) => form::multiply(t, m),
         Statement::Exit => output::put(t, 0, b"exit;"),
     }
 }

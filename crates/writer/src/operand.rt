@@ -3,17 +3,16 @@ use statement::Address;
 use statement::Operand;
 use tokens::Name;
 ghost use mathlib.Core.Path.{_≡_};
-ghost use mathlib.Core.Bool.{_&&_};
-ghost use lib.ListN.{length, take};
-ghost use lib.Dec.{leb, eqb};
-ghost use Rattle.tokens.specs.Names.{nameBytes, nameGiven};
-ghost use Rattle.statement.specs.Forms.{max32, inBrackets, names};
-ghost use Rattle.statement.specs.Canonical.{slotText, slotGiven, offsetText, addressText, addressGiven, operandText, operandGiven, namesText};
-ghost use Rattle.statement.specs.Reading.{paired};
-ghost use Rattle.writer.specs.Outputs.{outSeen, addC};
+ghost use Prim.Native.Nat.{_≤_, _<_};
+ghost use lib.ListN.{length};
+ghost use lib.Dec.{leb};
+ghost use Rattle.tokens.specs.Names.{nameGiven};
+ghost use Rattle.statement.specs.Forms.{max32, inBrackets};
+ghost use Rattle.statement.specs.Canonical.{slotText, offsetText, addressText, addressGiven, operandText, operandGiven, namesText, allNames};
+ghost use Rattle.writer.specs.Outputs.{outSeen, addC, namedText, firsts, namesGiven};
 
 // [name]
-pub fn brackets(t: &mut [u8; 2560], at: usize, n: Name) -> usize
+fn brackets(t: &mut [u8; 2560], at: usize, n: Name) -> usize
     ensures { λ r. ⌜ outSeen (now (t .exit)) r ≡ addC (slotText inBrackets n) (nameGiven n) (outSeen (now (t .entry)) at) ⌝ }
 {
     let a = crate::output::put(t, at, b"[");
@@ -21,8 +20,18 @@ pub fn brackets(t: &mut [u8; 2560], at: usize, n: Name) -> usize
     crate::output::put(t, b, b"]")
 }
 
+// A name, in brackets or not.
+pub fn named(t: &mut [u8; 2560], at: usize, n: Name, bracketed: bool) -> usize
+    ensures { λ r. ⌜ outSeen (now (t .exit)) r ≡ addC (namedText bracketed n) (nameGiven n) (outSeen (now (t .entry)) at) ⌝ }
+{
+    if bracketed {
+        return brackets(t, at, n);
+    }
+    crate::output::name(t, at, n)
+}
+
 // +number, or nothing for 0.
-pub fn offset(t: &mut [u8; 2560], at: usize, v: u32) -> usize
+fn offset(t: &mut [u8; 2560], at: usize, v: u32) -> usize
     ensures { λ r. ⌜ outSeen (now (t .exit)) r ≡ addC (offsetText v) (leb v max32) (outSeen (now (t .entry)) at) ⌝ }
 {
     if v == 0 {
@@ -51,22 +60,11 @@ pub fn operand(t: &mut [u8; 2560], at: usize, x: Operand) -> usize
     }
 }
 
-// {names}: count of them, which both lists have.
-pub fn names(t: &mut [u8; 2560], at: usize, hi: &[u64], lo: &[u64], count: usize) -> usize
-    ensures { λ r. ⌜ outSeen (now (t .exit)) r ≡ addC (namesText (paired (take count (now (hi .entry))) (take count (now (lo .entry))))) (eqb count (length (paired (take count (now (hi .entry))) (take count (now (lo .entry))))) && slotGiven names (paired (take count (now (hi .entry))) (take count (now (lo .entry))))) (outSeen (now (t .entry)) at) ⌝ }
+// {names}: at least one, and count of them.
+fn listed(t: &mut [u8; 2560], at: usize, hi: &[u64], lo: &[u64], count: usize) -> usize
+    requires { ⌜ (0 < count) × (count ≤ 128) × (count ≤ length (now hi)) × (count ≤ length (now lo)) ⌝ }
+    ensures { λ r. ⌜ outSeen (now (t .exit)) r ≡ addC (namesText (firsts (now (hi .entry)) (now (lo .entry)) count)) (allNames (firsts (now (hi .entry)) (now (lo .entry)) count)) (outSeen (now (t .entry)) at) ⌝ }
 {
-    if count == 0 {
-        return crate::output::FAILED;
-    }
-    if 128 < count {
-        return crate::output::FAILED;
-    }
-    if hi.len() < count {
-        return crate::output::FAILED;
-    }
-    if lo.len() < count {
-        return crate::output::FAILED;
-    }
     let o = crate::output::put(t, at, b"{");
     let mut k = crate::output::name(
         t,
@@ -90,4 +88,23 @@ pub fn names(t: &mut [u8; 2560], at: usize, hi: &[u64], lo: &[u64], count: usize
         i += 1;
     }
     crate::output::put(t, k, b"}")
+}
+
+// {names}: count of them, which both lists have.
+pub fn names(t: &mut [u8; 2560], at: usize, hi: &[u64], lo: &[u64], count: usize) -> usize
+    ensures { λ r. ⌜ outSeen (now (t .exit)) r ≡ addC (namesText (firsts (now (hi .entry)) (now (lo .entry)) count)) (namesGiven count (firsts (now (hi .entry)) (now (lo .entry)) count)) (outSeen (now (t .entry)) at) ⌝ }
+{
+    if count == 0 {
+        return crate::output::FAILED;
+    }
+    if 128 < count {
+        return crate::output::FAILED;
+    }
+    if hi.len() < count {
+        return crate::output::FAILED;
+    }
+    if lo.len() < count {
+        return crate::output::FAILED;
+    }
+    listed(t, at, hi, lo, count)
 }

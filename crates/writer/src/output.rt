@@ -52,20 +52,20 @@ pub fn number(t: &mut [u8; 2560], at: usize, v: u64, limit: u64) -> usize
     if limit < v {
         return FAILED;
     }
-    let mut out = [48u8; 20];
-    out[19] = 48 + (v % 10) as u8;
+    let mut out = [b'0'; 20];
+    out[19] = b'0' + (v % 10) as u8;
     let mut i = 19;
     let mut w = v / 10;
     while w != 0 {
         i -= 1;
-        out[i] = 48 + (w % 10) as u8;
+        out[i] = b'0' + (w % 10) as u8;
         w = w / 10;
     }
     put(t, at, &out[i..])
 }
 
 // The bytes of v at the end of out, the highest first and no zero before it; answers where they begin.
-pub fn spread(out: &mut [u8; 8], v: u64) -> usize
+fn spread(out: &mut [u8; 8], v: u64) -> usize
     requires { ⌜ length (now out) ≡ 8 ⌝ }
     ensures { λ r. ⌜ (r ≤ 8) × (length (now (out .exit)) ≡ 8) × (drop r (now (out .exit)) ≡ strip (lowBytes 8 v)) ⌝ }
 {
@@ -80,7 +80,7 @@ pub fn spread(out: &mut [u8; 8], v: u64) -> usize
 }
 
 // Whether each byte from a position on is a word byte.
-pub fn all_words(d: &[u8; 8], from: usize) -> bool
+fn all_words(d: &[u8; 8], from: usize) -> bool
     requires { ⌜ length (now d) ≡ 8 ⌝ }
     ensures { λ r. ⌜ r ≡ all wordByte (drop from (now (d .entry))) ⌝ }
 {
@@ -95,7 +95,7 @@ pub fn all_words(d: &[u8; 8], from: usize) -> bool
 }
 
 // Whether the bytes of h from a on, and those of l from b on, are the halves of a packed name.
-pub fn halves(h: &[u8; 8], a: usize, l: &[u8; 8], b: usize) -> bool
+fn halves(h: &[u8; 8], a: usize, l: &[u8; 8], b: usize) -> bool
     requires { ⌜ (length (now h) ≡ 8) × (length (now l) ≡ 8) × (b ≤ 8) ⌝ }
     ensures { λ r. ⌜ r ≡ halvesGiven (drop a (now (h .entry))) (drop b (now (l .entry))) ⌝ }
 {
@@ -107,7 +107,7 @@ pub fn halves(h: &[u8; 8], a: usize, l: &[u8; 8], b: usize) -> bool
     full & (lexer::name::shaped(h[a], n) & (all_words(h, a + 1) & all_words(l, b)))
 }
 
-// A name, if it is such as reading gives.
+// A name, if it is such as reading gives: its first eight bytes, and those after them, if any.
 pub fn name(t: &mut [u8; 2560], at: usize, n: Name) -> usize
     ensures { λ r. ⌜ outSeen (now (t .exit)) r ≡ addC (nameBytes n) (nameGiven n) (outSeen (now (t .entry)) at) ⌝ }
 {

@@ -1,33 +1,54 @@
 -- `writer::compose` meets its contract: each statement is added by the function of its form. Assumes nothing.
 use borrow.Author.Needs.{needs}
 use Rattle.statement.specs.Forms.{word}
-use Rattle.statement.specs.Canonical.{rowText, rowGiven, textOf, given}
+use Rattle.statement.specs.Canonical.{rowText, moreRowText, rowGiven, textOf, given}
 use Rattle.writer.proofs.compose.Statement.{statement}
 use Rattle.writer.proofs.compose.Tie as tie
 
 enum-known-statement : tie.Need-enum-known-statement
 enum-known-statement c = search needs
 
-mov32-requires : tie.Need-mov32-requires
-mov32-requires c κs = search needs
+slice-aggregate-name-number : tie.Need-slice-aggregate-name-number
+slice-aggregate-name-number c = search needs
+
+cast-name-number : tie.Need-cast-name-number
+cast-name-number c = search needs
+
+name-number-requires : tie.Need-name-number-requires
+name-number-requires c κs = search needs
 
 enum-known-statement-2 : tie.Need-enum-known-statement-2
 enum-known-statement-2 c = search needs
 
-mov64-requires : tie.Need-mov64-requires
-mov64-requires c κs = search needs
+slice-aggregate-name-number-2 : tie.Need-slice-aggregate-name-number-2
+slice-aggregate-name-number-2 c = search needs
+
+name-number-requires-2 : tie.Need-name-number-requires-2
+name-number-requires-2 c κs = search needs
 
 enum-known-statement-3 : tie.Need-enum-known-statement-3
 enum-known-statement-3 c = search needs
 
-alloc-requires : tie.Need-alloc-requires
-alloc-requires c κs = search needs
+slice-aggregate-name-number-3 : tie.Need-slice-aggregate-name-number-3
+slice-aggregate-name-number-3 c = search needs
+
+cast-name-number-2 : tie.Need-cast-name-number-2
+cast-name-number-2 c = search needs
+
+name-number-requires-3 : tie.Need-name-number-requires-3
+name-number-requires-3 c κs = search needs
 
 enum-known-statement-4 : tie.Need-enum-known-statement-4
 enum-known-statement-4 c = search needs
 
-dealloc-requires : tie.Need-dealloc-requires
-dealloc-requires c κs = search needs
+slice-aggregate-name-number-4 : tie.Need-slice-aggregate-name-number-4
+slice-aggregate-name-number-4 c = search needs
+
+cast-name-number-3 : tie.Need-cast-name-number-3
+cast-name-number-3 c = search needs
+
+name-number-requires-4 : tie.Need-name-number-requires-4
+name-number-requires-4 c κs = search needs
 
 enum-told : tie.Need-enum-told
 enum-told c = search needs
@@ -102,20 +123,20 @@ put-requires-6 : tie.Need-put-requires-6
 put-requires-6 c κs = search needs
 
 returns : tie.Need-returns
-unfolding textOf given
-returns c = rw (c .before .before .before .statement .given .1) (c .mov32 .ensures)
+unfolding word rowText moreRowText rowGiven textOf given
+returns c = rw (c .before .before .before .before .statement .given .1) (c .name-number .ensures)
 
 returns-2 : tie.Need-returns-2
-unfolding textOf given
-returns-2 c = rw (c .before .before .before .statement2 .given .1) (c .mov64 .ensures)
+unfolding word rowText moreRowText rowGiven textOf given
+returns-2 c = rw (c .before .before .before .before .statement2 .given .1) (c .name-number2 .ensures)
 
 returns-3 : tie.Need-returns-3
-unfolding textOf given
-returns-3 c = rw (c .before .before .before .statement3 .given .1) (c .alloc .ensures)
+unfolding word rowText moreRowText rowGiven textOf given
+returns-3 c = rw (c .before .before .before .before .statement3 .given .1) (c .name-number3 .ensures)
 
 returns-4 : tie.Need-returns-4
-unfolding textOf given
-returns-4 c = rw (c .before .before .before .statement4 .given .1) (c .dealloc .ensures)
+unfolding word rowText moreRowText rowGiven textOf given
+returns-4 c = rw (c .before .before .before .before .statement4 .given .1) (c .name-number4 .ensures)
 
 returns-5 : tie.Need-returns-5
 unfolding word rowText rowGiven textOf given
@@ -158,13 +179,20 @@ compose-spec =
     tie.close
     (tie.spec
     enum-known-statement
-    mov32-requires
+    slice-aggregate-name-number
+    cast-name-number
+    name-number-requires
     enum-known-statement-2
-    mov64-requires
+    slice-aggregate-name-number-2
+    name-number-requires-2
     enum-known-statement-3
-    alloc-requires
+    slice-aggregate-name-number-3
+    cast-name-number-2
+    name-number-requires-3
     enum-known-statement-4
-    dealloc-requires
+    slice-aggregate-name-number-4
+    cast-name-number-3
+    name-number-requires-4
     enum-told
     slice-aggregate-put
     put-requires

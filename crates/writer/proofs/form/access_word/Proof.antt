@@ -22,7 +22,9 @@ put-requires-2 : tie.Need-put-requires-2
 put-requires-2 c κs = search needs
 
 returns : tie.Need-returns
-returns c = let a = c .before .before .before .before .before .before .before .before .before .before .args in rw (c .put2 .ensures, c .before .before .before .num-text .ensures, c .before .before .before .before .before .shape-text .ensures, c .before .before .before .before .before .before .before .put .ensures) (access-law (a .w .now) (shapeText (a .shape)) (numText (a .num)) (outSeen (a .t .now) (a .at)))
+returns c =
+    let a = c .before .before .before .before .before .before .before .before .before .before .args in
+    cc (access-law (a .w .now) (shapeText (a .shape)) (numText (a .num)) (outSeen (a .t .now) 0))
 
 pub access-word-spec : {M : Type 1} → statement M
 access-word-spec =

@@ -1,12 +1,11 @@
 -- `writer::form::load` meets its contract: the additions follow the row of its opcode, and the count goes with the names. Assumes nothing.
-use lib.ListN.{length, take}
+use lib.ListN.{length}
 use lib.Dec.{eqb}
 use borrow.Author.Needs.{needs}
 use Rattle.statement.specs.declared.Opcode.the-variants.{Load}
 use Rattle.statement.specs.Forms.{word, names}
-use Rattle.statement.specs.Reading.{paired}
 use Rattle.statement.specs.Canonical.{rowText, moreRowText, rowGiven, slotGiven, namesText, addressText, addressGiven}
-use Rattle.writer.specs.Outputs.{outSeen}
+use Rattle.writer.specs.Outputs.{outSeen, firsts}
 use Rattle.writer.proofs.Rows.{load-law}
 use Rattle.writer.proofs.form.load.Statement.{statement}
 use Rattle.writer.proofs.form.load.Tie as tie
@@ -38,10 +37,16 @@ put-requires-2 c κs = search needs
 returns : tie.Need-returns
 unfolding word rowText moreRowText rowGiven
 returns c =
-    let a = c .before .before .before .before .before .before .before .before .before .before .before .before .before .before .before .before .args in
+    let c₁ = c .before .before .before in
+    let c₂ = c₁ .before .before in
+    let c₃ = c₂ .before .before .before in
+    let c₄ = c₃ .before .before in
+    let a = c₄ .before .before .before .before .before .before .args in
     let x = a .a in
-    let ns = paired (take (x .registers) (a .hi .now)) (take (x .registers) (a .lo .now)) in
-    rw (c .put2 .ensures, c .before .before .before .address .ensures, c .before .before .before .before .before .put .ensures, c .before .before .before .before .before .before .before .before .names .ensures, c .before .before .before .before .before .before .before .before .before .before .access-word .ensures) (load-law (word (Load (x .shape) (x .num))) (namesText ns) (addressText (x .address)) (eqb (x .registers) (length ns)) (slotGiven names ns) (addressGiven (x .address)) (outSeen (a .t .now) (a .at)))
+    let ns = firsts (a .hi .now) (a .lo .now) (x .registers) in
+    let w = word (Load (x .shape) (x .num)) in
+    rw (c .put2 .ensures, c₁ .address .ensures, c₂ .put .ensures, c₃ .names .ensures, c₄ .access-word .ensures)
+    (load-law w (namesText ns) (addressText (x .address)) (eqb (x .registers) (length ns)) (slotGiven names ns) (addressGiven (x .address)) (outSeen (a .t .now) 0))
 
 pub load-spec : {M : Type 1} → statement M
 load-spec =

@@ -28,7 +28,7 @@ put-requires-3 : tie.Need-put-requires-3
 put-requires-3 c κs = search needs
 
 returns : tie.Need-returns
-returns c = rw (c .put3 .ensures, c .before .before .before .name2 .ensures, c .before .before .before .before .before .put2 .ensures, c .before .before .before .before .before .before .before .before .name .ensures, c .before .before .before .before .before .before .before .before .before .before .put .ensures)
+returns c = cc
 
 pub mma-back-spec : {M : Type 1} → statement M
 mma-back-spec =

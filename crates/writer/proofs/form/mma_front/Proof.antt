@@ -28,7 +28,13 @@ name-requires : tie.Need-name-requires
 name-requires c κs = search needs
 
 returns : tie.Need-returns
-returns c = rw (c .name .ensures, c .before .before .put2 .ensures, c .before .before .before .before .before .operand .ensures, c .before .before .before .before .before .before .before .put .ensures, c .before .before .before .before .before .before .before .before .before .before .address .ensures, c .before .before .before .before .before .before .before .before .before .before .before .before .mma-word .ensures)
+returns c =
+    let c₁ = c .before .before in
+    let c₂ = c₁ .before .before .before in
+    let c₃ = c₂ .before .before in
+    let c₄ = c₃ .before .before .before in
+    let c₅ = c₄ .before .before in
+    rw (c .name .ensures, c₁ .put2 .ensures, c₂ .operand .ensures, c₃ .put .ensures, c₄ .address .ensures, c₅ .mma-word .ensures)
 
 pub mma-front-spec : {M : Type 1} → statement M
 mma-front-spec =

@@ -44,7 +44,7 @@ returns : tie.Need-returns
 unfolding word
 returns c =
     let a = c .before .before .before .before .before .before .before .before .before .before .before .before .before .before .before .before .before .args in
-    rw (c .put3 .ensures, c .before .before .before .kind-text .ensures, c .before .before .before .before .before .put2 .ensures, c .before .before .before .before .before .before .before .before .option-text2 .ensures, c .before .before .before .before .before .before .before .before .before .before .before .option-text .ensures, c .before .before .before .before .before .before .before .before .before .before .before .before .before .before .put .ensures) (mma-law (bytes "tcgen05.mma") (option (a .ws) (bytes ".ws")) (option (a .sp) (bytes ".sp")) (bytes ".cta_group::1.kind::") (kindText (a .kind)) (outSeen (a .t .now) (a .at)))
+    cc (mma-law (bytes "tcgen05.mma") (option (a .ws) (bytes ".ws")) (option (a .sp) (bytes ".sp")) (bytes ".cta_group::1.kind::") (kindText (a .kind)) (outSeen (a .t .now) 0))
 
 pub mma-word-spec : {M : Type 1} → statement M
 mma-word-spec =

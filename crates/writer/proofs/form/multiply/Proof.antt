@@ -41,14 +41,14 @@ returns c =
     let a = c .before .before .before .before .before .before .args in
     let m = a .m in
     rw (c .before .before .before .before .enum-told .given .1, c .mma-back .ensures, c .before .before .mma-front .ensures)
-    (row-law (word (Multiply (m .ws) false (m .kind))) address (operand ∷ name ∷ name ∷ name ∷ []) (m .d, (m .a, (m .b, (m .idesc, (m .predicate, tt))))) (outSeen (a .t .now) (a .at)))
+    (row-law (word (Multiply (m .ws) false (m .kind))) address (operand ∷ name ∷ name ∷ name ∷ []) (m .d, (m .a, (m .b, (m .idesc, (m .predicate, tt))))) (outSeen (a .t .now) 0))
 
 returns-2 : tie.Need-returns-2
 returns-2 c =
     let a = c .before .before .before .before .before .before .before .before .before .before .before .before .args in
     let m = a .m in
     rw (c .before .before .before .before .before .before .before .before .before .before .x .given .1, c .mma-back2 .ensures, c .before .before .address .ensures, c .before .before .before .before .put .ensures, c .before .before .before .before .before .before .before .mma-front2 .ensures)
-    (row-law (word (Multiply (m .ws) true (m .kind))) address (operand ∷ name ∷ address ∷ name ∷ name ∷ []) (m .d, (m .a, (m .b, (_, (m .idesc, (m .predicate, tt)))))) (outSeen (a .t .now) (a .at)))
+    (row-law (word (Multiply (m .ws) true (m .kind))) address (operand ∷ name ∷ address ∷ name ∷ name ∷ []) (m .d, (m .a, (m .b, (_, (m .idesc, (m .predicate, tt)))))) (outSeen (a .t .now) 0))
 
 pub multiply-spec : {M : Type 1} → statement M
 multiply-spec =

@@ -29,7 +29,9 @@ put-requires-2 c κs = search needs
 
 returns : tie.Need-returns
 unfolding addressText
-returns c = let a = c .before .before .before .before .before .before .before .before .before .before .before .args in rw (c .put2 .ensures, c .before .before .before .offset .ensures, c .before .before .before .before .before .name .ensures, c .before .before .before .before .before .before .before .put .ensures) (address-law (nameBytes (a .x .base)) (offsetText (a .x .offset)) (nameGiven (a .x .base)) (leb (a .x .offset) max32) (outSeen (a .t .now) (a .at)))
+returns c =
+    let a = c .before .before .before .before .before .before .before .before .before .before .before .args in
+    cc (address-law (nameBytes (a .x .base)) (offsetText (a .x .offset)) (nameGiven (a .x .base)) (leb (a .x .offset) max32) (outSeen (a .t .now) (a .at)))
 
 pub address-spec : {M : Type 1} → statement M
 address-spec =

@@ -22,7 +22,9 @@ put-requires-2 : tie.Need-put-requires-2
 put-requires-2 c κs = search needs
 
 returns : tie.Need-returns
-returns c = let a = c .before .before .before .before .before .before .before .before .args in rw (c .put2 .ensures, c .before .before .before .name .ensures, c .before .before .before .before .before .put .ensures) (brackets-law (nameBytes (a .n)) (nameGiven (a .n)) (outSeen (a .t .now) (a .at)))
+returns c =
+    let a = c .before .before .before .before .before .before .before .before .args in
+    cc (brackets-law (nameBytes (a .n)) (nameGiven (a .n)) (outSeen (a .t .now) (a .at)))
 
 pub brackets-spec : {M : Type 1} → statement M
 brackets-spec =
