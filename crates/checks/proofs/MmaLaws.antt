@@ -9,9 +9,10 @@ use borrow.Author.Tests.{eqb-true}
 use Rattle.laws.specs.Tests.{all}
 use Rattle.laws.specs.Rules.{firstBroken}
 use Rattle.tokens.specs.declared.Name.{Name}
-use Rattle.instruction.specs.declared.FieldsRead.{FieldsRead}
+use Rattle.instruction.specs.declared.Judged.{Judged}
 use Rattle.instruction.specs.Descriptor.{InstructionRead}
 use Rattle.instruction.specs.Instruction as instruction
+use Rattle.instruction.proofs.NumberLaws.{judged-reads, judged-lists}
 use Rattle.shared_memory.specs.declared.SharedRead.{SharedRead}
 use Rattle.shared_memory.specs.Shared as shared
 use Rattle.statement.specs.declared.Address.{Address}
@@ -62,6 +63,10 @@ descriptor-tested s hi lo numbers widths h n v p d q =
 both : (a b c d : Bool) → a ≡ c → b ≡ d → a && b ≡ c && d
 both a b c d p q = cc
 
+other-way : (a b : Bool) → a ≡ not b → not a ≡ b
+other-way a true e = ap not e
+other-way a false e = ap not e
+
 -- what was found in the tables is what the state has
 pub operands : (s : State) (hi lo columns valueHi valueLo numbers widths : List ℕ) (h : Tables hi lo columns valueHi valueLo numbers widths s) (m : Mma)
     (d : Span) → d ≡ findIn hi lo columns (m .d .base)
@@ -111,7 +116,7 @@ module _ (s : State) (held w : ℕ) (m : Mma) (columns : ℕ) (a b e : Tested) (
 
   -- reason 12: a 32-bit value is the word
   module _ (n : names ≡ true) (word : ℕ) (pw : word ≡ v .number % 2 ^ 32) (sp : Bool) (ps : sp ≡ sparse (m .metadata))
-      (i : FieldsRead) (pi : i ≡ instruction.fieldsRead (instruction.decoded (m .kind) (m .ws) sp word)) where
+      (i : Judged) (pi : i ≡ instruction.judged (m .kind) (m .ws) sp word) where
     small : v .number < 2 ^ 32
     small = o .narrow (eqb-true (v .width) 32 (and-r (((not (eqb columns 0) && a .named) && b .named) && e .named) (eqb (v .width) 32) n))
 
@@ -122,17 +127,21 @@ module _ (s : State) (held w : ℕ) (m : Mma) (columns : ℕ) (a b e : Tested) (
     unfolding instructionOf
     decoded-is = rw (ps, word-is)
 
-    read-is : i ≡ instruction.fieldsRead (instructionOf s m)
-    read-is = pi ∙ ap instruction.fieldsRead decoded-is
+    reading-is : not (eqb (i .reason) 12) ≡ eqb (instructionOf s m .reason) 0
+    reading-is =
+        other-way (eqb (i .reason) 12) (eqb (instructionOf s m .reason) 0)
+        (ap (λ (x : Judged). eqb (x .reason) 12) pi
+        ∙ judged-reads (m .kind) (m .ws) sp word
+        ∙ ap (λ (x : InstructionRead). not (eqb (x .reason) 0)) decoded-is)
 
     abbrev descriptors : Bool
-    descriptors = (a .reads && b .reads) && eqb (i .reason) 0
+    descriptors = (a .reads && b .reads) && not (eqb (i .reason) 12)
 
     reads-is : descriptors ≡ all (mmaReads s m)
     reads-is =
         both _ _ _ _
         (both _ _ _ _ (ap (λ (x : Tested). x .reads) (o .operand)) (ap (λ (x : Tested). x .reads) (o .descriptor)))
-        (ap (λ (x : FieldsRead). eqb (x .reason) 0) read-is)
+        reading-is
 
     after-6 : (x : ℕ) → x ≡ mmaOrder true descriptors listingOf (all (allEnd s m)) → x ≡ firstBroken (openRules lowest s held w (Multiply m))
     after-6 x p =
@@ -144,39 +153,43 @@ module _ (s : State) (held w : ℕ) (m : Mma) (columns : ℕ) (a b e : Tested) (
     pub mma-12 : descriptors ≡ false → 12 ≡ firstBroken (openRules lowest s held w (Multiply m))
     mma-12 t = after-6 12 (ap (λ (y : Bool). mmaOrder true y listingOf (all (allEnd s m))) (sym t))
 
-    -- reason 13: the word has a reading, so its reason is that of the listing
-    module _ (r : descriptors ≡ true) (j : ℕ) (pj : j ≡ instruction.wordReason (m .kind) (m .ws) sp word) where
-      reason-is : eqb (instructionOf s m .reason) 0 ≡ true
-      reason-is = sym (ap (λ (x : FieldsRead). eqb (x .reason) 0) read-is) ∙ and-r (a .reads && b .reads) (eqb (i .reason) 0) r
+    -- the word has a reading, so its reason is that of its listing, whatever the numbers of those rules are
+    module _ (r : descriptors ≡ true) where
+      read-0 : eqb (instruction.decoded (m .kind) (m .ws) sp word .reason) 0 ≡ true
+      read-0 =
+          ap (λ (x : InstructionRead). eqb (x .reason) 0) decoded-is
+          ∙ sym reading-is
+          ∙ and-r (a .reads && b .reads) (not (eqb (i .reason) 12)) r
 
-      listing-is : j ≡ listingOf
+      listing-is : i .reason ≡ listingOf
       listing-is =
-          pj
-          ∙ ap (instruction.readReason (m .kind) (m .ws)) decoded-is
-          ∙ ap (λ (x : Bool). cond x listingOf (instructionOf s m .reason)) reason-is
+          ap (λ (x : Judged). x .reason) pi
+          ∙ judged-lists (m .kind) (m .ws) sp word read-0
+          ∙ ap (λ (x : InstructionRead). firstBroken (instruction.listing (m .kind) (m .ws) (instruction.fields (x .descriptor)))) decoded-is
 
-      after-12 : (x : ℕ) → x ≡ mmaOrder true true j (all (allEnd s m)) → x ≡ firstBroken (openRules lowest s held w (Multiply m))
+      after-12 : (x : ℕ) → x ≡ mmaOrder true true (i .reason) (all (allEnd s m)) → x ≡ firstBroken (openRules lowest s held w (Multiply m))
       after-12 x p =
           after-6 x (p
-          ∙ ap (λ (y : Bool). mmaOrder true y j (all (allEnd s m))) (sym r)
+          ∙ ap (λ (y : Bool). mmaOrder true y (i .reason) (all (allEnd s m))) (sym r)
           ∙ ap (λ (y : ℕ). mmaOrder true descriptors y (all (allEnd s m))) listing-is)
 
-      pub mma-13 : eqb j 0 ≡ false → j ≡ firstBroken (openRules lowest s held w (Multiply m))
-      mma-13 t = after-12 j (ap (λ (y : Bool). cond y (cond (all (allEnd s m)) 0 14) j) (sym t))
+      pub mma-listing : eqb (i .reason) 0 ≡ false → i .reason ≡ firstBroken (openRules lowest s held w (Multiply m))
+      mma-listing t = after-12 (i .reason) (ap (λ (y : Bool). cond y (cond (all (allEnd s m)) 0 14) (i .reason)) (sym t))
 
       -- reason 14, or none
-      module _ (within : Bool) (q : within ≡ eqb (laneOf (m .d)) 0 && leb (columnOf (m .d) + i .fields .n) columns) where
+      module _ (within : Bool) (q : within ≡ eqb (laneOf (m .d)) 0 && leb (columnOf (m .d) + i .n) columns) where
         within-is : within ≡ mmaEnds s (m .d) (instructionOf s m .descriptor .n)
         within-is =
             q
-            ∙ ap (λ (x : FieldsRead). eqb (laneOf (m .d)) 0 && leb (columnOf (m .d) + x .fields .n) columns) read-is
+            ∙ ap (λ (x : Judged). eqb (laneOf (m .d)) 0 && leb (columnOf (m .d) + x .n) columns) pi
+            ∙ ap (λ (x : InstructionRead). eqb (laneOf (m .d)) 0 && leb (columnOf (m .d) + x .descriptor .n) columns) decoded-is
             ∙ ap (λ (x : ℕ). eqb (laneOf (m .d)) 0 && leb (columnOf (m .d) + instructionOf s m .descriptor .n) x) (o .size)
 
         inside-is : (within && a .ends) && e .ends ≡ all (allEnd s m)
         inside-is = both _ _ _ _ (both _ _ _ _ within-is (ap (λ (x : Tested). x .ends) (o .operand))) (ap (λ (x : Tested). x .ends) (o .metadata))
 
-        pub mma-end : eqb j 0 ≡ true → (t : Bool) → (within && a .ends) && e .ends ≡ t → cond t 0 14 ≡ firstBroken (openRules lowest s held w (Multiply m))
+        pub mma-end : eqb (i .reason) 0 ≡ true → (t : Bool) → (within && a .ends) && e .ends ≡ t → cond t 0 14 ≡ firstBroken (openRules lowest s held w (Multiply m))
         mma-end l t p =
             after-12 (cond t 0 14)
             (ap (λ (y : Bool). cond y 0 14) (sym p ∙ inside-is)
-            ∙ ap (λ (y : Bool). cond y (cond (all (allEnd s m)) 0 14) j) (sym l))
+            ∙ ap (λ (y : Bool). cond y (cond (all (allEnd s m)) 0 14) (i .reason)) (sym l))

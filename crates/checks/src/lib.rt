@@ -204,22 +204,21 @@ fn operands_reason(m: Mma, columns: u32, a: Tested, b: Tested, e: Tested, v: Val
     let kind = m.kind;
     let word = low(v.number);
     let sp = is_sparse(metadata);
-    let i = instruction::decode_fields(kind, m.ws, sp, word);
-    if !(a.reads & b.reads & (i.reason == 0)) {
+    let i = instruction::judge_word(kind, m.ws, sp, word);
+    if !(a.reads & b.reads & (i.reason != reasons::DESCRIPTOR)) {
         return reasons::DESCRIPTOR;
     }
-    let listing = instruction::judge(kind, m.ws, sp, word);
-    if listing != 0 {
-        return listing;
+    if i.reason != reasons::PASSED {
+        return i.reason;
     }
-    if mma_within(address.offset, i.fields.n, columns) & a.ends & e.ends {
+    if mma_within(address.offset, i.n, columns) & a.ends & e.ends {
         reasons::PASSED
     } else {
         reasons::CELLS
     }
 }
 
-// The reason of an mma: 6, 12, 13 or 14, else 0.
+// The reason of an mma: 6, 12, that of its listing, or 14, else 0.
 pub fn mma_reason<'a>(
     hi: &'a [u64; 16],
     lo: &'a [u64; 16],

@@ -1,9 +1,8 @@
 -- What each way through a booking answers: the tests made on the way decide the definition. Assumes nothing.
-use Prim.Native.Nat.{ℕ, _+_, _*_, _≤_, _<_}
-use mathlib.Core.Path.{_≡_, refl, sym, ap, _∙_}
+use Prim.Native.Nat.{ℕ, _*_, _≤_, _<_}
+use mathlib.Core.Path.{_≡_, refl, sym, _∙_}
 use mathlib.Core.Bool.{Bool, true, false, not, cond}
-use mathlib.Core.List.{List, [], _∷_}
-use native.Mathlib.Numerals.{add-one}
+use mathlib.Core.List.{[], _∷_}
 use native.Mathlib.Omega.{arith}
 use lib.Count.{ones}
 use lib.Dec.{leb, eqb}
@@ -13,7 +12,6 @@ use Rattle.laws.proofs.TestLaws.{each}
 use Rattle.request.specs.Request.{legal, requestReason}
 use Rattle.tokens.specs.declared.Name.{Name}
 use Rattle.ledger.specs.declared.Ledger.{Ledger}
-use Rattle.ledger.specs.Slots.{total}
 use Rattle.ledger.specs.Booking.{unchanged, slot, place, mayBook, allocOf, releaseOf, relinquishOf, withAllocation, withoutAllocation, afterRelinquish}
 
 -- a request is legal where its reason is 0
@@ -88,11 +86,3 @@ module _ (l : Ledger) (warp : ℕ) (a : Bool) (f : a ≡ mayBook l warp) where
   pub relinquish-0 : not a ≡ false → record { next = afterRelinquish l warp; reason = 0; start = 0 } ≡ relinquishOf l warp
   unfolding relinquishOf
   relinquish-0 n = simp (sym f ∙ not-false a n)
-
--- the columns of one slot more, and of all
-pub total-more : (columns : List ℕ) (held x i : ℕ) → held ≡ total columns i → x ≡ getD columns i 0 → held + x ≡ total columns (i + 1)
-unfolding total
-total-more columns held x i p q = rw (add-one i, p, q)
-
-pub total-end : (columns : List ℕ) (held i : ℕ) → held ≡ total columns i → i ≤ 16 → 16 ≤ i → held ≡ total columns 16
-total-end columns held i p q r = let e : i ≡ 16 = omega arith in p ∙ ap (total columns) e

@@ -41,6 +41,7 @@ pub record Slots (hi lo columns : List ℕ) (live : List Allocation) : Type 0 wh
   pub down : (a : Allocation) → Among a live → (i : ℕ) × (i < 16) × (a ≡ slotAt hi lo columns i) × (0 < a .columns)
   pub up : (i : ℕ) → i < 16 → 0 < getD columns i 0 → Among (slotAt hi lo columns i) live
   pub unique : Unique live
+  -- the columns of the slots are those of the allocations: what is stored agrees with what is summed over the lines
   pub sum : total columns 16 ≡ rules.total live
 
 -- the warp that is fixed, if any

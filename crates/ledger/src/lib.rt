@@ -5,7 +5,7 @@ ghost use mathlib.Core.Path.{_≡_};
 ghost use mathlib.Core.Bool.{not, _||_};
 ghost use Prim.Native.Nat.{_+_, _≤_, _<_};
 ghost use lib.Dec.{eqb};
-ghost use Rattle.ledger.specs.Slots.{owns, slotOf, placeOf, pastOf, total};
+ghost use Rattle.ledger.specs.Slots.{owns, slotOf, placeOf, pastOf};
 ghost use Rattle.ledger.specs.Booking.{empty, unchanged, allocOf, releaseOf, relinquishOf, findIn};
 use tokens::Name;
 
@@ -107,19 +107,6 @@ pub fn find_in<'a>(hi: &'a [u64; 16], lo: &'a [u64; 16], columns: &'a [u16; 16],
         start: 0,
         columns: 0,
     }
-}
-
-// The columns of all allocations, in a ledger that is left where it is.
-pub fn held_in(columns: &[u16; 16]) -> u32
-    ensures { λ r. ⌜ r ≡ total (now (columns .entry)) 16 ⌝ }
-{
-    let mut held: u32 = 0;
-    let mut i: usize = 0;
-    while i < 16 {
-        held += wide(columns[i]);
-        i += 1;
-    }
-    held
 }
 
 // The ledger unchanged, and a reason.
