@@ -23,7 +23,7 @@ use Rattle.statement.specs.declared.Reading.the-variants.{Got, NoForm, TooLarge
 use Rattle.statement.specs.Forms.{word, Slot, name, number, inBrackets, address, operand, names, Value, Values, max32, max64, row, Whole, make}
 use Rattle.statement.specs.Opcodes.{recognise}
 use Rattle.statement.specs.Reading.{operandsC, start, wholeBy, opcodeLen, wholeC, answerOf, readOf, reasonOf, registersOf}
-use Rattle.statement.specs.Spells.{RowText, Spells, sized, sizedOperand}
+use Rattle.grammar.specs.Spells.{RowText, Spells, sized, sizedOperand}
 use Rattle.grammar.specs.Claims.{Exact}
 use Rattle.statement.proofs.Words.{recognised, recognises, clean}
 use Rattle.grammar.proofs.Lexing.{never, at, cut, run-all, run-ends}

@@ -7,7 +7,7 @@ use Rattle.tokens.specs.Bytes.{blank}
 use Rattle.tokens.specs.Cursors.{Rest, markC}
 use Rattle.statement.specs.Forms.{Slot, Values}
 use Rattle.statement.specs.Reading.{slotC, moreRowC, rowC}
-use Rattle.statement.specs.Spells.{MoreRow, RowText}
+use Rattle.grammar.specs.Spells.{MoreRow, RowText}
 use Rattle.grammar.proofs.Lexing.{at, Reads, overBy, mark-sound, mark-complete, mark-one, end-sound, end-complete}
 use Rattle.grammar.proofs.Slots.{cutSlot, fitsSlot, slot-sound, slot-complete, slot-one}
 

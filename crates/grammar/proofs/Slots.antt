@@ -15,7 +15,7 @@ use Rattle.statement.specs.declared.Operand.{Operand}
 use Rattle.statement.specs.declared.Operand.the-variants as operand
 use Rattle.statement.specs.Forms.{Slot, name, number, inBrackets, address, operand, names, Value, max32}
 use Rattle.statement.specs.Reading.{inBracketsC, offsetC, insideC, addressC, operandC, moreC, namesC, slotC}
-use Rattle.statement.specs.Spells.{Mark, NameText, BracketText, OffsetText, bare, plus, AddressText, OperandText, byName, byAddress, MoreNames, closes, comma, NamesText, opens, SlotText}
+use Rattle.grammar.specs.Spells.{Mark, NameText, BracketText, OffsetText, bare, plus, AddressText, OperandText, byName, byAddress, MoreNames, closes, comma, NamesText, opens, SlotText}
 use Rattle.grammar.proofs.Lexing.{at, Reads, cut, overBy, whole-head, other, word-at, name-whole, mark-at, mark-none, mark-sound, mark-complete, name-sound, name-complete, number-sound, number-complete, mark-one, mark-two, name-one, number-one}
 
 -- ---- what is read spells an operand

@@ -14,7 +14,7 @@ use Rattle.statement.specs.declared.Opcode.{Opcode}
 use Rattle.statement.specs.declared.Reading.the-variants.{Got, NoForm, TooLarge}
 use Rattle.statement.specs.Forms.{word, Whole}
 use Rattle.statement.specs.Reading.{opcodeLen, readOf, reasonOf, registersOf}
-use Rattle.statement.specs.Spells.{Spells, sized}
+use Rattle.grammar.specs.Spells.{Spells, sized}
 use Rattle.statement.specs.Canonical.{textOf, given}
 
 -- ---- reading is exact
