@@ -20,21 +20,21 @@ use Rattle.statement.specs.declared.Opcode.the-variants.{Mov32, Mov64, Alloc, D
 use Rattle.statement.specs.declared.Found.{Found}
 use Rattle.statement.specs.declared.Found.the-variants.{Is, Nothing}
 use Rattle.statement.specs.declared.Reading.the-variants.{Got, NoForm, TooLarge}
-use Rattle.statement.specs.Forms.{word, Slot, name, number, inBrackets, address, operand, names, Value, Values, max32, max64, row, Whole, make}
+use Rattle.statement.specs.Forms.{word, Slot, name, number, inBrackets, address, operand, names, Value, Values, max32, row, Whole, make}
 use Rattle.statement.specs.Opcodes.{recognise}
 use Rattle.statement.specs.Reading.{operandsC, start, wholeBy, opcodeLen, wholeC, answerOf, readOf, reasonOf, registersOf}
-use Rattle.statement.specs.Spells.{RowText, Spells, sized, sizedOperand}
+use Rattle.grammar.specs.Spells.{RowText, Spells, sizedSlot, sizedRow, sized}
 use Rattle.grammar.specs.Claims.{Exact}
 use Rattle.statement.proofs.Words.{recognised, recognises, clean}
 use Rattle.grammar.proofs.Lexing.{never, at, cut, run-all, run-ends}
-use Rattle.grammar.proofs.Slots.{cutSlot, fitsOperand, fitsSlot}
+use Rattle.grammar.proofs.Slots.{cutSlot}
 use Rattle.grammar.proofs.Rows.{cutRow, overRow, row-sound, row-complete, row-one}
 
 -- ---- numbers in range are read as they are
 cut-same : (limit v : ℕ) → leb v limit ≡ true → cut limit v ≡ v
 cut-same limit v h = rw h
 
-cut-slot : (k : Slot) (v : Value k) → fitsSlot k v ≡ true → cutSlot k v ≡ v
+cut-slot : (k : Slot) (v : Value k) → sizedSlot k v ≡ true → cutSlot k v ≡ v
 cut-slot name v h = refl
 cut-slot (number limit) v h = cut-same limit v h
 cut-slot inBrackets v h = refl
@@ -45,15 +45,15 @@ cut-slot names v h = refl
 
 over-stays : (ks : List Slot) (vs : Values ks) → overRow ks vs true ≡ true
 over-stays [] vs = refl
-over-stays (k ∷ ks) vs = go (fitsSlot k (vs .0)) (over-stays ks (vs .1))
+over-stays (k ∷ ks) vs = go (sizedSlot k (vs .0)) (over-stays ks (vs .1))
   where
     go : (b : Bool) → overRow ks (vs .1) true ≡ true → overRow ks (vs .1) (pick b true true) ≡ true
     go true h = h
     go false h = h
 
 -- where none is too large, the first is in range, and so are the others
-pub over-none : (k : Slot) (ks : List Slot) (vs : Values (k ∷ ks)) (o : Bool) → overRow (k ∷ ks) vs o ≡ false → (fitsSlot k (vs .0) ≡ true) × (overRow ks (vs .1) o ≡ false)
-over-none k ks vs o h = go (fitsSlot k (vs .0)) h
+pub over-none : (k : Slot) (ks : List Slot) (vs : Values (k ∷ ks)) (o : Bool) → overRow (k ∷ ks) vs o ≡ false → (sizedSlot k (vs .0) ≡ true) × (overRow ks (vs .1) o ≡ false)
+over-none k ks vs o h = go (sizedSlot k (vs .0)) h
   where
     go : (b : Bool) → overRow ks (vs .1) (pick b o true) ≡ false → (b ≡ true) × (overRow ks (vs .1) o ≡ false)
     go true g = (refl, g)
@@ -67,46 +67,33 @@ cut-row (k ∷ ks) vs o h =
     e
 
 -- ---- a number is too large exactly where the statement is not sized
-sized-operand : (v : Operand) → fitsOperand v ≡ sizedOperand v
-sized-operand (operand.Descriptor n) = refl
-sized-operand (operand.Address a) = refl
+over-not : (ks : List Slot) (vs : Values ks) → overRow ks vs false ≡ not (sizedRow ks vs)
+over-not [] vs = refl
+over-not (k ∷ ks) vs = go (sizedSlot k (vs .0)) (over-not ks (vs .1))
+  where
+    go : (b : Bool) → overRow ks (vs .1) false ≡ not (sizedRow ks (vs .1)) → overRow ks (vs .1) (pick b false true) ≡ not (b && sizedRow ks (vs .1))
+    go true h = h
+    go false h = over-stays ks (vs .1)
 
-over-one : (b : Bool) → pick b false true ≡ not b
-over-one true = refl
-over-one false = refl
-
-over-two : (a b : Bool) → pick b (pick a false true) true ≡ not (a && (b && true))
-over-two true true = refl
-over-two true false = refl
-over-two false true = refl
-over-two false false = refl
-
-over-three : (a b c : Bool) → pick c (pick b (pick a false true) true) true ≡ not (a && (b && c))
-over-three true true true = refl
-over-three true true false = refl
-over-three true false true = refl
-over-three true false false = refl
-over-three false true true = refl
-over-three false true false = refl
-over-three false false true = refl
-over-three false false false = refl
+made-sized : (o : Opcode) (vs : Values (row o)) → sized (make o vs .statement) ≡ sizedRow (row o) vs
+unfolding sized
+made-sized Mov32 vs = refl
+made-sized Mov64 vs = refl
+made-sized (Alloc shared) vs = refl
+made-sized Dealloc vs = refl
+made-sized Relinquish vs = refl
+made-sized (Load shape num) vs = refl
+made-sized (Store shape num) vs = refl
+made-sized WaitLoad vs = refl
+made-sized WaitStore vs = refl
+made-sized FenceBefore vs = refl
+made-sized FenceAfter vs = refl
+made-sized (Multiply ws false kind) vs = refl
+made-sized (Multiply ws true kind) vs = refl
+made-sized Exit vs = refl
 
 pub over-sized : (o : Opcode) (vs : Values (row o)) → overRow (row o) vs false ≡ not (sized (make o vs .statement))
-unfolding sized
-over-sized Mov32 vs = over-one (leb (vs .1 .0) max32)
-over-sized Mov64 vs = over-one (leb (vs .1 .0) max64)
-over-sized (Alloc shared) vs = over-one (leb (vs .1 .0) max32)
-over-sized Dealloc vs = over-one (leb (vs .1 .0) max32)
-over-sized Relinquish vs = refl
-over-sized (Load shape num) vs = over-one (leb (vs .1 .0 .offset) max32)
-over-sized (Store shape num) vs = over-one (leb (vs .0 .offset) max32)
-over-sized WaitLoad vs = refl
-over-sized WaitStore vs = refl
-over-sized FenceBefore vs = refl
-over-sized FenceAfter vs = refl
-over-sized (Multiply ws false kind) vs = rw (sized-operand (vs .1 .0)) (over-two (leb (vs .0 .offset) max32) (sizedOperand (vs .1 .0)))
-over-sized (Multiply ws true kind) vs = rw (sized-operand (vs .1 .0)) (over-three (leb (vs .0 .offset) max32) (sizedOperand (vs .1 .0)) (leb (vs .1 .1 .1 .0 .offset) max32))
-over-sized Exit vs = refl
+over-sized o vs = over-not (row o) vs ∙ ap not (sym (made-sized o vs))
 
 -- ---- the opcode
 module _ (o : Opcode) (rest : List ℕ) (ends : runLen opcodeByte rest ≡ 0) where

@@ -13,7 +13,7 @@ use Rattle.tokens.specs.Bytes.{pick, between, letter, wordByte, blank, runLen, 
 use Rattle.tokens.specs.Names.{sigil, isName, packed, noName}
 use Rattle.tokens.specs.Numbers.{digitOf, isDigit, hexMark, someDigits, zeroLed, isNumber, valueOf}
 use Rattle.tokens.specs.Cursors.{Rest, on, off, large, Took, markHere, markC, endC, nameHere, nameC, numberIs, numberHere, numberC}
-use Rattle.statement.specs.Spells.{spaces, Mark, Word, NameText, NumberText}
+use Rattle.grammar.specs.Spells.{spaces, Mark, Word, NameText, NumberText}
 
 -- ---- tests
 pub both : (a b : Bool) → (a && b) ≡ true → (a ≡ true) × (b ≡ true)

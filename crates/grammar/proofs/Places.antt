@@ -22,7 +22,7 @@ use Rattle.statement.specs.declared.Reading.the-variants.{Got, NoForm, TooLarge
 use Rattle.statement.specs.Forms.{Slot, name, number, inBrackets, address, operand, names, max32, row, Whole, word, make}
 use Rattle.statement.specs.Opcodes.{recognise}
 use Rattle.statement.specs.Reading.{inBracketsC, offsetC, insideC, addressC, operandC, moreC, namesC, slotC, moreRowC, rowC, operandsC, start, opcodeLen, wholeBy, wholeC, answerOf, readOf}
-use Rattle.statement.specs.Spells.{Spells, sized}
+use Rattle.grammar.specs.Spells.{Spells, sized}
 use Rattle.grammar.specs.Claims.{After, here, past, Stops, Place, Over, One}
 use Rattle.statement.proofs.Words.{recognised, recognises}
 use Rattle.grammar.proofs.Rows.{row-sound}

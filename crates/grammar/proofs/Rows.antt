@@ -7,9 +7,9 @@ use Rattle.tokens.specs.Bytes.{blank}
 use Rattle.tokens.specs.Cursors.{Rest, markC}
 use Rattle.statement.specs.Forms.{Slot, Values}
 use Rattle.statement.specs.Reading.{slotC, moreRowC, rowC}
-use Rattle.statement.specs.Spells.{MoreRow, RowText}
+use Rattle.grammar.specs.Spells.{MoreRow, RowText, sizedSlot}
 use Rattle.grammar.proofs.Lexing.{at, Reads, overBy, mark-sound, mark-complete, mark-one, end-sound, end-complete}
-use Rattle.grammar.proofs.Slots.{cutSlot, fitsSlot, slot-sound, slot-complete, slot-one}
+use Rattle.grammar.proofs.Slots.{cutSlot, slot-sound, slot-complete, slot-one}
 
 -- ---- what is read to the end spells values
 more-sound : (ks : List Slot) (r : Rest) → moreRowC ks r .next .ok ≡ true → (r .ok ≡ true) × (vs : Values ks) × MoreRow ks vs (r .rest)
@@ -39,14 +39,14 @@ cutRow (k ∷ ks) v = (cutSlot k (v .0), cutRow ks (v .1))
 -- whether a number of the row, or one before it, was too large
 abbrev pub overRow : (ks : List Slot) → Values ks → Bool → Bool
 overRow [] v o = o
-overRow (k ∷ ks) v o = overRow ks (v .1) (overBy (fitsSlot k (v .0)) o)
+overRow (k ∷ ks) v o = overRow ks (v .1) (overBy (sizedSlot k (v .0)) o)
 
 more-complete : (ks : List Slot) (vs : Values ks) (l : List ℕ) (o : Bool) (f : List ℕ) → MoreRow ks vs l → Reads (moreRowC ks (at l o f)) (cutRow ks vs) [] (overRow ks vs o)
 unfolding moreRowC blank
 more-complete [] vs l o f t = record { far = f; is = rw (end-complete l o f t) }
 more-complete (k ∷ ks) vs l o f t =
     let p = slot-complete k (vs .0) (t .0) (t .1) o f (t .3) in
-    let i = more-complete ks (vs .1) (t .1) (overBy (fitsSlot k (vs .0)) o) (p .far) (t .4) in
+    let i = more-complete ks (vs .1) (t .1) (overBy (sizedSlot k (vs .0)) o) (p .far) (t .4) in
     record { far = i .far; is = rw (mark-complete 44 l (t .0) o f refl (t .2), p .is, i .is) }
 
 pub row-complete : (ks : List Slot) (vs : Values ks) (l : List ℕ) (o : Bool) (f : List ℕ) → RowText ks vs l → Reads (rowC ks (at l o f)) (cutRow ks vs) [] (overRow ks vs o)
@@ -54,7 +54,7 @@ unfolding rowC
 row-complete [] vs l o f t = record { far = f; is = rw (end-complete l o f t) }
 row-complete (k ∷ ks) vs l o f t =
     let p = slot-complete k (vs .0) l (t .0) o f (t .1) in
-    let i = more-complete ks (vs .1) (t .0) (overBy (fitsSlot k (vs .0)) o) (p .far) (t .2) in
+    let i = more-complete ks (vs .1) (t .0) (overBy (sizedSlot k (vs .0)) o) (p .far) (t .2) in
     record { far = i .far; is = rw (p .is, i .is) }
 
 -- ---- one reading

@@ -15,7 +15,7 @@ use Rattle.statement.specs.declared.Operand.{Operand}
 use Rattle.statement.specs.declared.Operand.the-variants as operand
 use Rattle.statement.specs.Forms.{Slot, name, number, inBrackets, address, operand, names, Value, max32}
 use Rattle.statement.specs.Reading.{inBracketsC, offsetC, insideC, addressC, operandC, moreC, namesC, slotC}
-use Rattle.statement.specs.Spells.{Mark, NameText, BracketText, OffsetText, bare, plus, AddressText, OperandText, byName, byAddress, MoreNames, closes, comma, NamesText, opens, SlotText}
+use Rattle.grammar.specs.Spells.{Mark, NameText, BracketText, OffsetText, bare, plus, AddressText, OperandText, byName, byAddress, MoreNames, closes, comma, NamesText, opens, SlotText, sizedOperand, sizedSlot}
 use Rattle.grammar.proofs.Lexing.{at, Reads, cut, overBy, whole-head, other, word-at, name-whole, mark-at, mark-none, mark-sound, mark-complete, name-sound, name-complete, number-sound, number-complete, mark-one, mark-two, name-one, number-one}
 
 -- ---- what is read spells an operand
@@ -146,19 +146,6 @@ cutSlot address v = cutAddress v
 cutSlot operand v = cutOperand v
 cutSlot names v = v
 
--- each number of the operand is in range
-abbrev pub fitsOperand : Operand → Bool
-fitsOperand (operand.Descriptor n) = true
-fitsOperand (operand.Address a) = leb (a .offset) max32
-
-abbrev pub fitsSlot : (k : Slot) → Value k → Bool
-fitsSlot name v = true
-fitsSlot (number limit) v = leb v limit
-fitsSlot inBrackets v = true
-fitsSlot address v = leb (v .offset) max32
-fitsSlot operand v = fitsOperand v
-fitsSlot names v = true
-
 -- where the mark x comes, no other mark is read
 mark-other : (m x : ℕ) (l r : List ℕ) (o : Bool) (f : List ℕ) → blank x ≡ false → Mark x l r → eqb x m ≡ false → markC m (at l o f) .ok ≡ false
 mark-other m x l r o f d k e = mark-none m x l r o f (mark-at x d k) e
@@ -206,7 +193,7 @@ address-complete : (v : Address) (l r : List ℕ) (o : Bool) (f : List ℕ) → 
 unfolding addressC blank
 address-complete v l r o f k = rw (mark-complete 91 l (k .l₁) o f refl (k .opens)) (inside-complete v (k .l₁) r o f (inner-part v l r k))
 
-operand-complete : (v : Operand) (l r : List ℕ) (o : Bool) (f : List ℕ) → OperandText v l r → Reads (operandC (at l o f)) (cutOperand v) r (overBy (fitsOperand v) o)
+operand-complete : (v : Operand) (l r : List ℕ) (o : Bool) (f : List ℕ) → OperandText v l r → Reads (operandC (at l o f)) (cutOperand v) r (overBy (sizedOperand v) o)
 unfolding operandC blank
 operand-complete (operand.Descriptor n) l r o f (byName k) = record { far = f; is = rw (name-first n l r o f k, name-complete n l r o f k) }
 operand-complete (operand.Address a) l r o f (byAddress k) =
@@ -226,7 +213,7 @@ unfolding namesC blank
 names-complete (n ∷ ns) l r o f (opens {l₁ = l₁} {l₂ = l₂} h m t i) =
     rw (mark-complete 123 l l₁ o f refl m, name-complete n l₁ l₂ o f t, more-complete 127 ns l₂ r o f h i)
 
-pub slot-complete : (k : Slot) (v : Value k) (l r : List ℕ) (o : Bool) (f : List ℕ) → SlotText k v l r → Reads (slotC k (at l o f)) (cutSlot k v) r (overBy (fitsSlot k v) o)
+pub slot-complete : (k : Slot) (v : Value k) (l r : List ℕ) (o : Bool) (f : List ℕ) → SlotText k v l r → Reads (slotC k (at l o f)) (cutSlot k v) r (overBy (sizedSlot k v) o)
 slot-complete name v l r o f t = record { far = f; is = name-complete v l r o f t }
 slot-complete (number limit) v l r o f t = number-complete limit v l r o f t
 slot-complete inBrackets v l r o f t = record { far = f; is = bracket-complete v l r o f t }

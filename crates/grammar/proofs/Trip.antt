@@ -24,11 +24,10 @@ use Rattle.statement.specs.declared.Opcode.the-variants.{Mov32, Mov64, Alloc, D
 use Rattle.statement.specs.declared.Reading.the-variants.{Got}
 use Rattle.statement.specs.Forms.{Slot, name, number, inBrackets, address, operand, names, Value, Values, max32, row, Whole, plain, make}
 use Rattle.statement.specs.Reading.{readOf, registersOf}
-use Rattle.statement.specs.Spells.{spaces, Mark, NameText, NumberText, BracketText, OffsetText, bare, plus, AddressText, OperandText, byName, byAddress, MoreNames, closes, comma, NamesText, opens, SlotText, MoreRow, RowText, Spells, sized}
+use Rattle.grammar.specs.Spells.{spaces, Mark, NameText, NumberText, BracketText, OffsetText, bare, plus, AddressText, OperandText, byName, byAddress, MoreNames, closes, comma, NamesText, opens, SlotText, MoreRow, RowText, Spells, sizedOperand, sizedSlot, sized}
 use Rattle.statement.specs.Canonical.{sparse, opcodeOf, mmaValues, valuesOf, offsetText, addressText, operandText, moreNamesText, namesText, slotText, moreRowText, rowText, textOf, allNames, addressGiven, operandGiven, slotGiven, rowGiven, countOf, given}
 use Rattle.grammar.specs.Claims.{Reads, Trip, Writable, Canonical}
 use Rattle.grammar.proofs.Lexing.{both, never}
-use Rattle.grammar.proofs.Slots.{fitsOperand, fitsSlot}
 use Rattle.grammar.proofs.Rows.{overRow}
 use Rattle.grammar.proofs.Exact.{over-none, over-sized, exact}
 use Rattle.grammar.proofs.Back.{packed-given, decimal-number, decimal-value}
@@ -234,7 +233,7 @@ name-given v l r t = rw (← t .value) (packed-given (t .bytes) (t .good))
 address-given : (v : Address) (l r : List ℕ) → AddressText v l r → leb (v .offset) max32 ≡ true → addressGiven v ≡ true
 address-given v l r t h = rw (name-given (v .base) (t .l₁) (t .l₂) (t .base), h)
 
-operand-given : (v : Operand) (l r : List ℕ) → OperandText v l r → fitsOperand v ≡ true → operandGiven v ≡ true
+operand-given : (v : Operand) (l r : List ℕ) → OperandText v l r → sizedOperand v ≡ true → operandGiven v ≡ true
 operand-given (operand.Descriptor n) l r (byName t) h = name-given n l r t
 operand-given (operand.Address a) l r (byAddress t) h = address-given a l r t h
 
@@ -248,7 +247,7 @@ names-given (n ∷ ns) l r (opens {l₁ = l₁} {l₂ = l₂} h m t i) =
     let b : suc (length ns) ≤ 128 = omega arith in
     rw (lt-ltb 0 (suc (length ns)) a, le-leb (suc (length ns)) 128 b, name-given n l₁ l₂ t) (more-given ns l₂ r i)
 
-slot-given : (k : Slot) (v : Value k) (l r : List ℕ) → SlotText k v l r → fitsSlot k v ≡ true → slotGiven k v ≡ true
+slot-given : (k : Slot) (v : Value k) (l r : List ℕ) → SlotText k v l r → sizedSlot k v ≡ true → slotGiven k v ≡ true
 slot-given name v l r t h = name-given v l r t
 slot-given (number limit) v l r t h = h
 slot-given inBrackets v l r t h = name-given v (t .l₁) (t .l₂) (t .inner)
@@ -294,7 +293,7 @@ spells-given w text t h =
     rw (← t .made) (made-given (t .opcode) (t .values) (row-given (row (t .opcode)) (t .values) (t .rest) false (t .operands) e))
 
 -- ---- the numbers of a statement that can be written are in range
-slot-fits : (k : Slot) (v : Value k) → slotGiven k v ≡ true → fitsSlot k v ≡ true
+slot-fits : (k : Slot) (v : Value k) → slotGiven k v ≡ true → sizedSlot k v ≡ true
 slot-fits name v h = refl
 slot-fits (number limit) v h = h
 slot-fits inBrackets v h = refl

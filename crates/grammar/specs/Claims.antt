@@ -8,13 +8,16 @@ use lib.ListN.{length, take, drop}
 use Rattle.tokens.specs.declared.Name.{Name}
 use Rattle.tokens.specs.Bytes.{wordByte, runLen, tokenOf, afterToken}
 use Rattle.tokens.specs.Names.{isName, packed}
-use Rattle.tokens.specs.Numbers.{isNumber}
+use Rattle.tokens.specs.Numbers.{isNumber, decimal}
 use Rattle.statement.specs.declared.Statement.{Statement}
 use Rattle.statement.specs.declared.Opcode.{Opcode}
 use Rattle.statement.specs.declared.Reading.the-variants.{Got, NoForm, TooLarge}
-use Rattle.statement.specs.Forms.{word, Whole}
+use Rattle.statement.specs.declared.Num.{Num}
+use Rattle.statement.specs.Text.{bytes}
+use Rattle.statement.specs.Forms.{numText, word, Whole}
+use Rattle.statement.specs.Cells.{times}
 use Rattle.statement.specs.Reading.{opcodeLen, readOf, reasonOf, registersOf}
-use Rattle.statement.specs.Spells.{Spells, sized}
+use Rattle.grammar.specs.Spells.{Spells, sized}
 use Rattle.statement.specs.Canonical.{textOf, given}
 
 -- ---- reading is exact
@@ -108,3 +111,5 @@ pub record Theorems : Type 0 where
   pub one : (fits : Statement → Bool) (text : List ℕ) → One fits text
   -- Names that are held as equal numbers have the same bytes: so two statements are equal exactly when forms, numbers and the bytes of names are.
   pub names : (v w : List ℕ) → isName v ≡ true → isName w ≡ true → packed v ≡ packed w → v ≡ w
+  -- NUM is spelled as `.x` and the decimal of the N that it stands for.
+  pub nums : (n : Num) → numText n ≡ bytes ".x" ++ decimal (times n)

@@ -1,14 +1,31 @@
--- Worked examples, as tables: texts with their reasons, with places, and with canonical texts. Assumes nothing.
+-- Worked examples, as tables: texts with their reasons, with the typed statements that they read as, with places, and with canonical texts.
+-- Assumes nothing.
 use Prim.Native.Nat.{ℕ}
 use Prim.Native.String.{String}
 use mathlib.Core.Path.{_≡_}
 use mathlib.Core.List.{List, [], _∷_}
+use mathlib.Core.Bool.{Bool, true, false}
+use Rattle.instruction.specs.declared.Kind.{Kind}
+use Rattle.instruction.specs.declared.Kind.the-variants.{F16, Tf32, F8f6f4, I8}
 use Rattle.tokens.specs.declared.Name.{Name}
+use Rattle.tokens.specs.Names.{packed}
+use Rattle.statement.specs.declared.Shape.{Shape}
+use Rattle.statement.specs.declared.Shape.the-variants.{S32x32, S16x64, S16x128, S16x256}
+use Rattle.statement.specs.declared.Num.{Num}
+use Rattle.statement.specs.declared.Num.the-variants.{X1, X2, X4, X8, X16, X32, X64, X128}
+use Rattle.statement.specs.declared.Address.{Address}
+use Rattle.statement.specs.declared.Operand.{Operand}
+use Rattle.statement.specs.declared.Operand.the-variants as operand
+use Rattle.statement.specs.declared.Metadata.{Metadata}
+use Rattle.statement.specs.declared.Metadata.the-variants.{Dense, Sparse}
+use Rattle.statement.specs.declared.Statement.{Statement}
+use Rattle.statement.specs.declared.Statement.the-variants.{Mov32, Mov64, Alloc, Dealloc, Relinquish, Load, Store, WaitLoad, WaitStore, FenceBefore, FenceAfter, Multiply, Exit}
 use Rattle.statement.specs.declared.Reading.{Reading}
 use Rattle.statement.specs.declared.Reading.the-variants.{Got, NoForm, TooLarge}
 use Rattle.statement.specs.Text.{bytes}
 use Rattle.statement.specs.Reading.{readOf, reasonOf, registersOf}
 use Rattle.statement.specs.Canonical.{textOf}
+use Rattle.grammar.specs.Claims.{Reads}
 
 -- what a text reads as, written: nothing if it does not read
 abbrev pub writtenBy : Reading → List Name → List ℕ
@@ -19,6 +36,8 @@ writtenBy (TooLarge at) regs = []
 pub data Example : Type 0 where
   -- this text has this reason, 0 if it reads
   gives : String → ℕ → Example
+  -- this text reads as this statement with these names of registers
+  reads : String → Statement → List Name → Example
   -- no form matches this text, from this place on
   stops : String → ℕ → Example
   -- the number at this place of this text is too large
@@ -28,6 +47,7 @@ pub data Example : Type 0 where
 
 abbrev pub Holds : Example → Type 0
 Holds (gives text reason) = reasonOf (readOf (bytes text)) ≡ reason
+Holds (reads text t regs) = Reads (bytes text) t regs
 Holds (stops text at) = readOf (bytes text) ≡ NoForm at
 Holds (over text at) = readOf (bytes text) ≡ TooLarge at
 Holds (writes text other) = writtenBy (readOf (bytes text)) (registersOf (bytes text)) ≡ bytes other
@@ -36,7 +56,7 @@ abbrev pub All : List Example → Type 0
 All [] = Unit {0}
 All (e ∷ l) = Holds e × All l
 
--- Spaces may stand between tokens, and need not. (A-01, A-03, A-04)
+-- Spaces may stand between tokens, and need not.
 abbrev pub spaces : List Example
 spaces =
     gives "exit;" 0 ∷
@@ -50,7 +70,7 @@ spaces =
     gives "exit; " 3 ∷
     []
 
--- A run of word bytes is one token, and names have up to 16 bytes. (A-02, A-14, A-15)
+-- A run of word bytes is one token, and names have up to 16 bytes.
 abbrev pub words : List Example
 words =
     gives "mov.b32 x, 64abc;" 3 ∷
@@ -73,7 +93,7 @@ words =
     gives "mov.b32 exit, 1;" 0 ∷
     []
 
--- Numbers: no leading zero, hex of either case, 4 by value, and 3 before 4. (A-09, A-18, A-22)
+-- Numbers: no leading zero, hex of either case, 4 by value, and 3 before 4.
 abbrev pub numbers : List Example
 numbers =
     gives "mov.b32 x, 0;" 0 ∷
@@ -97,7 +117,7 @@ numbers =
     gives "tcgen05.alloc.cta_group::1.sync.aligned.b32 [t], 4294967296;" 4 ∷
     []
 
--- Forms. (A-13, A-16, A-17, A-19, A-20, A-21)
+-- Forms.
 abbrev pub forms : List Example
 forms =
     gives "" 3 ∷
@@ -120,6 +140,70 @@ forms =
     gives "@p exit;" 3 ∷
     []
 
+-- Each form, with its typed statement.
+abbrev pub named : String → Name
+named text = packed (bytes text)
+
+abbrev pub past : String → ℕ → Address
+past text offset = record { base = named text; offset = offset }
+
+abbrev pub typed : List Example
+typed =
+    reads "mov.b32 x, 7;" (Mov32 (named "x") 7) [] ∷
+    reads "mov.b64 x, 7;" (Mov64 (named "x") 7) [] ∷
+    reads "tcgen05.alloc.cta_group::1.sync.aligned.b32 [t], 64;" (Alloc (named "t") 64) [] ∷
+    reads "tcgen05.dealloc.cta_group::1.sync.aligned.b32 t, 64;" (Dealloc (named "t") 64) [] ∷
+    reads "tcgen05.relinquish_alloc_permit.cta_group::1.sync.aligned;" Relinquish [] ∷
+    reads "tcgen05.wait::ld.sync.aligned;" WaitLoad [] ∷
+    reads "tcgen05.wait::st.sync.aligned;" WaitStore [] ∷
+    reads "tcgen05.fence::before_thread_sync;" FenceBefore [] ∷
+    reads "tcgen05.fence::after_thread_sync;" FenceAfter [] ∷
+    reads "exit;" Exit [] ∷
+    []
+
+-- Each SHAPE and each NUM, of ld and st. The registers stand in the order of the text.
+abbrev pub loads : Shape → Num → Statement
+loads shape num = Load (record { shape = shape; num = num; registers = 2; address = past "t" 3 })
+
+abbrev pub stores : Shape → Num → Statement
+stores shape num = Store (record { shape = shape; num = num; registers = 2; address = past "t" 3 })
+
+abbrev pub both : List Name
+both = named "r0" ∷ named "r1" ∷ []
+
+abbrev pub accesses : List Example
+accesses =
+    reads "tcgen05.ld.sync.aligned.32x32b.x1.b32 {r0, r1}, [t+3];" (loads S32x32 X1) both ∷
+    reads "tcgen05.ld.sync.aligned.16x64b.x2.b32 {r0, r1}, [t+3];" (loads S16x64 X2) both ∷
+    reads "tcgen05.ld.sync.aligned.16x128b.x4.b32 {r0, r1}, [t+3];" (loads S16x128 X4) both ∷
+    reads "tcgen05.ld.sync.aligned.16x256b.x8.b32 {r0, r1}, [t+3];" (loads S16x256 X8) both ∷
+    reads "tcgen05.ld.sync.aligned.32x32b.x16.b32 {r0, r1}, [t+3];" (loads S32x32 X16) both ∷
+    reads "tcgen05.ld.sync.aligned.16x64b.x32.b32 {r0, r1}, [t+3];" (loads S16x64 X32) both ∷
+    reads "tcgen05.ld.sync.aligned.16x128b.x64.b32 {r0, r1}, [t+3];" (loads S16x128 X64) both ∷
+    reads "tcgen05.ld.sync.aligned.16x256b.x128.b32 {r0, r1}, [t+3];" (loads S16x256 X128) both ∷
+    reads "tcgen05.st.sync.aligned.16x256b.x1.b32 [t+3], {r0, r1};" (stores S16x256 X1) both ∷
+    reads "tcgen05.st.sync.aligned.16x128b.x2.b32 [t+3], {r0, r1};" (stores S16x128 X2) both ∷
+    reads "tcgen05.st.sync.aligned.16x64b.x4.b32 [t+3], {r0, r1};" (stores S16x64 X4) both ∷
+    reads "tcgen05.st.sync.aligned.32x32b.x8.b32 [t+3], {r0, r1};" (stores S32x32 X8) both ∷
+    reads "tcgen05.st.sync.aligned.16x256b.x16.b32 [t+3], {r0, r1};" (stores S16x256 X16) both ∷
+    reads "tcgen05.st.sync.aligned.16x128b.x32.b32 [t+3], {r0, r1};" (stores S16x128 X32) both ∷
+    reads "tcgen05.st.sync.aligned.16x64b.x64.b32 [t+3], {r0, r1};" (stores S16x64 X64) both ∷
+    reads "tcgen05.st.sync.aligned.32x32b.x128.b32 [t+3], {r0, r1};" (stores S32x32 X128) both ∷
+    []
+
+-- Each kind of mma, with .ws and .sp or not, a descriptor or an address.
+abbrev pub multiplies : Bool → Kind → Operand → Metadata → Statement
+multiplies ws kind a metadata = Multiply (record { ws = ws; kind = kind; d = past "d" 1; a = a; b = named "b"; metadata = metadata; idesc = named "i"; predicate = named "p" })
+
+abbrev pub mmas : List Example
+mmas =
+    reads "tcgen05.mma.cta_group::1.kind::f16 [d+1], a, b, i, p;" (multiplies false F16 (operand.Descriptor (named "a")) Dense) [] ∷
+    reads "tcgen05.mma.cta_group::1.kind::tf32 [d+1], [a+2], b, i, p;" (multiplies false Tf32 (operand.Address (past "a" 2)) Dense) [] ∷
+    reads "tcgen05.mma.ws.cta_group::1.kind::f8f6f4 [d+1], a, b, i, p;" (multiplies true F8f6f4 (operand.Descriptor (named "a")) Dense) [] ∷
+    reads "tcgen05.mma.sp.cta_group::1.kind::i8 [d+1], a, b, [m+3], i, p;" (multiplies false I8 (operand.Descriptor (named "a")) (Sparse (past "m" 3))) [] ∷
+    reads "tcgen05.mma.ws.sp.cta_group::1.kind::f16 [d+1], [a+2], b, [m+3], i, p;" (multiplies true F16 (operand.Address (past "a" 2)) (Sparse (past "m" 3))) [] ∷
+    []
+
 -- The place of 3 is that of the first token at which no form can go on, of 4 that of the first number too large.
 abbrev pub places : List Example
 places =
@@ -129,6 +213,13 @@ places =
     over "mov.b32 x, 4294967296;" 11 ∷
     stops "tcgen05.ld.sync.aligned.32x32b.x1.b32 {r0, 5}, [t];" 43 ∷
     stops "exit" 4 ∷
+    stops "" 0 ∷
+    stops " exit;" 0 ∷
+    stops "exit; " 5 ∷
+    stops "exit; exit;" 5 ∷
+    stops "mov.b32 rrrrrrrrrrrrrrrrr, 1;" 8 ∷
+    stops "mov.b32 %, 1;" 8 ∷
+    stops "tcgen05.ld.sync.aligned.32x32b.x128.b32 {r,r,r,r,r,r,r,r,r,r,r,r,r,r,r,r,r,r,r,r,r,r,r,r,r,r,r,r,r,r,r,r,r,r,r,r,r,r,r,r,r,r,r,r,r,r,r,r,r,r,r,r,r,r,r,r,r,r,r,r,r,r,r,r,r,r,r,r,r,r,r,r,r,r,r,r,r,r,r,r,r,r,r,r,r,r,r,r,r,r,r,r,r,r,r,r,r,r,r,r,r,r,r,r,r,r,r,r,r,r,r,r,r,r,r,r,r,r,r,r,r,r,r,r,r,r,r,r,r}, [t];" 296 ∷
     []
 
 -- One space after the opcode and after each comma, decimals, no +0, no .shared::cta.
@@ -141,3 +232,11 @@ canonicals =
     writes "tcgen05.mma.ws.sp.cta_group::1.kind::i8 [d+0x10],[a],b,[m+1],i,p ;" "tcgen05.mma.ws.sp.cta_group::1.kind::i8 [d+16], [a], b, [m+1], i, p;" ∷
     writes "tcgen05.wait::ld.sync.aligned ;" "tcgen05.wait::ld.sync.aligned;" ∷
     []
+
+-- ---- the claim: each example of each table holds
+abbrev pub tables : List (List Example)
+tables = spaces ∷ words ∷ numbers ∷ forms ∷ typed ∷ accesses ∷ mmas ∷ places ∷ canonicals ∷ []
+
+abbrev pub AllOf : List (List Example) → Type 0
+AllOf [] = Unit {0}
+AllOf (t ∷ l) = All t × AllOf l

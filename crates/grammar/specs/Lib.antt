@@ -1,2 +1,3 @@
+pub mod Spells
 pub mod Claims
 pub mod Examples

@@ -4,5 +4,4 @@ pub mod Forms
 pub mod Cells
 pub mod Opcodes
 pub mod Reading
-pub mod Spells
 pub mod Canonical

@@ -10,15 +10,13 @@ use Rattle.tokens.specs.declared.Name.{Name}
 use Rattle.tokens.specs.Bytes.{wordByte, opcodeByte, runLen}
 use Rattle.tokens.specs.Names.{isName, packed}
 use Rattle.tokens.specs.Numbers.{isNumber, valueOf}
 use Rattle.statement.specs.declared.Address.{Address}
 use Rattle.statement.specs.declared.Operand.{Operand}
 use Rattle.statement.specs.declared.Operand.the-variants as operand
-use Rattle.statement.specs.declared.Metadata.{Metadata}
-use Rattle.statement.specs.declared.Metadata.the-variants.{Dense, Sparse}
 use Rattle.statement.specs.declared.Statement.{Statement}
-use Rattle.statement.specs.declared.Statement.the-variants.{Mov32, Mov64, Alloc, Dealloc, Relinquish, Load, Store, WaitLoad, WaitStore, FenceBefore, FenceAfter, Multiply, Exit}
 use Rattle.statement.specs.declared.Opcode.{Opcode}
-use Rattle.statement.specs.Forms.{word, Slot, name, number, inBrackets, address, operand, names, Value, Values, max32, max64, row, Whole, make}
+use Rattle.statement.specs.Forms.{word, Slot, name, number, inBrackets, address, operand, names, Value, Values, max32, row, Whole, make}
+use Rattle.statement.specs.Canonical.{opcodeOf, valuesOf}
 
 abbrev pub spaces : ℕ → List ℕ
 spaces zero = []
@@ -111,26 +109,23 @@ pub record Spells (whole : Whole) (text : List ℕ) : Type 0 where
   pub operands : RowText (row opcode) values rest
   pub made : make opcode values ≡ whole
 
+-- ---- each number is in range, as the slots of the row say
 abbrev pub sizedOperand : Operand → Bool
 sizedOperand (operand.Descriptor n) = true
 sizedOperand (operand.Address a) = leb (a .offset) max32
 
-abbrev pub sizedMetadata : Metadata → Bool
-sizedMetadata Dense = true
-sizedMetadata (Sparse a) = leb (a .offset) max32
+abbrev pub sizedSlot : (k : Slot) → Value k → Bool
+sizedSlot name v = true
+sizedSlot (number limit) v = leb v limit
+sizedSlot inBrackets v = true
+sizedSlot address v = leb (v .offset) max32
+sizedSlot operand v = sizedOperand v
+sizedSlot names v = true
 
--- each number is in range
+abbrev pub sizedRow : (ks : List Slot) → Values ks → Bool
+sizedRow [] v = true
+sizedRow (k ∷ ks) v = sizedSlot k (v .0) && sizedRow ks (v .1)
+
+-- of a statement (its registers have no numbers)
 unfoldable pub sized : Statement → Bool
-sized (Mov32 n v) = leb v max32
-sized (Mov64 n v) = leb v max64
-sized (Alloc n v) = leb v max32
-sized (Dealloc n v) = leb v max32
-sized Relinquish = true
-sized (Load a) = leb (a .address .offset) max32
-sized (Store a) = leb (a .address .offset) max32
-sized WaitLoad = true
-sized WaitStore = true
-sized FenceBefore = true
-sized FenceAfter = true
-sized (Multiply m) = leb (m .d .offset) max32 && (sizedOperand (m .a) && sizedMetadata (m .metadata))
-sized Exit = true
+sized t = sizedRow (row (opcodeOf t)) (valuesOf t [])
