@@ -13,7 +13,11 @@ ghost use Rattle.canonical.specs.Alone.{countReason, aloneReason, rewrit
 fn count_reason(t: Statement) -> u32
     ensures { λ r. ⌜ r ≡ countReason t ⌝ }
 {
-    if cells::is_counted(t) { reasons::PASSED } else { reasons::REGISTERS }
+    if cells::is_counted(t) {
+        reasons::PASSED
+    } else {
+        reasons::REGISTERS
+    }
 }
 
 // The reason of a text: 3 or 4 if it does not read, 5 for a wrong count, else 0.

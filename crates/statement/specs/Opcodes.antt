@@ -39,8 +39,8 @@ flags = false ∷ true ∷ []
 unfoldable pub opcodes : List Opcode
 opcodes =
     Mov32 ∷ Mov64 ∷ Alloc false ∷ Alloc true ∷ Dealloc ∷ Relinquish ∷ WaitLoad ∷ WaitStore ∷ FenceBefore ∷ FenceAfter ∷ Exit ∷ (
-      each shapes (λ shape. each nums (λ num. Load shape num ∷ Store shape num ∷ []))
-      ++ each flags (λ ws. each flags (λ sp. each kinds (λ kind. Multiply ws sp kind ∷ [])))
+    each shapes (λ shape. each nums (λ num. Load shape num ∷ Store shape num ∷ []))
+    ++ each flags (λ ws. each flags (λ sp. each kinds (λ kind. Multiply ws sp kind ∷ [])))
     )
 
 -- ---- the opcode of a word

@@ -25,8 +25,7 @@ returns : tie.Need-returns
 returns c =
     let a = c .before .before .before .before .before .args in
     let x = c .before .before .read in
-    let h = rewrite-unread (now (a .room)) (length (now (a .room))) (x .result) (registersOf (now (a .text))) (unread (x .result) (c .before .match .keys2)) in
-    (
+    let h = rewrite-unread (now (a .room)) (length (now (a .room))) (x .result) (registersOf (now (a .text))) (unread (x .result) (c .before .match .keys2)) in (
       ap Refused (c .reason .ensures) ∙ (h .0 ∙ ap (λ (r : Reading). rewritten (length (now (a .room))) r (registersOf (now (a .text)))) (x .ensures)),
       h .1 ∙ ap (λ (r : Reading). leftOf (now (a .room)) r (registersOf (now (a .text)))) (x .ensures),
     )
@@ -42,8 +41,7 @@ returns-2 c =
     let c₁ = c .before .before .before .before .before .before .before in
     let a = c₁ .before .before .before .before .before .args in
     let w = c .before .before .rewrite-in in
-    let r = sym (c₁ .t .given .1) ∙ c₁ .before .before .read .ensures in
-    (
+    let r = sym (c₁ .t .given .1) ∙ c₁ .before .before .read .ensures in (
       w .ensures .0 ∙ ap (λ (x : Reading). rewritten (length (now (a .room))) x (registersOf (now (a .text)))) r,
       w .ensures .1 ∙ ap (λ (x : Reading). leftOf (now (a .room)) x (registersOf (now (a .text)))) r,
     )
