@@ -9,29 +9,35 @@ use mathlib.Core.Bool.{Bool, true, false, _&&_}
 use lib.ListN.{length, set, take, drop}
 use lib.Seq.{sets}
 use lib.Dec.{leb}
+use types.Run.{OneOf, miss}
+use denote.Enum.Declared.{tagOf}
 use borrow.Author.Tests.{leb-true, le-leb, lt-leb}
 use Rattle.tokens.specs.declared.Name.{Name}
 use Rattle.tokens.specs.declared.Cursor.{Cursor}
 use Rattle.tokens.specs.declared.NameRead.{NameRead}
 use Rattle.tokens.specs.Bytes.{pick, afterBlanks, tokenOf}
 use Rattle.tokens.specs.Numbers.{isNumber, valueOf}
-use Rattle.tokens.specs.Cursors.{Rest, seen, off, Took, markC, nameC, nameSeen, numberC}
+use Rattle.tokens.specs.Cursors.{Rest, seen, off, Took, markC, endC, nameC, nameSeen, numberC}
 use Rattle.instruction.specs.declared.Kind.{Kind}
 use Rattle.statement.specs.declared.Statement.{Statement}
 use Rattle.statement.specs.declared.Statement.the-variants.{Exit}
 use Rattle.statement.specs.declared.Opcode.{Opcode}
-use Rattle.statement.specs.declared.Opcode.the-variants.{Multiply}
+use Rattle.statement.specs.declared.Opcode.the-variants.{Mov32, Mov64, Alloc, Dealloc, Relinquish, Load, Store, WaitLoad, WaitStore, FenceBefore, FenceAfter, Multiply, Exit as ExitWord}
 use Rattle.statement.specs.declared.Found.{Found}
 use Rattle.statement.specs.declared.Found.the-variants.{Is, Nothing}
 use Rattle.statement.specs.declared.Reading.{Reading}
 use Rattle.statement.specs.declared.Reading.the-variants.{Got, NoForm}
-use Rattle.statement.specs.Forms.{Whole, plain}
+use Rattle.statement.specs.declared.Address.{Address}
+use Rattle.statement.specs.declared.Metadata.the-variants.{Dense, Sparse}
+use Rattle.statement.specs.Forms.{name, number, address, operand, Values, Whole, plain}
 use Rattle.statement.specs.Opcodes.{recognise}
-use Rattle.statement.specs.Reading.{moreC, counted, his, los, answerOf, operandsC, start, opcodeLen, wholeBy, wholeC, readOf, fine, registersOf, told}
+use Rattle.statement.specs.Reading.{moreC, counted, his, los, answerOf, addressC, moreRowC, rowC, operandsC, start, opcodeLen, wholeBy, wholeC, readOf, fine, registersOf, told}
 use Rattle.statement.proofs.Readings.{Unread}
 use Rattle.opcode.specs.declared.Head.{Head}
 use Rattle.opcode.specs.Heads.{headSeen, headBy, headOf}
+use Rattle.statement.proofs.Opcode.{the-type}
 use Rattle.reader.specs.Lists.{listC}
+use Rattle.reader.specs.Rows.{namedC, pairC, frontC, mmaC}
 
 -- ---- numbers
 under-pick : (limit : ℕ) (b : Bool) (x y : Took ℕ) → (b ≡ true → x .value ≤ limit) → y .value ≤ limit → (pick b x y) .value ≤ limit
@@ -177,7 +183,44 @@ module _ (s : List ℕ) (t : Took Whole) (answer : Reading) (short : length s �
   registers-unread h =
       rw (le-leb (length s) 4096 short, whole, not-fine-by s (t .next) (t .value .statement) (t .next .ok) (t .next .over) refl refl (λ u g. h u (told-is ∙ g)))
 
-pub list-multiply : (ws sp : Bool) (kind : Kind) (r : Rest) → listC (Multiply ws sp kind) r ≡ []
+-- every opcode but Load (5) and Store (6), by its place in the declaration
+abbrev others : List ℕ
+others = 0 ∷ 1 ∷ 2 ∷ 3 ∷ 4 ∷ 7 ∷ 8 ∷ 9 ∷ 10 ∷ 11 ∷ 12 ∷ []
+
+-- what is neither a ld nor a st names no registers
+pub list-other : (o : Opcode) (r : Rest) → OneOf others (tagOf the-type o) → listC o r ≡ []
 unfolding listC operandsC
-list-multiply ws true kind r = refl
-list-multiply ws false kind r = refl
+list-other Mov32 r h = refl
+list-other Mov64 r h = refl
+list-other (Alloc shared) r h = refl
+list-other Dealloc r h = refl
+list-other Relinquish r h = refl
+list-other (Load shape num) r h = absurd (miss others 5 tt h)
+list-other (Store shape num) r h = absurd (miss others 6 tt h)
+list-other WaitLoad r h = refl
+list-other WaitStore r h = refl
+list-other FenceBefore r h = refl
+list-other FenceAfter r h = refl
+list-other (Multiply ws false kind) r h = refl
+list-other (Multiply ws true kind) r h = refl
+list-other ExitWord r h = refl
+
+-- ---- rows
+-- a name, a comma, a number and the end are the row
+pub pair-row : (b : Bool) (limit : ℕ) (r m e : Rest) (n : Took Name) (v : Took ℕ) → n ≡ namedC b r → m ≡ markC 44 (n .next) → v ≡ numberC limit m → e ≡ endC (v .next)
+    → _≡_ {A = Took (Values (name ∷ number limit ∷ []))} (record { value = (n .value, (v .value, tt)); next = e }) (pairC b limit r)
+unfolding rowC moreRowC
+pair-row true limit r m e n v p q t u = rw (u, t, q, p)
+pair-row false limit r m e n v p q t u = rw (u, t, q, p)
+
+module _ (ws : Bool) (kind : Kind) (r : Rest) (t : Took (Values (address ∷ operand ∷ name ∷ []))) (front : t ≡ frontC r) where
+  -- with no metadata
+  pub mma-dense : mmaC ws kind (t .value .0) (t .value .1 .0) (t .value .1 .1 .0) Dense (t .next) ≡ operandsC (Multiply ws false kind) r
+  unfolding operandsC rowC moreRowC frontC mmaC
+  mma-dense = rw front
+
+  -- with the address a as metadata
+  pub mma-sparse : (m : Rest) (a : Took Address) → m ≡ markC 44 (t .next) → a ≡ addressC m
+      → mmaC ws kind (t .value .0) (t .value .1 .0) (t .value .1 .1 .0) (Sparse (a .value)) (a .next) ≡ operandsC (Multiply ws true kind) r
+  unfolding operandsC rowC moreRowC frontC mmaC
+  mma-sparse m a p q = rw (q, p, front)

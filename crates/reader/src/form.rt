@@ -1,4 +1,6 @@
 // Forms: a straight line of operands, and one answer.
+use crate::Front;
+use crate::Pair;
 use instruction::Kind;
 use statement::Access;
 use statement::Metadata;
@@ -9,10 +11,12 @@ use statement::Shape;
 use statement::Statement;
 use tokens::Cursor;
 ghost use mathlib.Core.Path.{_≡_};
-ghost use mathlib.Core.Bool.{true, false};
+ghost use mathlib.Core.Bool.{false};
+ghost use Prim.Native.Nat.{_≤_};
 ghost use Rattle.tokens.specs.Cursors.{seen, endC};
 ghost use Rattle.statement.specs.declared.Opcode.the-variants as opcode;
 ghost use Rattle.statement.specs.Reading.{answerOf, operandsC, told};
+ghost use Rattle.reader.specs.Rows.{pairC, pairSeen, frontC, frontSeen, mmaC};
 
 // No form where reading stopped, too large where a number was, else the statement.
 pub fn answer(s: &[u8], k: Cursor, t: Statement) -> Reading
@@ -36,56 +40,63 @@ pub fn bare(s: &[u8], k: Cursor, t: Statement) -> Reading
     answer(s, lexer::cursor::end(s, k), t)
 }
 
+// A name, in brackets or not, a number up to a limit, and the end.
+pub fn name_number(s: &[u8], k: Cursor, bracketed: bool, limit: u64) -> Pair
+    ensures read { λ r. ⌜ pairSeen (now (s .entry)) limit r ≡ pairC bracketed limit (seen (now (s .entry)) k) ⌝ }
+    ensures under { λ r. ⌜ r .number ≤ limit ⌝ }
+{
+    let n = crate::operand::named(s, k, bracketed);
+    let k1 = n.next;
+    let k2 = lexer::cursor::mark(s, k1, b',');
+    let v = lexer::cursor::number(s, k2, limit);
+    let k3 = v.next;
+    let next = lexer::cursor::end(s, k3);
+    let name = n.value;
+    Pair {
+        name,
+        number: v.value,
+        next,
+    }
+}
+
 pub fn mov32(s: &[u8], k: Cursor) -> Reading
     ensures { λ r. ⌜ r ≡ told (now (s .entry)) (operandsC opcode.Mov32 (seen (now (s .entry)) k)) ⌝ }
 {
-    let n = lexer::cursor::name(s, k);
-    let k1 = n.next;
-    let k2 = lexer::cursor::mark(s, k1, 44);
-    let v = crate::operand::number32(s, k2);
-    let k3 = v.next;
-    let e = lexer::cursor::end(s, k3);
-    let name = n.value;
-    answer(s, e, Statement::Mov32(name, v.value))
+    let p = name_number(s, k, false, 0xffff_ffff);
+    let n = p.name;
+    let v = p.number;
+    let e = p.next;
+    answer(s, e, Statement::Mov32(n, v as u32))
 }
 
 pub fn mov64(s: &[u8], k: Cursor) -> Reading
     ensures { λ r. ⌜ r ≡ told (now (s .entry)) (operandsC opcode.Mov64 (seen (now (s .entry)) k)) ⌝ }
 {
-    let n = lexer::cursor::name(s, k);
-    let k1 = n.next;
-    let k2 = lexer::cursor::mark(s, k1, 44);
-    let v = lexer::cursor::number(s, k2, 0xffff_ffff_ffff_ffff);
-    let k3 = v.next;
-    let e = lexer::cursor::end(s, k3);
-    let name = n.value;
-    answer(s, e, Statement::Mov64(name, v.value))
+    let p = name_number(s, k, false, 0xffff_ffff_ffff_ffff);
+    let n = p.name;
+    let v = p.number;
+    let e = p.next;
+    answer(s, e, Statement::Mov64(n, v))
 }
 
 pub fn alloc(s: &[u8], k: Cursor) -> Reading
     ensures { λ r. ⌜ r ≡ told (now (s .entry)) (operandsC (opcode.Alloc false) (seen (now (s .entry)) k)) ⌝ }
 {
-    let n = crate::operand::in_brackets(s, k);
-    let k1 = n.next;
-    let k2 = lexer::cursor::mark(s, k1, 44);
-    let v = crate::operand::number32(s, k2);
-    let k3 = v.next;
-    let e = lexer::cursor::end(s, k3);
-    let name = n.value;
-    answer(s, e, Statement::Alloc(name, v.value))
+    let p = name_number(s, k, true, 0xffff_ffff);
+    let n = p.name;
+    let v = p.number;
+    let e = p.next;
+    answer(s, e, Statement::Alloc(n, v as u32))
 }
 
 pub fn dealloc(s: &[u8], k: Cursor) -> Reading
     ensures { λ r. ⌜ r ≡ told (now (s .entry)) (operandsC opcode.Dealloc (seen (now (s .entry)) k)) ⌝ }
 {
-    let n = lexer::cursor::name(s, k);
-    let k1 = n.next;
-    let k2 = lexer::cursor::mark(s, k1, 44);
-    let v = crate::operand::number32(s, k2);
-    let k3 = v.next;
-    let e = lexer::cursor::end(s, k3);
-    let name = n.value;
-    answer(s, e, Statement::Dealloc(name, v.value))
+    let p = name_number(s, k, false, 0xffff_ffff);
+    let n = p.name;
+    let v = p.number;
+    let e = p.next;
+    answer(s, e, Statement::Dealloc(n, v as u32))
 }
 
 pub fn load(s: &[u8], k: Cursor, shape: Shape, num: Num) -> Reading
@@ -93,7 +104,7 @@ pub fn load(s: &[u8], k: Cursor, shape: Shape, num: Num) -> Reading
 {
     let n = crate::operand::names(s, k);
     let k1 = n.next;
-    let k2 = lexer::cursor::mark(s, k1, 44);
+    let k2 = lexer::cursor::mark(s, k1, b',');
     let a = crate::operand::address(s, k2);
     let k3 = a.next;
     let e = lexer::cursor::end(s, k3);
@@ -115,7 +126,7 @@ pub fn store(s: &[u8], k: Cursor, shape: Shape, num: Num) -> Reading
 {
     let a = crate::operand::address(s, k);
     let k1 = a.next;
-    let k2 = lexer::cursor::mark(s, k1, 44);
+    let k2 = lexer::cursor::mark(s, k1, b',');
     let n = crate::operand::names(s, k2);
     let k3 = n.next;
     let e = lexer::cursor::end(s, k3);
@@ -132,70 +143,38 @@ pub fn store(s: &[u8], k: Cursor, shape: Shape, num: Num) -> Reading
     )
 }
 
-pub fn dense(s: &[u8], k: Cursor, ws: bool, kind: Kind) -> Reading
-    ensures { λ r. ⌜ r ≡ told (now (s .entry)) (operandsC (opcode.Multiply ws false kind) (seen (now (s .entry)) k)) ⌝ }
+// d, a and b of an mma.
+fn front(s: &[u8], k: Cursor) -> Front
+    ensures { λ r. ⌜ frontSeen (now (s .entry)) r ≡ frontC (seen (now (s .entry)) k) ⌝ }
 {
-    let d = crate::operand::address(s, k);
-    let k1 = d.next;
-    let k2 = lexer::cursor::mark(s, k1, 44);
-    let a = crate::operand::operand(s, k2);
-    let k3 = a.next;
-    let k4 = lexer::cursor::mark(s, k3, 44);
-    let b = lexer::cursor::name(s, k4);
-    let k5 = b.next;
-    let k6 = lexer::cursor::mark(s, k5, 44);
-    let i = lexer::cursor::name(s, k6);
-    let k7 = i.next;
-    let k8 = lexer::cursor::mark(s, k7, 44);
-    let p = lexer::cursor::name(s, k8);
-    let k9 = p.next;
-    let e = lexer::cursor::end(s, k9);
-    let da = d.value;
-    let ao = a.value;
-    let bn = b.value;
-    let idesc = i.value;
-    let predicate = p.value;
-    answer(
-        s,
-        e,
-        Statement::Multiply(Mma {
-            ws,
-            kind,
-            d: da,
-            a: ao,
-            b: bn,
-            metadata: Metadata::Dense,
-            idesc,
-            predicate,
-        }),
-    )
+    let x = crate::operand::address(s, k);
+    let k1 = x.next;
+    let k2 = lexer::cursor::mark(s, k1, b',');
+    let y = crate::operand::operand(s, k2);
+    let k3 = y.next;
+    let k4 = lexer::cursor::mark(s, k3, b',');
+    let z = lexer::cursor::name(s, k4);
+    let d = x.value;
+    let a = y.value;
+    let b = z.value;
+    let next = z.next;
+    Front { d, a, b, next }
 }
 
-pub fn sparse(s: &[u8], k: Cursor, ws: bool, kind: Kind) -> Reading
-    ensures { λ r. ⌜ r ≡ told (now (s .entry)) (operandsC (opcode.Multiply ws true kind) (seen (now (s .entry)) k)) ⌝ }
+// The last two operands of an mma, and the answer.
+fn back(s: &[u8], k: Cursor, ws: bool, kind: Kind, f: Front, metadata: Metadata) -> Reading
+    ensures { λ r. ⌜ r ≡ told (now (s .entry)) (mmaC ws kind (f .d) (f .a) (f .b) metadata (seen (now (s .entry)) k)) ⌝ }
 {
-    let d = crate::operand::address(s, k);
-    let k1 = d.next;
-    let k2 = lexer::cursor::mark(s, k1, 44);
-    let a = crate::operand::operand(s, k2);
-    let k3 = a.next;
-    let k4 = lexer::cursor::mark(s, k3, 44);
-    let b = lexer::cursor::name(s, k4);
-    let k5 = b.next;
-    let k6 = lexer::cursor::mark(s, k5, 44);
-    let m = crate::operand::address(s, k6);
-    let k7 = m.next;
-    let k8 = lexer::cursor::mark(s, k7, 44);
-    let i = lexer::cursor::name(s, k8);
-    let k9 = i.next;
-    let k10 = lexer::cursor::mark(s, k9, 44);
-    let p = lexer::cursor::name(s, k10);
-    let k11 = p.next;
-    let e = lexer::cursor::end(s, k11);
-    let da = d.value;
-    let ao = a.value;
-    let bn = b.value;
-    let ma = m.value;
+    let k1 = lexer::cursor::mark(s, k, b',');
+    let i = lexer::cursor::name(s, k1);
+    let k2 = i.next;
+    let k3 = lexer::cursor::mark(s, k2, b',');
+    let p = lexer::cursor::name(s, k3);
+    let k4 = p.next;
+    let e = lexer::cursor::end(s, k4);
+    let d = f.d;
+    let a = f.a;
+    let b = f.b;
     let idesc = i.value;
     let predicate = p.value;
     answer(
@@ -204,10 +183,10 @@ pub fn sparse(s: &[u8], k: Cursor, ws: bool, kind: Kind) -> Reading
         Statement::Multiply(Mma {
             ws,
             kind,
-            d: da,
-            a: ao,
-            b: bn,
-            metadata: Metadata::Sparse(ma),
+            d,
+            a,
+            b,
+            metadata,
             idesc,
             predicate,
         }),
@@ -217,9 +196,14 @@ pub fn sparse(s: &[u8], k: Cursor, ws: bool, kind: Kind) -> Reading
 pub fn multiply(s: &[u8], k: Cursor, ws: bool, sp: bool, kind: Kind) -> Reading
     ensures { λ r. ⌜ r ≡ told (now (s .entry)) (operandsC (opcode.Multiply ws sp kind) (seen (now (s .entry)) k)) ⌝ }
 {
+    let f = front(s, k);
+    let k1 = f.next;
     if sp {
-        sparse(s, k, ws, kind)
-    } else {
-        dense(s, k, ws, kind)
+        let k2 = lexer::cursor::mark(s, k1, b',');
+        let m = crate::operand::address(s, k2);
+        let k3 = m.next;
+        let e = m.value;
+        return back(s, k3, ws, kind, f, Metadata::Sparse(e));
     }
+    back(s, k1, ws, kind, f, Metadata::Dense)
 }

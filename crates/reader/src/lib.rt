@@ -2,17 +2,35 @@
 pub mod form;
 pub mod operand;
 
+use statement::Address;
 use statement::Found;
 use statement::Opcode;
+use statement::Operand;
 use statement::Reading;
 use statement::Statement;
 use tokens::Cursor;
+use tokens::Name;
 ghost use mathlib.Core.Path.{_≡_};
 ghost use lib.ListN.{length};
 ghost use lib.Seq.{sets};
 ghost use Rattle.tokens.specs.Cursors.{seen};
 ghost use Rattle.statement.specs.Reading.{readOf, reasonOf, registersOf, his, los, operandsC, told};
 ghost use Rattle.reader.specs.Lists.{listC};
+
+// A name and a number, and what follows the form's end.
+pub struct Pair {
+    pub name: Name,
+    pub number: u64,
+    pub next: Cursor,
+}
+
+// d, a and b of an mma, and what follows them.
+pub struct Front {
+    pub d: Address,
+    pub a: Operand,
+    pub b: Name,
+    pub next: Cursor,
+}
 
 // The operands of an opcode, read from a position on, and the answer.
 pub fn operands(s: &[u8], k: Cursor, o: Opcode) -> Reading
@@ -69,21 +87,7 @@ pub fn list_of(s: &[u8], k: Cursor, o: Opcode, hi: &mut [u64; 128], lo: &mut [u6
     match o {
         Opcode::Load { shape: _, num: _ } => operand::fill(s, k, hi, lo),
         Opcode::Store { shape: _, num: _ } => operand::fill_after(s, k, hi, lo),
-        Opcode::Mov32 => 0,
-        Opcode::Mov64 => 0,
-        Opcode::Alloc { shared: _ } => 0,
-        Opcode::Dealloc => 0,
-        Opcode::Relinquish => 0,
-        Opcode::WaitLoad => 0,
-        Opcode::WaitStore => 0,
-        Opcode::FenceBefore => 0,
-        Opcode::FenceAfter => 0,
-        Opcode::Multiply {
-            ws: _,
-            sp: _,
-            kind: _,
-        } => 0,
-        Opcode::Exit => 0,
+        _ => 0,
     }
 }
 

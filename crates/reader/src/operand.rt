@@ -13,6 +13,7 @@ ghost use lib.Seq.{sets};
 ghost use Rattle.tokens.specs.Cursors.{seen, nameSeen, markC, numberC};
 ghost use Rattle.statement.specs.Forms.{max32};
 ghost use Rattle.statement.specs.Reading.{inBracketsC, offsetC, insideC, addressC, operandC, namesC, offsetSeen, addressSeen, operandSeen, countSeen, counted, his, los};
+ghost use Rattle.reader.specs.Rows.{namedC};
 
 // The most names that a list has.
 const MOST: usize = 128;
@@ -31,22 +32,32 @@ pub fn number32(s: &[u8], k: Cursor) -> OffsetRead
 }
 
 // [ name ]
-pub fn in_brackets(s: &[u8], k: Cursor) -> NameRead
+fn in_brackets(s: &[u8], k: Cursor) -> NameRead
     ensures { λ r. ⌜ nameSeen (now (s .entry)) r ≡ inBracketsC (seen (now (s .entry)) k) ⌝ }
 {
-    let a = lexer::cursor::mark(s, k, 91);
+    let a = lexer::cursor::mark(s, k, b'[');
     let n = lexer::cursor::name(s, a);
     let b = n.next;
     let value = n.value;
-    let next = lexer::cursor::mark(s, b, 93);
+    let next = lexer::cursor::mark(s, b, b']');
     NameRead { value, next }
+}
+
+// A name, in brackets or not.
+pub fn named(s: &[u8], k: Cursor, bracketed: bool) -> NameRead
+    ensures { λ r. ⌜ nameSeen (now (s .entry)) r ≡ namedC bracketed (seen (now (s .entry)) k) ⌝ }
+{
+    if bracketed {
+        return in_brackets(s, k);
+    }
+    lexer::cursor::name(s, k)
 }
 
 // + number, or nothing, which is 0.
 pub fn offset(s: &[u8], k: Cursor) -> OffsetRead
     ensures { λ r. ⌜ offsetSeen (now (s .entry)) r ≡ offsetC (seen (now (s .entry)) k) ⌝ }
 {
-    let d = lexer::cursor::mark(s, k, 43);
+    let d = lexer::cursor::mark(s, k, b'+');
     if d.ok {
         return number32(s, d);
     }
@@ -61,7 +72,7 @@ pub fn inside(s: &[u8], k: Cursor) -> AddressRead
     let a = n.next;
     let v = offset(s, a);
     let b = v.next;
-    let next = lexer::cursor::mark(s, b, 93);
+    let next = lexer::cursor::mark(s, b, b']');
     let base = n.value;
     AddressRead {
         value: Address {
@@ -75,14 +86,14 @@ pub fn inside(s: &[u8], k: Cursor) -> AddressRead
 pub fn address(s: &[u8], k: Cursor) -> AddressRead
     ensures { λ r. ⌜ addressSeen (now (s .entry)) r ≡ addressC (seen (now (s .entry)) k) ⌝ }
 {
-    inside(s, lexer::cursor::mark(s, k, 91))
+    inside(s, lexer::cursor::mark(s, k, b'['))
 }
 
 // An address where a bracket opens, else a descriptor's name.
 pub fn operand(s: &[u8], k: Cursor) -> OperandRead
     ensures { λ r. ⌜ operandSeen (now (s .entry)) r ≡ operandC (seen (now (s .entry)) k) ⌝ }
 {
-    let d = lexer::cursor::mark(s, k, 91);
+    let d = lexer::cursor::mark(s, k, b'[');
     if d.ok {
         let a = inside(s, d);
         let value = a.value;
@@ -105,16 +116,16 @@ pub fn operand(s: &[u8], k: Cursor) -> OperandRead
 pub fn names(s: &[u8], k: Cursor) -> CountRead
     ensures { λ r. ⌜ countSeen (now (s .entry)) r ≡ counted (namesC (seen (now (s .entry)) k)) ⌝ }
 {
-    let a = lexer::cursor::mark(s, k, 123);
+    let a = lexer::cursor::mark(s, k, b'{');
     let n = lexer::cursor::name(s, a);
     let mut at = n.next;
     let mut count: usize = 1;
     while count < MOST {
-        let d = lexer::cursor::mark(s, at, 44);
+        let d = lexer::cursor::mark(s, at, b',');
         if !d.ok {
             return CountRead {
                 value: count,
-                next: lexer::cursor::mark(s, at, 125),
+                next: lexer::cursor::mark(s, at, b'}'),
             };
         }
         let m = lexer::cursor::name(s, d);
@@ -123,7 +134,7 @@ pub fn names(s: &[u8], k: Cursor) -> CountRead
     }
     CountRead {
         value: count,
-        next: lexer::cursor::mark(s, at, 125),
+        next: lexer::cursor::mark(s, at, b'}'),
     }
 }
 
@@ -133,7 +144,7 @@ pub fn fill(s: &[u8], k: Cursor, hi: &mut [u64; 128], lo: &mut [u64; 128]) -> us
     ensures first { λ r. ⌜ now (hi .exit) ≡ sets (now (hi .entry)) 0 (his (namesC (seen (now (s .entry)) k) .value)) ⌝ }
     ensures second { λ r. ⌜ now (lo .exit) ≡ sets (now (lo .entry)) 0 (los (namesC (seen (now (s .entry)) k) .value)) ⌝ }
 {
-    let a = lexer::cursor::mark(s, k, 123);
+    let a = lexer::cursor::mark(s, k, b'{');
     let n = lexer::cursor::name(s, a);
     let v = n.value;
     let mut at = n.next;
@@ -141,7 +152,7 @@ pub fn fill(s: &[u8], k: Cursor, hi: &mut [u64; 128], lo: &mut [u64; 128]) -> us
     lo[0] = v.lo;
     let mut count: usize = 1;
     while count < MOST {
-        let d = lexer::cursor::mark(s, at, 44);
+        let d = lexer::cursor::mark(s, at, b',');
         if !d.ok {
             return count;
         }
@@ -163,6 +174,6 @@ pub fn fill_after(s: &[u8], k: Cursor, hi: &mut [u64; 128], lo: &mut [u64; 128])
 {
     let a = address(s, k);
     let k1 = a.next;
-    let k2 = lexer::cursor::mark(s, k1, 44);
+    let k2 = lexer::cursor::mark(s, k1, b',');
     fill(s, k2, hi, lo)
 }

@@ -1,35 +1,21 @@
--- `reader::form::dealloc` meets its contract. Each operand's contract, from the first on, and the answer's are the definition's row. Assumes nothing.
-use Rattle.statement.specs.Reading.{operandsC, rowC, moreRowC}
+-- `reader::form::dealloc` meets its contract: a name and a number are the opcode's row. Assumes nothing.
 use borrow.Author.Needs.{needs}
+use Rattle.statement.specs.Reading.{operandsC}
 use Rattle.reader.proofs.form.dealloc.Statement.{statement}
 use Rattle.reader.proofs.form.dealloc.Tie as tie
 
-name-requires : tie.Need-name-requires
-name-requires c κs = search needs
+name-number-requires : tie.Need-name-number-requires
+name-number-requires c κs = search needs
 
-mark-requires : tie.Need-mark-requires
-mark-requires c κs = search needs
-
-number32-requires : tie.Need-number32-requires
-number32-requires c κs = search needs
-
-end-requires : tie.Need-end-requires
-end-requires c κs = search needs
+cast-t7 : tie.Need-cast-t7
+cast-t7 c = search needs
 
 answer-requires : tie.Need-answer-requires
 answer-requires c κs = search needs
 
 returns : tie.Need-returns
-unfolding operandsC rowC moreRowC
-returns c =
-    rw (
-      ← c .before .before .before .before .before .before .before .name .ensures,
-      ← c .before .before .before .before .before .mark .ensures,
-      ← c .before .before .before .before .number32 .ensures,
-      ← c .before .before .end .ensures,
-    ) (c .answer .ensures)
+unfolding operandsC
+returns c = rw (← c .before .before .before .name-number .ensures .0) (c .answer .ensures)
 
 pub dealloc-spec : {M : Type 1} → statement M
-dealloc-spec =
-    tie.close
-    (tie.spec name-requires mark-requires number32-requires end-requires answer-requires returns)
+dealloc-spec = tie.close (tie.spec name-number-requires cast-t7 answer-requires returns)
