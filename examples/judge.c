@@ -5,9 +5,9 @@
 
 #include "staplehorn.h"
 
-/* One byte more than a sheet may have, so that a longer one is known; and a start for each line that a sheet may have. */
+/* One byte more than a sheet may have, so that a longer one is known. */
 static uint8_t sheet[65537];
-static uint16_t starts[4096];
+static uint16_t starts[STAPLEHORN_MOST_ALLOCS];
 
 int main(int argc, char **argv) {
     FILE *file = argc > 1 ? fopen(argv[1], "rb") : stdin;
@@ -15,13 +15,16 @@ int main(int argc, char **argv) {
         fprintf(stderr, "usage: judge [FILE]\n");
         return 2;
     }
-    for (size_t i = 0; i < 4096; ++i) starts[i] = UINT16_MAX;
-    size_t length = fread(sheet, 1, sizeof sheet, file);
-    if (ferror(file)) return 2;
+    size_t length = fread(sheet, 1, sizeof sheet, file), count;
+    if (ferror(file)) {
+        fprintf(stderr, "judge: the sheet could not be read\n");
+        return 2;
+    }
     uint32_t answer[STAPLEHORN_ANSWER_FIELDS];
-    uint32_t reason = staplehorn_judge(sheet, length, starts, 4096, answer);
+    uint32_t reason = staplehorn_judge_counted(sheet, length, starts, &count, answer);
     printf("reason %" PRIu32 ", line %" PRIu32 ", held %" PRIu32 ", peak %" PRIu32 "\n", answer[STAPLEHORN_REASON],
            answer[STAPLEHORN_LINE], answer[STAPLEHORN_HELD], answer[STAPLEHORN_PEAK]);
-    for (size_t i = 0; i < 4096 && starts[i] != UINT16_MAX; ++i) printf("start %" PRIu16 "\n", starts[i]);
-    return reason != 0;
+    for (size_t i = 0; i < count; ++i) printf("start %" PRIu16 "\n", starts[i]);
+    if (reason != STAPLEHORN_REASON_PASSED) printf("%s\n", staplehorn_reason_text(reason));
+    return reason != STAPLEHORN_REASON_PASSED;
 }

@@ -90,6 +90,19 @@ static void sheets(void) {
     is(staplehorn_report((const uint8_t *)sheet, strlen(sheet), room, sizeof room - 1, &length), 19, "short room");
 }
 
+static void counted(void) {
+    const char *sheet = "sheet\t1\tsm_100a\n0\ttcgen05.alloc.cta_group::1.sync.aligned.b32 [t], 64;\n"
+                        "0\ttcgen05.dealloc.cta_group::1.sync.aligned.b32 t, 64;\n0\texit;\n";
+    static uint16_t starts[STAPLEHORN_MOST_ALLOCS];
+    uint32_t answer[STAPLEHORN_ANSWER_FIELDS];
+    size_t count = 7;
+    is(staplehorn_judge_counted((const uint8_t *)sheet, strlen(sheet), starts, &count, answer), 0, "judge_counted");
+    is(count, 1, "count");
+    is(starts[0], 0, "start");
+    is(staplehorn_judge_counted((const uint8_t *)sheet, strlen(sheet) - 8, starts, &count, answer), 15, "judge_counted, refused");
+    is(count, 0, "count on a refusal");
+}
+
 /* Null is allowed where the length is 0. */
 static void nothing(void) {
     uint32_t answer[STAPLEHORN_ANSWER_FIELDS];
@@ -110,10 +123,11 @@ int main(void) {
     is(staplehorn_version(), STAPLEHORN_VERSION_NUMBER, "version");
     is((uint64_t)strcmp(staplehorn_reason_text(4), "a number is too large"), 0, "reason's text");
     nothing();
+    counted();
     words();
     shared();
     statements();
     sheets();
     printf("%d answers right, %d wrong\n", right, wrong);
-    return wrong != 0 || right < 58;
+    return wrong != 0 || right < 63;
 }
