@@ -2,14 +2,11 @@
 use Prim.Native.Nat.{ℕ, _*_, _≤_, _<_}
 use mathlib.Core.Path.{_≡_, refl, sym, _∙_}
 use mathlib.Core.Bool.{Bool, true, false, not, cond}
-use mathlib.Core.List.{[], _∷_}
 use native.Mathlib.Omega.{arith}
-use lib.Count.{ones}
-use lib.Dec.{leb, eqb}
 use lib.ListN.{getD}
-use borrow.Author.Tests.{lt-ltb, le-ltb, leb-true, eq-eqb, ne-eqb, not-true, not-false}
-use Rattle.laws.proofs.TestLaws.{each}
+use borrow.Author.Tests.{lt-ltb, le-ltb, eq-eqb, ne-eqb, not-true, not-false}
 use Rattle.request.specs.Request.{legal, requestReason}
+use Rattle.request.proofs.RequestLaws.{request-exact}
 use Rattle.tokens.specs.declared.Name.{Name}
 use Rattle.ledger.specs.declared.Ledger.{Ledger}
 use Rattle.ledger.specs.Booking.{unchanged, slot, place, mayBook, allocOf, releaseOf, relinquishOf, withAllocation, withoutAllocation, afterRelinquish}
@@ -24,9 +21,7 @@ illegal-if true e = absurd (e refl)
 illegal-if false e = refl
 
 pub legal-range : (requested : ℕ) → legal requested ≡ true → (32 ≤ requested) × (requested ≤ 512)
-legal-range n h =
-    let t : (leb 32 n ≡ true) × ((leb n 512 ≡ true) × ((eqb (ones n) 1 ≡ true) × Unit)) = each (leb 32 n ∷ leb n 512 ∷ eqb (ones n) 1 ∷ []) h in
-    (leb-true 32 n (t .0), leb-true n 512 (t .1 .0))
+legal-range n h = let p = request-exact n .power h in (p .least, p .most)
 
 pub request-range : (requested r : ℕ) → r ≡ requestReason requested → r ≡ 0 → (32 ≤ requested) × (requested ≤ 512)
 request-range n r e z = legal-range n (legal-if (legal n) (sym e ∙ z))
