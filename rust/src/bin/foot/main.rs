@@ -54,27 +54,30 @@ fn read(name: &OsStr) -> io::Result<Vec<u8>> {
     }
 }
 
-/// Reads, judges and prints one sheet.
-fn foot(name: &OsStr, titled: bool) -> c_int {
+/// Reads, judges and prints one sheet; no status where it could not be printed.
+fn foot(name: &OsStr, titled: bool) -> Option<c_int> {
     let said = if name == "-" { "standard input".into() } else { shown(name) };
     let sheet = match read(name) {
         Ok(sheet) => sheet,
         Err(e) => {
             complain("foot", &format!("cannot read {said}: {e}"));
-            return FAILED;
+            return Some(FAILED);
         }
     };
     let report = staplehorn::report(&sheet);
     let mut text = if titled { format!("{said}:\n").into_bytes() } else { Vec::new() };
     text.extend(report.text);
-    print("foot", &text).max(report.reason.map_or(PASSED, |_| REFUSED))
+    (print("foot", &text) == PASSED).then(|| report.reason.map_or(PASSED, |_| REFUSED))
 }
 
-/// Judges all sheets. Where one cannot be written, no other can.
+/// Judges all sheets, up to the first that cannot be printed.
 fn feet(files: &[OsString]) -> c_int {
     let mut status = PASSED;
     for name in files {
-        status = status.max(foot(name, files.len() > 1));
+        match foot(name, files.len() > 1) {
+            Some(one) => status = status.max(one),
+            None => return FAILED,
+        }
     }
     status
 }
@@ -97,6 +100,10 @@ fn files(args: impl Iterator<Item = OsString>) -> Result<Vec<OsString>, c_int> {
     }
     if files.is_empty() {
         files.push("-".into());
+    }
+    if files.iter().filter(|name| *name == "-").count() > 1 {
+        complain("foot", "standard input can be read once only; foot --help shows the usage");
+        return Err(FAILED);
     }
     Ok(files)
 }
