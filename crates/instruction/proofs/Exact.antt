@@ -7,7 +7,6 @@ use mathlib.Core.Option.{Option, none, some}
 use native.Mathlib.Omega.{arith}
 use Rattle.laws.specs.Tests.{all}
 use Rattle.laws.specs.Layout.{ranges, pack}
-use Rattle.laws.proofs.BoolLaws.{and-join}
 use Rattle.laws.proofs.FormatLaws.{Reading, Writing, reading, writing, read-word, word-read}
 use Rattle.instruction.specs.Instruction.{layout, fields, values, fieldsIn, numbers, named, rules, keeps, found, made, noDescriptor, noWord, good, fieldsRead, decoded, encoded, encodedNumbers}
 use Rattle.instruction.proofs.NumberLaws.{word-numbers, numbers-back}
@@ -55,8 +54,7 @@ module _ (kind : Kind) (ws sp : Bool) where
   as-numbers : (d : Instruction) → encoded kind ws sp d .reason ≡ 0 → encodedNumbers kind ws sp (numbers d) ≡ encoded kind ws sp d
   as-numbers d e =
       let k : Writing layout numbers rule d = writes d e .0 in
-      let n : keeps kind ws sp (named kind (numbers d)) ≡ true = ap (keeps kind ws sp) (own kind ws sp d (k .keeps)) ∙ k .keeps in
-      word-numbers kind ws sp (numbers d) true (sym (and-join (all (ranges layout (numbers d))) (keeps kind ws sp (named kind (numbers d))) (k .range) n))
+      word-numbers kind ws sp (numbers d) true true true (sym (k .range)) (sym (ap (keeps kind ws sp) (own kind ws sp d (k .keeps)) ∙ k .keeps)) refl
       ∙ sym (writes d e .1)
 
   -- a word that reads as some numbers is the word of those numbers

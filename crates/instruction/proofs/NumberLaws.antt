@@ -1,6 +1,6 @@
 -- The rules on a descriptor's numbers, before its types are named: the code tests them so. Assumes nothing.
 use Prim.Native.Nat.{ℕ, _<_, _^_}
-use mathlib.Core.Path.{_≡_, refl, ap, sym, _∙_, subst}
+use mathlib.Core.Path.{_≡_, refl, ap, ap₂, sym, _∙_, subst}
 use mathlib.Core.Bool.{Bool, true, false, _&&_, _||_, not, cond, Bool·beq}
 use mathlib.Core.List.{List, [], _∷_}
 use mathlib.Core.Option.{Option, none, some, Option·getD}
@@ -11,10 +11,10 @@ use borrow.Author.Tests.{eqb-false}
 use Rattle.laws.specs.Tests.{all, isSome}
 use Rattle.laws.specs.Layout.{says, stands, ranges, pack}
 use Rattle.laws.specs.Rules.{firstBroken}
-use Rattle.laws.proofs.BoolLaws.{never, and-split, and-l}
+use Rattle.laws.proofs.BoolLaws.{never, and-split, and-join, and-l, and-r}
 use Rattle.laws.proofs.TestLaws.{find-passes, never-all}
 use Rattle.laws.proofs.FormatLaws.{read-both, read-none}
-use Rattle.laws.proofs.LayoutLaws.{Inside, within, packed, unpacked}
+use Rattle.laws.proofs.LayoutLaws.{packed, unpacked}
 use Rattle.instruction.proofs.NamingLaws.{same}
 use Rattle.instruction.specs.Instruction.{layout, fields, values, fieldsIn, good, fieldsRead, named3, named, rules, keeps, dtypeOf, elementOf, ofKind, code, elements, isI8, zero, found, made, noDescriptor, noWord, decoded, encodedNumbers, mListed, nListed, typesListed, listing, fieldsReason, judged}
 use Rattle.instruction.specs.declared.Kind.{Kind}
@@ -84,17 +84,18 @@ read-kept kind ws sp w f h e t =
     ap fieldsRead (reading kind ws sp w (values f) true e t)
     ∙ ap good (kept-same kind ws sp f (named kind (values f)) h refl (and-split (all (stands layout w)) (keeps kind ws sp (named kind (values f))) t .1))
 
--- by the code's test
-pub read-fields : (kind : Kind) (ws sp : Bool) (w : ℕ) (f : Fields) (t : Bool) → w < 2 ^ 32 → values f ≡ says layout w
-    → t ≡ (all (stands layout w) && keeps kind ws sp (named kind (values f))) → t ≡ true → fieldsRead (decoded kind ws sp w) ≡ good f
-read-fields kind ws sp w f t b e h p =
-    let q : (all (stands layout w) && keeps kind ws sp (named kind (values f))) ≡ true = sym h ∙ p in
-    let s : all (stands layout w) ≡ true = and-l (all (stands layout w)) (keeps kind ws sp (named kind (values f))) q in
-    read-kept kind ws sp w f (subst (λ (l : List ℕ). all (ranges layout l) ≡ true) (sym e) (unpacked 32 layout w refl b s .0)) e q
+-- by the code's two tests
+pub read-fields : (kind : Kind) (ws sp : Bool) (w : ℕ) (f : Fields) (s k : Bool) → w < 2 ^ 32 → values f ≡ says layout w
+    → s ≡ all (stands layout w) → k ≡ keeps kind ws sp (named kind (values f)) → s && k ≡ true → fieldsRead (decoded kind ws sp w) ≡ good f
+read-fields kind ws sp w f s k b e p q t =
+    let stand : all (stands layout w) ≡ true = sym p ∙ and-l s k t in
+    let range : all (ranges layout (values f)) ≡ true =
+    subst (λ (l : List ℕ). all (ranges layout l) ≡ true) (sym e) (unpacked 32 layout w refl b stand .0) in
+    read-kept kind ws sp w f range e (and-join _ _ stand (sym q ∙ and-r s k t))
 
-pub read-refused : (kind : Kind) (ws sp : Bool) (w : ℕ) (f : Fields) (t : Bool) → values f ≡ says layout w
-    → t ≡ (all (stands layout w) && keeps kind ws sp (named kind (values f))) → t ≡ false → decoded kind ws sp w ≡ noDescriptor
-read-refused kind ws sp w f t e h p = reading kind ws sp w (values f) false e (sym h ∙ p)
+pub read-refused : (kind : Kind) (ws sp : Bool) (w : ℕ) (f : Fields) (s k : Bool) → values f ≡ says layout w
+    → s ≡ all (stands layout w) → k ≡ keeps kind ws sp (named kind (values f)) → s && k ≡ false → decoded kind ws sp w ≡ noDescriptor
+read-refused kind ws sp w f s k e p q t = reading kind ws sp w (values f) false e (ap₂ _&&_ (sym p) (sym q) ∙ t)
 
 -- a word that is not read has no descriptor
 pub unread : (kind : Kind) (ws sp : Bool) (w : ℕ) → (decoded kind ws sp w .reason ≡ 0 → ⊥) → decoded kind ws sp w ≡ noDescriptor
@@ -104,50 +105,41 @@ unread kind ws sp w n = by-test (all (stands layout w) && keeps kind ws sp (name
     by-test true e = absurd (n (ap (λ (a : InstructionRead). a .reason) e))
     by-test false e = e
 
--- the word of numbers, and their reason, by the code's test
-pub word-numbers : (kind : Kind) (ws sp : Bool) (l : List ℕ) (t : Bool)
-    → t ≡ (all (ranges layout l) && keeps kind ws sp (named kind l)) → encodedNumbers kind ws sp l ≡ cond t (made (pack layout l)) noWord
+-- the word of numbers by the code's two tests
+pub word-numbers : (kind : Kind) (ws sp : Bool) (l : List ℕ) (b k t : Bool)
+    → b ≡ all (ranges layout l) → k ≡ keeps kind ws sp (named kind l) → b && k ≡ t → encodedNumbers kind ws sp l ≡ cond t (made (pack layout l)) noWord
 unfolding encodedNumbers
-word-numbers kind ws sp l t e = ap (λ (x : Bool). cond x (made (pack layout l)) noWord) (sym e)
+word-numbers kind ws sp l b k t p q e = ap (λ (x : Bool). cond x (made (pack layout l)) noWord) (ap₂ _&&_ (sym p) (sym q) ∙ e)
 
-pub word-made : (kind : Kind) (ws sp : Bool) (l : List ℕ) (t : Bool) (w : ℕ)
-    → t ≡ (all (ranges layout l) && keeps kind ws sp (named kind l)) → t ≡ true → w ≡ pack layout l → made w ≡ encodedNumbers kind ws sp l
-word-made kind ws sp l t w e p q =
-    ap made q ∙ sym (word-numbers kind ws sp l t e ∙ ap (λ (x : Bool). cond x (made (pack layout l)) noWord) p)
+pub word-made : (kind : Kind) (ws sp : Bool) (l : List ℕ) (w : ℕ) (b k : Bool) → w ≡ pack layout l
+    → b ≡ all (ranges layout l) → k ≡ keeps kind ws sp (named kind l) → b && k ≡ true → made w ≡ encodedNumbers kind ws sp l
+word-made kind ws sp l w b k e p q t = ap made e ∙ sym (word-numbers kind ws sp l b k true p q t)
 
-pub word-none : (kind : Kind) (ws sp : Bool) (l : List ℕ) (t : Bool)
-    → t ≡ (all (ranges layout l) && keeps kind ws sp (named kind l)) → t ≡ false → noWord ≡ encodedNumbers kind ws sp l
-word-none kind ws sp l t e p = sym (word-numbers kind ws sp l t e ∙ ap (λ (x : Bool). cond x (made (pack layout l)) noWord) p)
-
--- numbers with a word are in range
-pub in-layout : (kind : Kind) (ws sp : Bool) (l : List ℕ) (t : Bool)
-    → t ≡ (all (ranges layout l) && keeps kind ws sp (named kind l)) → t ≡ true → Inside layout l
-in-layout kind ws sp l t e p = within layout l (and-l (all (ranges layout l)) (keeps kind ws sp (named kind l)) (sym e ∙ p))
-
-reason-by : (kind : Kind) (ws sp : Bool) (f : Fields) (t : Bool) → encodedNumbers kind ws sp (values f) ≡ cond t (made (pack layout (values f))) noWord
-    → cond t (firstBroken (listing kind ws f)) 12 ≡ fieldsReason kind ws sp f
-reason-by kind ws sp f true e = sym (ap (λ (a : InstructionWord). cond (eqb (a .reason) 0) (firstBroken (listing kind ws f)) 12) e)
-reason-by kind ws sp f false e = sym (ap (λ (a : InstructionWord). cond (eqb (a .reason) 0) (firstBroken (listing kind ws f)) 12) e)
-
-pub numbers-reason : (kind : Kind) (ws sp : Bool) (f : Fields) (t u : Bool)
-    → t ≡ (all (ranges layout (values f)) && keeps kind ws sp (named kind (values f))) → t ≡ u
-    → cond u (firstBroken (listing kind ws f)) 12 ≡ fieldsReason kind ws sp f
-numbers-reason kind ws sp f t u e p = reason-by kind ws sp f u (word-numbers kind ws sp (values f) u (sym p ∙ e))
+-- and their reason
+pub numbers-reason : (kind : Kind) (ws sp : Bool) (f : Fields) (b k t : Bool)
+    → b ≡ all (ranges layout (values f)) → k ≡ keeps kind ws sp (named kind (values f)) → b && k ≡ t
+    → fieldsReason kind ws sp f ≡ cond t (firstBroken (listing kind ws f)) 12
+numbers-reason kind ws sp f b k t p q e =
+    ap (λ (a : InstructionWord). cond (eqb (a .reason) 0) (firstBroken (listing kind ws f)) 12) (word-numbers kind ws sp (values f) b k t p q e) ∙ by-test t
+  where
+    by-test : (t : Bool) → cond (eqb (cond t (made (pack layout (values f))) noWord .reason) 0) (firstBroken (listing kind ws f)) 12 ≡ cond t (firstBroken (listing kind ws f)) 12
+    by-test true = refl
+    by-test false = refl
 
 -- the word of some numbers reads as those numbers
-word-back : (kind : Kind) (ws sp : Bool) (f : Fields) (t : Bool)
-    → (all (ranges layout (values f)) && keeps kind ws sp (named kind (values f))) ≡ t → cond t (made (pack layout (values f))) noWord .reason ≡ 0
-    → fieldsRead (decoded kind ws sp (cond t (made (pack layout (values f))) noWord .word)) ≡ good f
-word-back kind ws sp f true h e =
-    let b : (all (ranges layout (values f)) ≡ true) × (keeps kind ws sp (named kind (values f)) ≡ true) = and-split (all (ranges layout (values f))) (keeps kind ws sp (named kind (values f))) h in
-    let p : (all (stands layout (pack layout (values f))) ≡ true) × (says layout (pack layout (values f)) ≡ values f) = packed 32 layout (values f) refl (b .0) in
-    read-kept kind ws sp (pack layout (values f)) f (b .0) (sym (p .1)) (simp (p .0, b .1))
-word-back kind ws sp f false h e = absurd (omega arith)
+word-back : (kind : Kind) (ws sp : Bool) (f : Fields) (b k : Bool)
+    → all (ranges layout (values f)) ≡ b → keeps kind ws sp (named kind (values f)) ≡ k → cond (b && k) (made (pack layout (values f))) noWord .reason ≡ 0
+    → fieldsRead (decoded kind ws sp (cond (b && k) (made (pack layout (values f))) noWord .word)) ≡ good f
+word-back kind ws sp f true true h k e =
+    let p : (all (stands layout (pack layout (values f))) ≡ true) × (says layout (pack layout (values f)) ≡ values f) = packed 32 layout (values f) refl h in
+    read-kept kind ws sp (pack layout (values f)) f h (sym (p .1)) (simp (p .0, k))
+word-back kind ws sp f true false h k e = absurd (omega arith)
+word-back kind ws sp f false k h q e = absurd (omega arith)
 
 pub numbers-back : (kind : Kind) (ws sp : Bool) (f : Fields)
     → encodedNumbers kind ws sp (values f) .reason ≡ 0 → fieldsRead (decoded kind ws sp (encodedNumbers kind ws sp (values f) .word)) ≡ good f
 unfolding encodedNumbers
-numbers-back kind ws sp f e = word-back kind ws sp f (all (ranges layout (values f)) && keeps kind ws sp (named kind (values f))) refl e
+numbers-back kind ws sp f e = word-back kind ws sp f (all (ranges layout (values f))) (keeps kind ws sp (named kind (values f))) refl refl e
 
 -- ---- what is judged goes by the fields that were read
 abbrev judgedFields : Kind → Bool → FieldsRead → Judged

@@ -1,6 +1,5 @@
 // The instruction descriptor: 32 bits, read and written under an opcode: a kind, `.ws` and `.sp`.
 ghost use mathlib.Core.Path.{_≡_};
-ghost use mathlib.Core.Bool.{_&&_};
 ghost use mathlib.Core.List.{[], _∷_};
 ghost use Rattle.laws.specs.Tests.{all, isSome};
 ghost use Rattle.laws.specs.Layout.{pack, says, stands, ranges};
@@ -124,13 +123,6 @@ fn fixed_stand(word: u32) -> bool
     ((word >> 6) % 2 == 0) & ((word >> 23) % 2 == 0) & ((word >> 29) % 2 == 0)
 }
 
-// A word with these fields reads.
-fn reads(kind: Kind, ws: bool, sp: bool, word: u32, f: Fields) -> bool
-    ensures { λ r. ⌜ r ≡ (all (stands layout word) && keeps kind ws sp (named kind (values f))) ⌝ }
-{
-    fixed_stand(word) & admits(kind, ws, sp, f)
-}
-
 // Each number has room in its field; N is in eights and M in sixteens.
 fn in_range(f: Fields) -> bool
     ensures { λ r. ⌜ r ≡ all (ranges layout (values f)) ⌝ }
@@ -150,13 +142,6 @@ fn in_range(f: Fields) -> bool
         & (f.m % 16 == 0)
         & (f.m <= 496)
         & (f.shift <= 3)
-}
-
-// Some word reads as these fields.
-fn has_word(kind: Kind, ws: bool, sp: bool, f: Fields) -> bool
-    ensures { λ r. ⌜ r ≡ (all (ranges layout (values f)) && keeps kind ws sp (named kind (values f))) ⌝ }
-{
-    in_range(f) & admits(kind, ws, sp, f)
 }
 
 // The word of numbers that are in range.
@@ -222,7 +207,10 @@ pub fn decode_fields(kind: Kind, ws: bool, sp: bool, word: u32) -> FieldsRead
     ensures { λ r. ⌜ r ≡ fieldsRead (decoded kind ws sp word) ⌝ }
 {
     let f = split(word);
-    if !reads(kind, ws, sp, word, f) {
+    if !fixed_stand(word) {
+        return refused_fields();
+    }
+    if !admits(kind, ws, sp, f) {
         return refused_fields();
     }
     FieldsRead {
@@ -239,7 +227,10 @@ pub fn encode_fields(kind: Kind, ws: bool, sp: bool, f: Fields) -> InstructionWo
         reason: reasons::DESCRIPTOR,
         word: 0,
     };
-    if !has_word(kind, ws, sp, f) {
+    if !in_range(f) {
+        return refused;
+    }
+    if !admits(kind, ws, sp, f) {
         return refused;
     }
     InstructionWord {
@@ -320,7 +311,10 @@ fn listing_reason(kind: Kind, ws: bool, f: Fields) -> u32
 pub fn listed_fields(kind: Kind, ws: bool, sp: bool, f: Fields) -> u32
     ensures { λ r. ⌜ r ≡ fieldsReason kind ws sp f ⌝ }
 {
-    if !has_word(kind, ws, sp, f) {
+    if !in_range(f) {
+        return reasons::DESCRIPTOR;
+    }
+    if !admits(kind, ws, sp, f) {
         return reasons::DESCRIPTOR;
     }
     listing_reason(kind, ws, f)
@@ -351,7 +345,8 @@ pub fn judge_word(kind: Kind, ws: bool, sp: bool, word: u32) -> Judged
     ensures { λ r. ⌜ r ≡ judged kind ws sp word ⌝ }
 {
     let f = split(word);
-    if !reads(kind, ws, sp, word, f) {
+    let reads = fixed_stand(word) & admits(kind, ws, sp, f);
+    if !reads {
         return Judged {
             reason: reasons::DESCRIPTOR,
             n: 0,
