@@ -5,7 +5,7 @@ ghost use Rattle.laws.specs.Tests.{all, isSome};
 ghost use Rattle.laws.specs.Layout.{pack, says, stands, ranges};
 ghost use Rattle.laws.specs.Rules.{firstBroken};
 ghost use Rattle.laws.proofs.LayoutLaws.{Inside};
-ghost use Rattle.instruction.specs.Instruction.{layout, kindNumber, dtypeOf, elementOf, values, named, fieldsRead, encodedNumbers, keeps, noDescriptor, decoded, mListed, nListed, typesListed, listing, fieldsReason, denseK, kOf, judged, wordReason};
+ghost use Rattle.instruction.specs.Instruction.{layout, kindNumber, dtypeOf, elementOf, values, named, fieldsRead, encodedNumbers, keeps, noDescriptor, decoded, mListed, nListed, typesListed, listing, fieldsReason, denseK, kOf, judged};
 
 pub enum Kind {
     F16,
@@ -356,12 +356,4 @@ pub fn judge_word(kind: Kind, ws: bool, sp: bool, word: u32) -> Judged
         reason: listing_reason(kind, ws, f),
         n: f.n,
     }
-}
-
-// The reason alone.
-pub fn judge(kind: Kind, ws: bool, sp: bool, word: u32) -> u32
-    ensures { λ r. ⌜ r ≡ wordReason kind ws sp word ⌝ }
-{
-    let r = judge_word(kind, ws, sp, word);
-    r.reason
 }
