@@ -65,10 +65,10 @@ pub fn write(statement: Statement, hi: &[u64], lo: &[u64], room: &mut [u8]) -> W
     let mut t = [0u8; 2560];
     let n = compose(&mut t, statement, hi, lo);
     if 2560 < n {
-        return Written::Refused(19);
+        return Written::Refused(reasons::ROOM);
     }
     if room.len() < n {
-        return Written::Refused(19);
+        return Written::Refused(reasons::ROOM);
     }
     output::copy(room, &t, n);
     Written::Length(n)

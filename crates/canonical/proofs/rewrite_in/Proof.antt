@@ -18,7 +18,13 @@ same-length : tie.Need-same-length
 same-length c = search needs
 
 returns : tie.Need-returns
-returns c = (c .before .before .write .ensures .0 ∙ ap (writtenOf (length (now (c .before .before .before .before .before .before .before .before .before .before .before .before .before .args .room))) (c .before .before .before .before .before .before .before .before .before .before .before .before .before .args .t)) (found (now (c .before .before .before .before .before .before .before .before .before .before .before .before .before .args .text)) (c .before .before .before .before .before .before .before .before .before .before .before .before .before .args .t) (now (c .before .before .before .before .before .before .before .before .before .before .before .before .before .args .hi)) (now (c .before .before .before .before .before .before .before .before .before .before .before .before .before .args .lo)) (c .before .before .before .before .before .before .before .before .registers .last .1 .0) (c .before .before .before .before .before .before .before .before .registers .last .1 .1 .0) (c .before .before .before .before .before .before .before .before .before .before .before .before .before .pre .0) (c .before .before .before .before .before .before .before .before .before .before .before .before .before .pre .1) (c .before .before .before .before .before .before .before .before .before .before .before .before .before .pre .2) (c .before .before .before .before .before .before .before .before .registers .ensures .1 .0) (c .before .before .before .before .before .before .before .before .registers .ensures .1 .1)), c .before .before .write .ensures .1 ∙ ap (leftBy (now (c .before .before .before .before .before .before .before .before .before .before .before .before .before .args .room)) (c .before .before .before .before .before .before .before .before .before .before .before .before .before .args .t)) (found (now (c .before .before .before .before .before .before .before .before .before .before .before .before .before .args .text)) (c .before .before .before .before .before .before .before .before .before .before .before .before .before .args .t) (now (c .before .before .before .before .before .before .before .before .before .before .before .before .before .args .hi)) (now (c .before .before .before .before .before .before .before .before .before .before .before .before .before .args .lo)) (c .before .before .before .before .before .before .before .before .registers .last .1 .0) (c .before .before .before .before .before .before .before .before .registers .last .1 .1 .0) (c .before .before .before .before .before .before .before .before .before .before .before .before .before .pre .0) (c .before .before .before .before .before .before .before .before .before .before .before .before .before .pre .1) (c .before .before .before .before .before .before .before .before .before .before .before .before .before .pre .2) (c .before .before .before .before .before .before .before .before .registers .ensures .1 .0) (c .before .before .before .before .before .before .before .before .registers .ensures .1 .1)))
+returns c =
+    let r = c .before .before .before .before .before .before .before .before .registers in
+    let k = c .before .before .before .before .before .before .before .before .before .before .before .before .before in
+    let a = k .args in
+    let w = c .before .before .write in
+    let e = found (now (a .text)) (a .t) (now (a .hi)) (now (a .lo)) (r .last .1 .0) (r .last .1 .1 .0) (k .pre .0) (k .pre .1) (k .pre .2) (r .ensures .1 .0) (r .ensures .1 .1) in
+    (w .ensures .0 ∙ ap (writtenOf (length (now (a .room))) (a .t)) e, w .ensures .1 ∙ ap (leftBy (now (a .room)) (a .t)) e)
 
 pub rewrite-in-spec : {M : Type 1} → statement M
 rewrite-in-spec = tie.close (tie.spec registers-requires write-requires same-length returns)

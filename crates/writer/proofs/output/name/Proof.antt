@@ -62,7 +62,9 @@ returns-3 c =
     let s = c .before .before .before .before .before .before .before .before .before .before .before .before .before .before .before .spread in
     let r = c .before .before .before .before .before .before .before .before .before .before .before .before .before .spread2 in
     let h = c .before .before .before .before .before .before .before .before .before .before .halves in
-    name-some (a .n) (s .last .0) (r .last .0) (s .result) (r .result) (h .result) (s .ensures .2) (r .ensures .2) (h .ensures) (omega arith) (omega arith) (s .ensures .1) (r .ensures .1) (outSeen (a .t .now) (a .at)) _ (not-false (h .result) (c .before .before .before .before .before .before .before .before .before .if1 .left)) (c .before .before .before .before .before .put .ensures) _ (c .put2 .ensures)
+    let o = outSeen (a .t .now) (a .at) in
+    let e = not-false (h .result) (c .before .before .before .before .before .before .before .before .before .if1 .left) in
+    name-some (a .n) (s .last .0) (r .last .0) (s .result) (r .result) (h .result) (s .ensures .2) (r .ensures .2) (h .ensures) (omega arith) (omega arith) (s .ensures .1) (r .ensures .1) o _ e (c .before .before .before .before .before .put .ensures) _ (c .put2 .ensures)
 
 pub name-spec : {M : Type 1} → statement M
 name-spec =
