@@ -1,4 +1,2 @@
-pub mod LineLaws
-pub mod StepLaws
-pub mod Going
+pub mod Standing
 pub mod Whole

@@ -1,21 +1,17 @@
--- The answer for any bytes (document 01, 'Reasons'): the bytes are a sheet of the rules, and reason 1 comes first. Assumes nothing.
+-- The answer for any bytes: the bytes are a sheet of the rules, and reason 1 comes first. Assumes nothing.
 use Prim.Native.Nat.{ℕ, suc, _-_}
 use mathlib.Core.Path.{_≡_}
 use mathlib.Core.Bool.{cond}
 use mathlib.Core.List.{List}
+use lib.Dec.{eqb}
 use lib.ListN.{length, take}
-use Rattle.statement.specs.Reading.{readOf}
-use Rattle.lines.specs.Sheet.{Content, fault, laid, contentAfter, lineCount, headed, oversize}
+use Rattle.lines.specs.Sheet.{contentAfter, lineCount, headed, oversize}
 use Rattle.rules.specs.declared.Answer.{Answer}
-use Rattle.rules.specs.Sheet.{Line, badLayout, lineOf, Sheet, answer, answerOf, startsOf, placesAfter}
+use Rattle.rules.specs.Sheet.{Line, Sheet, answer, answerOf, startsOf, placesAfter}
 use Rattle.rules.specs.Claims.{Passing}
+use Rattle.progress.specs.Going.{seen}
 use Rattle.run.specs.Run.{peakOf}
 use Rattle.run.specs.Demand3.{turnsOf, Demand3}
-
--- a line by its layout, and its statement as it reads
-abbrev pub seen : Content → Line
-seen fault = badLayout
-seen (laid warp text) = lineOf warp (readOf text)
 
 -- the lines after line 1 of a sheet
 unfoldable pub linesOf : List ℕ → ℕ → Line
@@ -27,6 +23,10 @@ sheetOf s = record { header = headed s; line = linesOf s; count = lineCount s - 
 -- reason 1 first, then the answer of the rules
 unfoldable pub judgedOf : List ℕ → ℕ → Answer
 judgedOf s room = cond (oversize s) (answer 1 0 0 0) (answerOf (sheetOf s) room)
+
+-- how many starts come with the answer: one for each alloc on a pass, else none
+unfoldable pub startCount : List ℕ → ℕ → ℕ
+startCount s room = cond (eqb (judgedOf s room .reason) 0) (length (startsOf (sheetOf s))) 0
 
 -- the lent list afterwards
 unfoldable pub startsAfter : List ℕ → List ℕ → List ℕ

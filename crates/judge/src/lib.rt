@@ -1,161 +1,27 @@
 // Judges a sheet: each line is read, judged and booked in turn, up to the first that is refused.
 use bindings::Bindings;
 use ledger::Ledger;
+use progress::Progress;
 use rules::Answer;
-use statement::Reading;
-use steps::Status;
-use steps::Step;
 ghost use mathlib.Core.Path.{_≡_};
 ghost use mathlib.Core.Bool.{true, cond};
-ghost use Prim.Native.Nat.{_+_, _-_, _%_, _≤_, _<_, max};
+ghost use Prim.Native.Nat.{_≤_};
 ghost use lib.Dec.{eqb};
 ghost use lib.ListN.{length, take};
 ghost use lib.Seq.{sets};
-ghost use Rattle.lines.specs.Sheet.{headed, lineCount, lineAt};
+ghost use Rattle.lines.specs.Sheet.{headed, lineCount};
 ghost use Rattle.rules.specs.Sheet.{answer, closing, answerOf, startsOf};
-ghost use Rattle.steps.specs.Steps.{arrays, only, Sized, LineDone};
-ghost use Rattle.judge.specs.Judged.{sheetOf, judgedOf, startsAfter, RunKept};
-ghost use Rattle.judge.specs.Parts.{opening, lineSeen};
+ghost use Rattle.judge.specs.Judged.{sheetOf, judgedOf, startCount, startsAfter, RunKept};
 
-// What a line gives, and where the next line starts.
-struct Stepped {
-    step: Step,
-    next: usize,
+// The answer, and how many starts come with it.
+pub struct Judged {
+    pub answer: Answer,
+    pub starts: usize,
 }
 
-// The answer, and how many starts there are.
-struct Judged {
-    answer: Answer,
-    requests: usize,
-}
-
-// A line that is refused before its statement.
-fn refused(reason: u32, status: Status, next: usize) -> Stepped
-    ensures { λ r. ⌜ (r .step ≡ only status reason) × (r .next ≡ next) ⌝ }
-{
-    Stepped {
-        step: Step {
-            reason,
-            start: 0,
-            asked: 0,
-            returned: 0,
-            status,
-        },
-        next,
-    }
-}
-
-// The line that starts at a place: read, judged and booked.
-fn step(
-    sheet: &[u8],
-    at: usize,
-    hi: &mut [u64; 16],
-    lo: &mut [u64; 16],
-    columns: &mut [u16; 16],
-    value_hi: &mut [u64; 128],
-    value_lo: &mut [u64; 128],
-    numbers: &mut [u64; 128],
-    widths: &mut [u8; 128],
-    status: Status,
-    held: u32,
-) -> Stepped
-    requires { ⌜ Sized (arrays (now hi) (now lo) (now columns) (now «value_hi») (now «value_lo») (now numbers) (now widths)) ⌝ }
-    ensures done { λ r. ⌜ LineDone held (lineSeen (now (sheet .entry)) at) (arrays (now (hi .entry)) (now (lo .entry)) (now (columns .entry)) (now («value_hi» .entry)) (now («value_lo» .entry)) (now (numbers .entry)) (now (widths .entry))) status (r .step) (arrays (now (hi .exit)) (now (lo .exit)) (now (columns .exit)) (now («value_hi» .exit)) (now («value_lo» .exit)) (now (numbers .exit)) (now (widths .exit))) ⌝ }
-    ensures next { λ r. ⌜ r .next ≡ lineAt (now (sheet .entry)) at .next ⌝ }
-{
-    let line = lines::line_at(sheet, at);
-    if !line.ok {
-        return refused(2, status, line.next);
-    }
-    let start = line.start;
-    let end = line.end;
-    let reading = reader::read(&sheet[start..end]);
-    let Reading::Got(t) = reading else {
-        return refused(reader::reason(reading), status, line.next);
-    };
-    let step = steps::statement(
-        hi,
-        lo,
-        columns,
-        value_hi,
-        value_lo,
-        numbers,
-        widths,
-        status,
-        held,
-        line.warp,
-        t,
-    );
-    Stepped {
-        step,
-        next: line.next,
-    }
-}
-
-// One request more where columns are asked for.
-fn more(requests: usize, asked: u32) -> usize
-    requires { ⌜ requests ≤ 4096 ⌝ }
-    ensures { λ r. ⌜ r ≡ cond (eqb asked 0) requests (requests + 1) ⌝ }
-{
-    if asked == 0 { requests } else { requests + 1 }
-}
-
-fn larger(x: u32, y: u32) -> u32
-    ensures { λ r. ⌜ r ≡ max x y ⌝ }
-{
-    if x < y { y } else { x }
-}
-
-// A start in 16 bits.
-fn narrow(start: u32) -> u16
-    ensures { λ r. ⌜ r ≡ start % 65536 ⌝ }
-{
-    (start % 65536) as u16
-}
-
-// No line is refused: exit is asked for, then room.
-fn finish(exited: bool, requests: usize, room: usize, line: usize, held: u32, peak: u32) -> Answer
-    ensures { λ r. ⌜ r ≡ closing exited requests room line held peak ⌝ }
-{
-    if !exited {
-        return Answer {
-            reason: 15,
-            line,
-            held,
-            peak,
-        };
-    }
-    if room < requests {
-        return Answer {
-            reason: 16,
-            line,
-            held: 0,
-            peak,
-        };
-    }
-    Answer {
-        reason: 0,
-        line,
-        held: 0,
-        peak,
-    }
-}
-
-// What is kept before the first statement.
-fn opening() -> Status
-    ensures { λ r. ⌜ r ≡ opening ⌝ }
-{
-    Status {
-        fixed: false,
-        warp: 0,
-        relinquished: false,
-        exited: false,
-    }
-}
-
-// The answer at a line that is refused: held and peak are those before it, and no start is given.
-fn stopped(reason: u32, line: usize, held: u32, peak: u32) -> Judged
-    ensures { λ r. ⌜ (r .answer ≡ answer reason line held peak) × (r .requests ≡ 0) ⌝ }
+// An answer with no starts.
+fn refused(reason: u32, line: usize, held: u32, peak: u32) -> Judged
+    ensures { λ r. ⌜ (r .answer ≡ answer reason line held peak) × (r .starts ≡ 0) ⌝ }
 {
     let answer = Answer {
         reason,
@@ -163,9 +29,29 @@ fn stopped(reason: u32, line: usize, held: u32, peak: u32) -> Judged
         held,
         peak,
     };
+    Judged { answer, starts: 0 }
+}
+
+// No line is refused: exit is asked for, then room.
+fn finish(p: Progress, room: usize) -> Judged
+    ensures answer { λ r. ⌜ r .answer ≡ closing (p .status .exited) (p .requests) room (p .line) (p .held) (p .peak) ⌝ }
+    ensures starts { λ r. ⌜ r .starts ≡ cond (eqb (r .answer .reason) 0) (p .requests) 0 ⌝ }
+{
+    if !p.status.exited {
+        return refused(reasons::EXIT, p.line, p.held, p.peak);
+    }
+    if room < p.requests {
+        return refused(reasons::STARTS, p.line, 0, p.peak);
+    }
+    let answer = Answer {
+        reason: reasons::PASSED,
+        line: p.line,
+        held: 0,
+        peak: p.peak,
+    };
     Judged {
         answer,
-        requests: 0,
+        starts: p.requests,
     }
 }
 
@@ -173,8 +59,9 @@ fn stopped(reason: u32, line: usize, held: u32, peak: u32) -> Judged
 fn judge_lines(sheet: &[u8], room: usize, given: &mut [u16; 4096]) -> Judged
     requires { ⌜ (headed (now sheet) ≡ true) × (lineCount (now sheet) ≤ 4096) × (length (now given) ≡ 4096) ⌝ }
     ensures answer { λ r. ⌜ r .answer ≡ answerOf (sheetOf (now (sheet .entry))) room ⌝ }
-    ensures size { λ r. ⌜ (r .requests ≤ 4096) × (length (now (given .exit)) ≡ 4096) ⌝ }
-    ensures starts { λ r. ⌜ (r .answer .reason ≡ 0 → take (r .requests) (now (given .exit)) ≡ startsOf (sheetOf (now (sheet .entry)))) ⌝ }
+    ensures count { λ r. ⌜ r .starts ≡ cond (eqb (r .answer .reason) 0) (length (startsOf (sheetOf (now (sheet .entry))))) 0 ⌝ }
+    ensures size { λ r. ⌜ (r .starts ≤ 4096) × (length (now (given .exit)) ≡ 4096) ⌝ }
+    ensures starts { λ r. ⌜ (r .answer .reason ≡ 0 → take (r .starts) (now (given .exit)) ≡ startsOf (sheetOf (now (sheet .entry)))) ⌝ }
 {
     let ledger = Ledger::new();
     let mut hi = ledger.hi;
@@ -185,15 +72,10 @@ fn judge_lines(sheet: &[u8], room: usize, given: &mut [u16; 4096]) -> Judged
     let mut value_lo = table.lo;
     let mut numbers = table.numbers;
     let mut widths = table.widths;
-    let mut status = opening();
-    let mut requests: usize = 0;
-    let mut held: u32 = 0;
-    let mut peak: u32 = 0;
+    let mut p = progress::opening();
     let mut at = lines::HEADER;
-    let mut line: usize = 1;
     while at < sheet.len() {
-        line += 1;
-        let done = step(
+        let done = progress::advance(
             sheet,
             at,
             &mut hi,
@@ -203,21 +85,16 @@ fn judge_lines(sheet: &[u8], room: usize, given: &mut [u16; 4096]) -> Judged
             &mut value_lo,
             &mut numbers,
             &mut widths,
-            status,
-            held,
+            given,
+            p,
         );
-        if done.step.reason != 0 {
-            return stopped(done.step.reason, line, held, peak);
+        p = done.progress;
+        if done.reason != 0 {
+            return refused(done.reason, p.line, p.held, p.peak);
         }
-        given[requests] = narrow(done.step.start);
-        requests = more(requests, done.step.asked);
-        held = held + done.step.asked - done.step.returned;
-        peak = larger(peak, held);
-        status = done.step.status;
         at = done.next;
     }
-    let answer = finish(status.exited, requests, room, line, held, peak);
-    Judged { answer, requests }
+    finish(p, room)
 }
 
 // The places of w over the first ones of the list.
@@ -232,34 +109,24 @@ fn put_starts(list: &mut [u16], w: &[u16])
     }
 }
 
-// Judges a sheet of any bytes. Nothing is written to `starts` unless the sheet passes and they have room for all of
+// Judges a sheet of any bytes: the answer, and how many starts come with it. Nothing is written to `starts` unless the sheet passes and they have room for all of
 // its starts.
-pub fn judge(sheet: &[u8], starts: &mut [u16]) -> Answer
-    ensures answer { λ r. ⌜ r ≡ judgedOf (now (sheet .entry)) (length (now (starts .entry))) ⌝ }
+pub fn judge(sheet: &[u8], starts: &mut [u16]) -> Judged
+    ensures answer { λ r. ⌜ r .answer ≡ judgedOf (now (sheet .entry)) (length (now (starts .entry))) ⌝ }
+    ensures count { λ r. ⌜ r .starts ≡ startCount (now (sheet .entry)) (length (now (starts .entry))) ⌝ }
     ensures places { λ r. ⌜ now (starts .exit) ≡ startsAfter (now (sheet .entry)) (now (starts .entry)) ⌝ }
-    ensures run { λ r. ⌜ RunKept (now (sheet .entry)) r (now (starts .exit)) ⌝ }
+    ensures run { λ r. ⌜ RunKept (now (sheet .entry)) (r .answer) (now (starts .exit)) ⌝ }
 {
     if lines::size_fault(sheet) {
-        return Answer {
-            reason: 1,
-            line: 0,
-            held: 0,
-            peak: 0,
-        };
+        return refused(reasons::SIZE, 0, 0, 0);
     }
     if !lines::is_headed(sheet) {
-        return Answer {
-            reason: 2,
-            line: 1,
-            held: 0,
-            peak: 0,
-        };
+        return refused(reasons::LAYOUT, 1, 0, 0);
     }
     let mut given = [0u16; 4096];
     let judged = judge_lines(sheet, starts.len(), &mut given);
-    let answer = judged.answer;
-    if answer.reason == 0 {
-        put_starts(&mut *starts, &given[..judged.requests]);
+    if judged.answer.reason == 0 {
+        put_starts(&mut *starts, &given[..judged.starts]);
     }
-    answer
+    judged
 }

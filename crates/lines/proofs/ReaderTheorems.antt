@@ -6,9 +6,9 @@ use mathlib.Core.Path.{_≡_, refl, sym, ap, _∙_, subst}
 use mathlib.Core.List.{List, [], _∷_}
 use mathlib.Core.Bool.{true}
 use lib.ListN.{length, drop, length-drop}
-use Rattle.lines.specs.Sheet.{after, lineCount, laidOut, headed, bodyAt, contentOf, contentAfter, contentSeen, lineAt, placeAfter}
+use Rattle.lines.specs.Sheet.{after, lineCount, laidOut, headed, bodyAt, contentOf, contentAfter, contentSeen, lineAt, placeAfter, After}
 use Rattle.lines.proofs.SheetLaws.{count-line, line-ok, line-seen}
-use Rattle.lines.proofs.SheetTheorems.{After, after-header, step-after}
+use Rattle.lines.proofs.SheetTheorems.{after-header, step-after}
 
 -- with no line there is no byte
 none-empty : (l : List ℕ) → lineCount l ≡ 0 → length l ≡ 0

@@ -10,7 +10,7 @@ use lib.Dec.{leb, eqb}
 use borrow.Author.Tests.{eqb-true, leb-true, le-leb}
 use Rattle.laws.proofs.BoolLaws.{never, and-split}
 use Rattle.tokens.specs.Bytes.{pick, all}
-use Rattle.lines.specs.Sheet.{textOf, endedOf, rest, after, countFrom, lineCount, warpByte, warpOf, plain, laidOut, Content, fault, laid, contentOf, contentAfter, headed, bodyAt, lineAt, contentSeen}
+use Rattle.lines.specs.Sheet.{textOf, endedOf, rest, after, countFrom, lineCount, warpByte, warpOf, plain, laidOut, Content, fault, laid, contentOf, contentAfter, headed, bodyAt, lineAt, After, contentSeen}
 use Rattle.lines.specs.declared.Line.{Line}
 use Rattle.lines.specs.Written.{Written}
 use Rattle.lines.proofs.SheetLaws.{count-line, count-none, bit-le, header-inside, header-after, header-counted, line-seen, line-inside, line-next, line-after, line-counted}
@@ -98,12 +98,6 @@ unfolding lineCount
 count-le l = count-from-le true l
 
 -- ---- a step of a loop over the lines
-
--- the loop stands at a place after k lines, and has counted them
-pub record After (s : List ℕ) (k at : ℕ) : Type 0 where
-  pub inside : at ≤ length s
-  pub here : drop at s ≡ after k s
-  pub counted : k + lineCount (drop at s) ≡ lineCount s
 
 -- after the header one line is done
 pub after-header : (s : List ℕ) → headed s ≡ true → After s 1 bodyAt

@@ -1,5 +1,6 @@
 -- The sheet: its limits, its lines by number, and what a line is. Assumes nothing.
-use Prim.Native.Nat.{ℕ, zero, suc, _+_, _-_}
+use Prim.Native.Nat.{ℕ, zero, suc, _+_, _-_, _≤_}
+use mathlib.Core.Path.{_≡_}
 use mathlib.Core.List.{List, [], _∷_}
 use mathlib.Core.Bool.{Bool, true, false, _&&_, _||_}
 use lib.ListN.{length, getD, take, drop}
@@ -129,3 +130,9 @@ placeAfter s at (suc k) = lineAt s (placeAfter s at k) .next
 -- what a line found by places is
 unfoldable pub contentSeen : List ℕ → Line → Content
 contentSeen s r = pick (r .ok) (laid (r .warp) (take (r .end - r .start) (drop (r .start) s))) fault
+
+-- a place stands after k lines of a sheet
+pub record After (s : List ℕ) (k at : ℕ) : Type 0 where
+  pub inside : at ≤ length s
+  pub here : drop at s ≡ after k s
+  pub counted : k + lineCount (drop at s) ≡ lineCount s

@@ -24,9 +24,8 @@ use Rattle.rules.specs.Sheet.{Line, badLayout, noForm, tooLarge, statement, lin
 use Rattle.steps.specs.declared.Status.{Status}
 use Rattle.steps.specs.declared.Step.{Step}
 use Rattle.steps.specs.Steps.{Arrays, only, Gives, StatementDone, LineDone}
-use Rattle.judge.specs.Judged.{seen}
-use Rattle.judge.specs.Parts.{lineSeen}
-use Rattle.judge.proofs.LineLaws.{fault-seen, laid-seen}
+use Rattle.progress.specs.Going.{seen, lineSeen}
+use Rattle.progress.proofs.LineLaws.{fault-seen, laid-seen}
 
 -- a line that is refused for a reason in any state
 only-done : (held : ℕ) (x : Line) (why : ℕ) → ((s : State) → firstBroken (lineRules lowest s held x) ≡ why) → (why ≡ 0 → ⊥)

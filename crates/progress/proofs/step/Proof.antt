@@ -1,12 +1,12 @@
--- `judge::step` meets its contract: one law for each way out, a layout fault, a statement that did not read, and what the statement gives. Assumes
+-- `progress::step` meets its contract: one law for each way out, a layout fault, a statement that did not read, and what the statement gives. Assumes
 -- nothing.
 use mathlib.Core.Path.{refl, _∙_}
 use borrow.Author.Needs.{needs}
 use borrow.Author.Tests.{not-true, not-false}
 use Rattle.statement.proofs.Readings.{unread}
-use Rattle.judge.proofs.StepLaws.{next-is, fault-done, part, not-read, was-read}
-use Rattle.judge.proofs.step.Statement.{statement}
-use Rattle.judge.proofs.step.Tie as tie
+use Rattle.progress.proofs.StepLaws.{next-is, fault-done, part, not-read, was-read}
+use Rattle.progress.proofs.step.Statement.{statement}
+use Rattle.progress.proofs.step.Tie as tie
 
 line-at-requires : tie.Need-line-at-requires
 line-at-requires c κs = search needs

@@ -1,8 +1,8 @@
--- `judge::more` meets its contract: the test of the columns decides. Assumes nothing.
+-- `progress::more` meets its contract: the test of the columns decides. Assumes nothing.
 use borrow.Author.Needs.{needs}
 use borrow.Author.Tests.{eq-eqb, ne-eqb}
-use Rattle.judge.proofs.more.Statement.{statement}
-use Rattle.judge.proofs.more.Tie as tie
+use Rattle.progress.proofs.more.Statement.{statement}
+use Rattle.progress.proofs.more.Tie as tie
 
 add-result : tie.Need-add-result
 add-result c = search needs

@@ -1,0 +1,104 @@
+-- One line: what an accepted line asks for and is given is small, and a line found by places is a layout fault or a warp and a statement's bytes.
+-- Assumes nothing.
+use Prim.Native.Nat.{ℕ, zero, suc, _+_, _*_, _-_, _≤_, _<_}
+use mathlib.Core.Path.{_≡_, refl, sym, ap, _∙_}
+use mathlib.Core.Bool.{Bool, true, false, cond}
+use mathlib.Core.List.{List, [], _∷_, _++_}
+use mathlib.Core.Option.{Option, none, some}
+use native.Mathlib.Omega.{arith}
+use lib.Dec.{ltb, eqb}
+use lib.ListN.{length, take, drop, length-append}
+use borrow.Author.Tests.{ltb-true}
+use Rattle.tokens.specs.Bytes.{pick}
+use Rattle.lines.specs.declared.Line as lines
+use Rattle.lines.specs.Sheet.{fault, laid, contentSeen}
+use Rattle.request.specs.Request.{legal}
+use Rattle.request.proofs.RequestLaws.{request-exact}
+use Rattle.statement.specs.Views.{Ask, requestOf, releaseOf, for, holds, of}
+use Rattle.rules.specs.State.{State, Allocation, slot, lowest, columnsOf}
+use Rattle.rules.specs.Reasons.{sized}
+use Rattle.rules.specs.Sheet.{Line, badLayout, noForm, tooLarge, statement, lineRules, startList, given, requested, released, sum, heldAfter, ours, stateAfter, startsBy, startsUpTo, rulesBy}
+use Rattle.rules.specs.Claims.{AllKept}
+use Rattle.rules.proofs.RuleLaws.{accepted}
+
+-- a line found by places: a layout fault, or its warp and the bytes of its statement
+pub fault-seen : (s : List ℕ) (l : lines.Line) → l .ok ≡ false → contentSeen s l ≡ fault
+unfolding contentSeen
+fault-seen s l h = ap (λ (b : Bool). pick b (laid (l .warp) (take (l .end - l .start) (drop (l .start) s))) fault) h
+
+pub laid-seen : (s : List ℕ) (l : lines.Line) → l .ok ≡ true → contentSeen s l ≡ laid (l .warp) (take (l .end - l .start) (drop (l .start) s))
+unfolding contentSeen
+laid-seen s l h = ap (λ (b : Bool). pick b (laid (l .warp) (take (l .end - l .start) (drop (l .start) s))) fault) h
+
+-- ---- what is asked for
+asked-by : (s : State) (o p : Option Ask) → holds (for o (λ r. legal (r .columns)) ∷ for p (λ r. eqb (columnsOf (r .name) (s .live)) (r .columns)) ∷ []) ≡ true → of o (λ r. r .columns) 0 ≤ 512
+asked-by s none p e = omega arith
+asked-by s (some r) p e = request-exact (r .columns) .power e .most
+
+-- an accepted line asks for at most 512 columns
+pub asked-most : (s : State) (held : ℕ) (x : Line) → AllKept (lineRules lowest s held x) → requested x ≤ 512
+unfolding requested sized
+asked-most s held badLayout h = omega arith
+asked-most s held noForm h = omega arith
+asked-most s held tooLarge h = omega arith
+asked-most s held (statement w t) h = asked-by s (requestOf t) (releaseOf t) (accepted lowest s held w t (h .1) .sizes)
+
+-- k accepted lines hold at most 512 columns for each
+sum-most : (line : ℕ → Line) (k : ℕ) → ((j : ℕ) → j < k → AllKept (rulesBy ours line j)) → sum requested line k ≤ 512 * k
+unfolding sum
+sum-most line zero h = omega arith
+sum-most line (suc k) h =
+    omega (arith, sum-most line k (λ j p. h j (omega (arith, p))), asked-most (stateAfter line k) (heldAfter line k) (line k) (h k (omega arith)))
+
+pub held-most : (line : ℕ → Line) (k : ℕ) → ((j : ℕ) → j < k → AllKept (rulesBy ours line j)) → heldAfter line k ≤ 512 * k
+unfolding heldAfter
+held-most line k h = omega (arith, sum-most line k h)
+
+-- ---- the starts
+-- a line is given at most one
+one-start : (o : Option ℕ) → length (startList o) ≤ 1
+one-start none = omega arith
+one-start (some x) = omega arith
+
+given-by : (s : State) (o : Option Ask) → length (of o (λ r. startList (lowest (s .live) (r .columns))) []) ≤ 1
+given-by s none = omega arith
+given-by s (some r) = one-start (lowest (s .live) (r .columns))
+
+given-few : (s : State) (x : Line) → length (given lowest s x) ≤ 1
+unfolding given
+given-few s badLayout = omega arith
+given-few s noForm = omega arith
+given-few s tooLarge = omega arith
+given-few s (statement w t) = given-by s (requestOf t)
+
+pub starts-few : (line : ℕ → Line) (k : ℕ) → length (startsUpTo line k) ≤ k
+unfolding startsBy
+starts-few line zero = omega arith
+starts-few line (suc k) =
+    omega (arith, length-append (startsUpTo line k) (given lowest (stateAfter line k) (line k)), starts-few line k, given-few (stateAfter line k) (line k))
+
+-- the first of a list
+head : List ℕ → ℕ
+head [] = 0
+head (x ∷ l) = x
+
+none-below : (start : ℕ) → [] ≡ start ∷ [] → start < 512
+none-below start e = absurd (omega (arith, ap (length {A = ℕ}) e))
+
+place-below : (i start : ℕ) (b : Bool) → ltb i 16 ≡ b → startList (cond b (some (i * 32)) none) ≡ start ∷ [] → start < 512
+unfolding head
+place-below i start true t e = let z : i * 32 ≡ start = ap head e in omega (arith, ltb-true i 16 t)
+place-below i start false t e = none-below start e
+
+start-by : (s : State) (o : Option Ask) (start : ℕ) → of o (λ r. startList (lowest (s .live) (r .columns))) [] ≡ start ∷ [] → start < 512
+unfolding lowest
+start-by s none start e = none-below start e
+start-by s (some r) start e = place-below (slot (s .live) (r .columns)) start (ltb (slot (s .live) (r .columns)) 16) refl e
+
+-- a start is below 512
+pub start-below : (s : State) (x : Line) (start : ℕ) → given lowest s x ≡ start ∷ [] → start < 512
+unfolding given
+start-below s badLayout start e = none-below start e
+start-below s noForm start e = none-below start e
+start-below s tooLarge start e = none-below start e
+start-below s (statement w t) start e = start-by s (requestOf t) start e

@@ -1,0 +1,85 @@
+-- Where the judge stands after line 1 and some lines more, all of them accepted, and what the next line gives. Assumes nothing.
+use Prim.Native.Nat.{ℕ, suc, _+_, _-_, _<_, _≤_, _^_, max}
+use mathlib.Core.Path.{_≡_}
+use mathlib.Core.Bool.{false, cond}
+use mathlib.Core.List.{List}
+use lib.Dec.{eqb}
+use lib.ListN.{length}
+use lib.Seq.{sets}
+use Rattle.statement.specs.Reading.{readOf}
+use Rattle.lines.specs.Sheet.{Content, fault, laid, contentSeen, lineAt}
+use Rattle.rules.specs.Sheet.{Line, badLayout, lineOf, heldAfter, peakUpTo, ours, reasonBy, stateAfter, startsUpTo}
+use Rattle.steps.specs.declared.Status.{Status}
+use Rattle.steps.specs.declared.Step.{Step}
+use Rattle.steps.specs.Steps.{Arrays, Kept}
+use Rattle.progress.specs.declared.Progress.{Progress}
+use Rattle.progress.specs.declared.Advanced.{Advanced}
+
+-- a line by its layout, and its statement as it reads
+abbrev pub seen : Content → Line
+seen fault = badLayout
+seen (laid warp text) = lineOf warp (readOf text)
+
+-- the line that starts at a place
+abbrev pub lineSeen : List ℕ → ℕ → Line
+lineSeen s at = seen (contentSeen s (lineAt s at))
+
+-- after line 1: no warp is fixed, nothing is relinquished, and nothing was asked for
+abbrev pub opening : Progress
+opening = record { status = record { fixed = false; warp = 0; relinquished = false; exited = false }; requests = 0; held = 0; peak = 0; line = 1 }
+
+-- line 1 and k lines after it are done: what is kept, the figures and the starts are those after them
+pub record Going (lines : ℕ → Line) (k : ℕ) (first given : List ℕ) (a : Arrays) (p : Progress) : Type 0 where
+  pub line-is : p .line ≡ suc k
+  pub accepted : (j : ℕ) → j < k → reasonBy ours lines j ≡ 0
+  pub kept : Kept a (p .status) (stateAfter lines k)
+  pub held-is : p .held ≡ heldAfter lines k
+  pub peak-is : p .peak ≡ peakUpTo lines k
+  pub requests-is : p .requests ≡ length (startsUpTo lines k)
+  -- each start in its place, and the places past them as they were at first
+  pub starts-are : given ≡ sets first 0 (startsUpTo lines k)
+
+-- ---- one line more
+-- the line x comes next, after fewer than 4,095 lines
+pub record Ready (x : Line) (given : List ℕ) (a : Arrays) (p : Progress) : Type 0 where
+  pub lines : ℕ → Line
+  pub done : ℕ
+  pub first : List ℕ
+  pub going : Going lines done first given a p
+  pub here : lines done ≡ x
+  pub few : done < 4095
+  pub places : length given ≡ 4096
+
+-- one line is counted and nothing else
+abbrev pub passedBy : Progress → Progress
+passedBy p = record { status = p .status; requests = p .requests; held = p .held; peak = p .peak; line = p .line + 1 }
+
+-- what an accepted line is counted to
+abbrev pub countedOf : Progress → Step → Progress
+countedOf p r = record {
+  status = r .status;
+  requests = cond (eqb (r .asked) 0) (p .requests) (p .requests + 1);
+  held = p .held + r .asked - r .returned;
+  peak = max (p .peak) (p .held + r .asked - r .returned);
+  line = p .line + 1;
+}
+
+-- the counts do not overflow
+pub record Small (p : Progress) (r : Step) : Type 0 where
+  pub requests : p .requests < 4096
+  pub line : p .line < 4096
+  pub held : p .held + r .asked < 2 ^ 32
+  pub returned : r .returned ≤ p .held + r .asked
+
+-- what the line after k lines gives
+pub record Next (lines : ℕ → Line) (k : ℕ) (first given : List ℕ) (a : Arrays) (p : Progress) (r : Advanced) (nextGiven : List ℕ) (next : Arrays) : Type 0 where
+  pub reasons : r .reason ≡ reasonBy ours lines k
+  -- accepted: one line more is done
+  pub goes-on : r .reason ≡ 0 → Going lines (suc k) first nextGiven next (r .progress)
+  -- refused: nothing changes but the line's number
+  pub stops : (r .reason ≡ 0 → ⊥) → (r .progress ≡ passedBy p) × ((nextGiven ≡ given) × (next ≡ a))
+
+-- that, of the line x wherever it comes next
+abbrev pub Went : Line → List ℕ → Arrays → Progress → Advanced → List ℕ → Arrays → Type 0
+Went x given a p r nextGiven next =
+    (lines : ℕ → Line) (k : ℕ) (first : List ℕ) → Going lines k first given a p → lines k ≡ x → Next lines k first given a p r nextGiven next
