@@ -74,6 +74,23 @@ pub grown : (n : ℕ) (z : ℤ) → n ≤ 65537 → Moved (65537 - n) z → Grow
 grown n (pos k) l m = grown-by n k (eqb k 0 || ltb 65536 (n + k)) refl l m
 grown n (negsuc k) l m = tt
 
+-- ---- how reading stands at a turn of the loop, and what is left of it
+
+abbrev pub SoFar : Input → Type 0
+SoFar (More n) = n ≤ 65536
+SoFar (All n) = n ≤ 65537
+SoFar Failed = Unit
+
+abbrev pub leftOf : Input → ℕ
+leftOf (More n) = 65538 - n
+leftOf (All n) = 0
+leftOf Failed = 0
+
+next : (n : ℕ) (i : Input) → n ≤ 65536 → Grown n i → SoFar i × (leftOf i < leftOf (More n))
+next n (More m) l g = (g .1, omega (arith, g .0, g .1))
+next n (All m) l g = (g, omega (arith, l))
+next n Failed l g = (tt, omega (arith, l))
+
 -- ---- a turn of the loop: n bytes came before, the part that is lent to `read` has the bytes that are left, and z is the answer
 module _ (n : ℕ) (sheet : List ℕ) (z : ℤ) (fits : SFits w64 z) (e : length sheet ≡ 65537) (l : n ≤ 65536) (m : Moved (length (take (length sheet - n) (drop n sheet))) z) where
   left : length (take (length sheet - n) (drop n sheet)) ≡ 65537 - n
@@ -87,8 +104,8 @@ module _ (n : ℕ) (sheet : List ℕ) (z : ℤ) (fits : SFits w64 z) (e : length
   asked = (omega (arith, l), subst (Moved (65537 - n)) (sym (toZ-ofZ w64 z fits)) (subst (λ (k : ℕ). Moved k z) left m))
 
   -- what `taken` gave
-  pub goes : (i j : Input) → i ≡ takenOf n (toZ w64 (ofZ w64 z)) → i ≡ j → Grown n j
-  goes i j a b = subst (Grown n) (sym a ∙ b) (grown n (toZ w64 (ofZ w64 z)) (asked .0) (asked .1))
+  pub goes : (i : Input) → i ≡ takenOf n (toZ w64 (ofZ w64 z)) → SoFar i × (leftOf i < leftOf (More n))
+  goes i a = next n i l (subst (Grown n) (sym a) (grown n (toZ w64 (ofZ w64 z)) (asked .0) (asked .1)))
 
 -- ---- what is printed
 

@@ -35,14 +35,15 @@ fn read_sheet(sheet: &mut [u8]) -> Input
     requires { ⌜ length (now sheet) ≡ 65537 ⌝ }
     ensures { λ r. ⌜ Over (length (now (sheet .exit))) r ⌝ }
 {
-    let mut length = 0;
+    let mut input = Input::More(0);
     loop {
-        let got = libc::read(STDIN_FILENO, &mut sheet[length..]);
-        let input = taken(length, got);
         match input {
-            Input::More(n) => length = n,
-            Input::All(n) => return Input::All(n),
-            Input::Failed => return Input::Failed,
+            Input::More(n) => {
+                let got = libc::read(STDIN_FILENO, &mut sheet[n..]);
+                input = taken(n, got);
+            }
+            Input::All(_) => return input,
+            Input::Failed => return input,
         }
     }
 }
