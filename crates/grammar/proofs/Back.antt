@@ -12,7 +12,9 @@ use Rattle.tokens.specs.declared.Name.{Name}
 use Rattle.tokens.specs.Bytes.{pick, between, letter, wordByte, all}
 use Rattle.tokens.specs.Names.{sigil, isName, byteDigits, packed, lowBytes, strip, nameBytes, sameName, nameGiven}
 use Rattle.tokens.specs.Numbers.{digitOf, isDigit, positional, hexMark, someDigits, zeroLed, isNumber, valueOf, lowDigits, trimmed, decimal}
-use Rattle.grammar.proofs.Lexing.{both, never, starts, whole, name-whole}
+use Rattle.laws.proofs.BoolLaws.{and-split, never}
+use Rattle.tokens.proofs.Lengths.{digits-length}
+use Rattle.grammar.proofs.Lexing.{starts, whole, name-whole}
 
 -- ---- names
 -- each byte is one of 1 to 255
@@ -70,7 +72,7 @@ either false b h f g = g h
 
 between-byte : (a e x : ℕ) → 0 < a → e < 256 → between a e x ≡ true → (0 < x) × (x < 256)
 between-byte a e x p q h =
-    let k = both (leb a x) (leb x e) h in
+    let k = and-split (leb a x) (leb x e) h in
     let s = leb-true a x (k .0) in
     let t = leb-true x e (k .1) in
     (omega arith, omega arith)
@@ -92,7 +94,7 @@ word-byte x h =
 words-bytes : (l : List ℕ) → all wordByte l ≡ true → Bytes l
 words-bytes [] h = tt
 words-bytes (x ∷ l) h =
-    let p = both (wordByte x) (all wordByte l) h in
+    let p = and-split (wordByte x) (all wordByte l) h in
     let b = word-byte x (p .0) in
     (b .0, b .1, words-bytes l (p .1))
 
@@ -100,7 +102,7 @@ whole-bytes : (l : List ℕ) → whole l ≡ true → Bytes l
 unfolding whole
 whole-bytes [] h = tt
 whole-bytes (x ∷ l) h =
-    let p = both (starts x) (all wordByte l) h in
+    let p = and-split (starts x) (all wordByte l) h in
     let b = either (wordByte x) (eqb x 37) (p .0) (word-byte x) (same-byte 37 x (omega arith) (omega arith)) in
     (b .0, b .1, words-bytes l (p .1))
 
@@ -108,8 +110,8 @@ pub name-short : (w : List ℕ) → isName w ≡ true → length w ≤ 16
 unfolding isName
 name-short [] h = omega arith
 name-short (x ∷ l) h =
-    let p = both (letter x || sigil x && ltb 0 (length l)) (leb (length l) 15 && all wordByte l) h in
-    let q = leb-true (length l) 15 (both (leb (length l) 15) (all wordByte l) (p .1) .0) in
+    let p = and-split (letter x || sigil x && ltb 0 (length l)) (leb (length l) 15 && all wordByte l) h in
+    let q = leb-true (length l) 15 (and-split (leb (length l) 15) (all wordByte l) (p .1) .0) in
     omega arith
 
 -- the bytes of a name that was packed
@@ -149,17 +151,12 @@ low-value (suc n) v h =
 
 all-snoc : (f : ℕ → Bool) (l : List ℕ) (x : ℕ) → all f l ≡ true → f x ≡ true → all f (l ++ x ∷ []) ≡ true
 all-snoc f [] x h e = rw e
-all-snoc f (y ∷ l) x h e = let p = both (f y) (all f l) h in rw (p .0) (all-snoc f l x (p .1) e)
+all-snoc f (y ∷ l) x h e = let p = and-split (f y) (all f l) h in rw (p .0) (all-snoc f l x (p .1) e)
 
 low-digits : (n v : ℕ) → all (isDigit 10) (lowDigits n v) ≡ true
 unfolding lowDigits
 low-digits zero v = refl
 low-digits (suc n) v = let m : v % 10 < 10 = omega arith in all-snoc (isDigit 10) (lowDigits n (v / 10)) (48 + v % 10) (low-digits n (v / 10)) (is-digit (v % 10) m)
-
-low-length : (n v : ℕ) → length (lowDigits n v) ≡ n
-unfolding lowDigits
-low-length zero v = refl
-low-length (suc n) v = simp (length-append, low-length n (v / 10)) (omega arith)
 
 -- what is shown of digits without the zeros that lead
 record Trimmed (l d : List ℕ) : Type 0 where
@@ -177,7 +174,7 @@ trim-by false x y l e h i = record { value = refl; digits = h; some = omega arit
 trim : (x : ℕ) (l : List ℕ) → all (isDigit 10) (x ∷ l) ≡ true → Trimmed (x ∷ l) (trimmed (x ∷ l))
 unfolding trimmed zeroLed
 trim x [] h = record { value = refl; digits = h; some = omega arith; short = omega arith; lead = and-false (eqb x 48) }
-trim x (y ∷ l) h = trim-by (eqb x 48) x y l refl h (trim y l (both (isDigit 10 x) (all (isDigit 10) (y ∷ l)) h .1))
+trim x (y ∷ l) h = trim-by (eqb x 48) x y l refl h (trim y l (and-split (isDigit 10 x) (all (isDigit 10) (y ∷ l)) h .1))
 
 trim-some : (l : List ℕ) → 0 < length l → all (isDigit 10) l ≡ true → Trimmed l (trimmed l)
 trim-some [] n h = absurd (omega arith)
@@ -185,7 +182,7 @@ trim-some (x ∷ l) n h = trim x l h
 
 decimal-trimmed : (v : ℕ) → Trimmed (lowDigits 20 v) (decimal v)
 unfolding decimal
-decimal-trimmed v = trim-some (lowDigits 20 v) (omega (arith, low-length 20 v)) (low-digits 20 v)
+decimal-trimmed v = trim-some (lowDigits 20 v) (omega (arith, digits-length 20 v)) (low-digits 20 v)
 
 -- decimal digits hold no 0x
 not-digit : (y k : ℕ) → isDigit 10 y ≡ true → isDigit 10 k ≡ false → eqb y k ≡ false
@@ -200,8 +197,8 @@ unfolding hexMark isDigit digitOf
 no-hex [] h = refl
 no-hex (x ∷ []) h = and-false (eqb x 48)
 no-hex (x ∷ (y ∷ w)) h =
-    let p = both (isDigit 10 x) (all (isDigit 10) (y ∷ w)) h in
-    let q = both (isDigit 10 y) (all (isDigit 10) w) (p .1) in
+    let p = and-split (isDigit 10 x) (all (isDigit 10) (y ∷ w)) h in
+    let q = and-split (isDigit 10 y) (all (isDigit 10) w) (p .1) in
     rw (not-digit y 120 (q .0) refl, not-digit y 88 (q .0) refl) (and-false (eqb x 48))
 
 pub decimal-number : (v : ℕ) → isNumber (decimal v) ≡ true
@@ -211,6 +208,3 @@ decimal-number v = let t = decimal-trimmed v in rw (no-hex (decimal v) (t .digit
 pub decimal-value : (v : ℕ) → v < 10 ^ 20 → valueOf (decimal v) ≡ v
 unfolding valueOf
 decimal-value v h = let t = decimal-trimmed v in rw (no-hex (decimal v) (t .digits)) (t .value ∙ low-value 20 v h)
-
-pub decimal-short : (v : ℕ) → length (decimal v) ≤ 20
-decimal-short v = let t = decimal-trimmed v in omega (arith, t .short, low-length 20 v)

@@ -26,7 +26,9 @@ use Rattle.statement.specs.Reading.{operandsC, start, wholeBy, opcodeLen, whole
 use Rattle.grammar.specs.Spells.{RowText, Spells, sizedSlot, sizedRow, sized}
 use Rattle.grammar.specs.Claims.{Exact}
 use Rattle.statement.proofs.Words.{recognised, recognises, clean}
-use Rattle.grammar.proofs.Lexing.{never, at, cut, run-all, run-ends}
+use Rattle.laws.proofs.BoolLaws.{never}
+use Rattle.tokens.proofs.Runs.{run-all, run-ends}
+use Rattle.grammar.proofs.Lexing.{at, cut}
 use Rattle.grammar.proofs.Slots.{cutSlot}
 use Rattle.grammar.proofs.Rows.{cutRow, overRow, row-sound, row-complete, row-one}
 

@@ -13,15 +13,10 @@ use Rattle.tokens.specs.Bytes.{pick, between, letter, wordByte, blank, runLen, 
 use Rattle.tokens.specs.Names.{sigil, isName, packed, noName}
 use Rattle.tokens.specs.Numbers.{digitOf, isDigit, hexMark, someDigits, zeroLed, isNumber, valueOf}
 use Rattle.tokens.specs.Cursors.{Rest, on, off, large, Took, markHere, markC, endC, nameHere, nameC, numberIs, numberHere, numberC}
+use Rattle.laws.proofs.BoolLaws.{never, and-split}
+use Rattle.tokens.proofs.Runs.{run-all, run-ends}
+use Rattle.tokens.proofs.Classes.{figure-word, digit-word, x-word}
 use Rattle.grammar.specs.Spells.{spaces, Mark, Word, NameText, NumberText}
-
--- ---- tests
-pub both : (a b : Bool) → (a && b) ≡ true → (a ≡ true) × (b ≡ true)
-both true b h = (refl, h)
-both false b h = absurd (true≢false (sym h))
-
-pub never : {A : Type 0} → false ≡ true → A
-never h = absurd (true≢false (sym h))
 
 -- ---- spaces
 pub blanks-parts : (l : List ℕ) → l ≡ spaces (runLen blank l) ++ afterBlanks l
@@ -105,18 +100,6 @@ unfoldable pub whole : List ℕ → Bool
 whole [] = false
 whole (x ∷ l) = starts x && all wordByte l
 
-pub run-all : (f : ℕ → Bool) (u r : List ℕ) → all f u ≡ true → runLen f r ≡ 0 → runLen f (u ++ r) ≡ length u
-run-all f [] r h e = e
-run-all f (x ∷ u) r h e = let p = both (f x) (all f u) h in rw (p .0, run-all f u r (p .1) e)
-
-pub run-ends : (f : ℕ → Bool) (l : List ℕ) → runLen f (drop (runLen f l) l) ≡ 0
-run-ends f [] = refl
-run-ends f (x ∷ l) = go (f x) refl (run-ends f l)
-  where
-    go : (b : Bool) → f x ≡ b → runLen f (drop (runLen f l) l) ≡ 0 → runLen f (drop (pick b (suc (runLen f l)) 0) (x ∷ l)) ≡ 0
-    go true e i = i
-    go false e i = rw e
-
 module _ (w r : List ℕ) (good : whole w ≡ true) (ends : runLen wordByte r ≡ 0) where
   token-len : tokenLen (w ++ r) ≡ length w
   unfolding whole tokenLen
@@ -124,7 +107,7 @@ module _ (w r : List ℕ) (good : whole w ≡ true) (ends : runLen wordByte r �
     where
       go : (v : List ℕ) → whole v ≡ true → tokenLen (v ++ r) ≡ length v
       go [] h = never h
-      go (x ∷ u) h = let p = both (starts x) (all wordByte u) h in rw (p .0, run-all wordByte u r (p .1) ends)
+      go (x ∷ u) h = let p = and-split (starts x) (all wordByte u) h in rw (p .0, run-all wordByte u r (p .1) ends)
 
   pub token-is : tokenOf (w ++ r) ≡ w
   unfolding tokenOf
@@ -138,7 +121,7 @@ module _ (w r : List ℕ) (good : whole w ≡ true) (ends : runLen wordByte r �
 pub whole-head : (w : List ℕ) → whole w ≡ true → (x : ℕ) × (u : List ℕ) × (w ≡ x ∷ u) × (starts x ≡ true)
 unfolding whole
 whole-head [] h = never h
-whole-head (x ∷ u) h = (x, u, refl, both (starts x) (all wordByte u) h .0)
+whole-head (x ∷ u) h = (x, u, refl, and-split (starts x) (all wordByte u) h .0)
 
 pub other : (x y : ℕ) → starts x ≡ true → starts y ≡ false → eqb x y ≡ false
 other x y h k = go (eqb x y) refl
@@ -152,14 +135,14 @@ pub word-at : (w l r : List ℕ) → whole w ≡ true → Word w l r → afterBl
 unfolding blank wordByte letter whole
 word-at [] l r g k = never g
 word-at (x ∷ u) l r g k =
-    let d : blank x ≡ false = other x 32 (both (starts x) (all wordByte u) g .0) refl in
+    let d : blank x ≡ false = other x 32 (and-split (starts x) (all wordByte u) g .0) refl in
     ap (λ (v : List ℕ). afterBlanks v) (k .parts) ∙ blanks-skip (k .blanks) x (u ++ r) d
 
 -- a token that is whole is a word of the text
 head-starts : (l : List ℕ) → whole (tokenOf l) ≡ true → runLen wordByte (afterToken l) ≡ 0
 unfolding whole tokenOf afterToken tokenLen
 head-starts [] h = refl
-head-starts (x ∷ l) h = let p = both (starts x) (all wordByte (take (pick (starts x) (runLen wordByte l) 0) l)) h in rw (p .0) (run-ends wordByte l)
+head-starts (x ∷ l) h = let p = and-split (starts x) (all wordByte (take (pick (starts x) (runLen wordByte l) 0) l)) h in rw (p .0) (run-ends wordByte l)
 
 pub token-parts : (l : List ℕ) → l ≡ tokenOf l ++ afterToken l
 unfolding tokenOf afterToken
@@ -198,60 +181,28 @@ pub name-whole : (w : List ℕ) → isName w ≡ true → whole w ≡ true
 unfolding isName whole
 name-whole [] h = h
 name-whole (x ∷ u) h =
-    let p = both (letter x || sigil x && ltb 0 (length u)) (leb (length u) 15 && all wordByte u) h in
-    let q = both (leb (length u) 15) (all wordByte u) (p .1) in
+    let p = and-split (letter x || sigil x && ltb 0 (length u)) (leb (length u) 15 && all wordByte u) h in
+    let q = and-split (leb (length u) 15) (all wordByte u) (p .1) in
     rw (name-starts x (ltb 0 (length u)) (p .0), q .1)
-
-among : (a e x : ℕ) → between a e x ≡ true → (a ≤ x) × (x ≤ e)
-among a e x h = let p = both (leb a x) (leb x e) h in (leb-true a x (p .0), leb-true x e (p .1))
-
-upper-word : (x : ℕ) → 65 ≤ x → x ≤ 90 → wordByte x ≡ true
-unfolding wordByte letter
-upper-word x h k = rw (le-leb 65 x h, le-leb x 90 k)
-
-lower-word : (x : ℕ) → 97 ≤ x → x ≤ 122 → wordByte x ≡ true
-unfolding wordByte letter
-lower-word x h k = rw (le-leb 97 x h, le-leb x 122 k, or-true (between 65 90 x))
-
-figure-word : (x : ℕ) → between 48 57 x ≡ true → wordByte x ≡ true
-unfolding wordByte
-figure-word x h = rw (h, or-true (letter x))
-
-pub digit-word : (base x : ℕ) → base ≤ 16 → isDigit base x ≡ true → wordByte x ≡ true
-unfolding isDigit digitOf
-digit-word base x b h = go (between 48 57 x) (between 65 70 x) (between 97 102 x) refl refl refl h
-  where
-    go : (c d e : Bool) → between 48 57 x ≡ c → between 65 70 x ≡ d → between 97 102 x ≡ e → ltb (pick c (x - 48) (pick d (x - 55) (pick e (x - 87) 16))) base ≡ true → wordByte x ≡ true
-    go true d e p q r k = figure-word x p
-    go false true e p q r k = let t = among 65 70 x q in upper-word x (t .0) (omega arith)
-    go false false true p q r k = let t = among 97 102 x r in lower-word x (t .0) (omega arith)
-    go false false false p q r k = absurd (let t : 16 < base = ltb-true 16 base k in omega arith)
 
 digits-word : (base : ℕ) (l : List ℕ) → base ≤ 16 → all (isDigit base) l ≡ true → all wordByte l ≡ true
 digits-word base [] b h = refl
-digits-word base (x ∷ l) b h = let p = both (isDigit base x) (all (isDigit base) l) h in rw (digit-word base x b (p .0)) (digits-word base l b (p .1))
+digits-word base (x ∷ l) b h = let p = and-split (isDigit base x) (all (isDigit base) l) h in rw (digit-word base x b (p .0)) (digits-word base l b (p .1))
 
 words-whole : (l : List ℕ) → ltb 0 (length l) ≡ true → all wordByte l ≡ true → whole l ≡ true
 unfolding whole
 words-whole [] h k = h
-words-whole (x ∷ l) h k = let p = both (wordByte x) (all wordByte l) k in rw (p .0, p .1)
-
-mark-x : (y : ℕ) → (eqb y 120 || eqb y 88) ≡ true → wordByte y ≡ true
-mark-x y h = go (eqb y 120) refl h
-  where
-    go : (b : Bool) → eqb y 120 ≡ b → (b || eqb y 88) ≡ true → wordByte y ≡ true
-    go true e k = let t : y ≡ 120 = eqb-true y 120 e in lower-word y (omega arith) (omega arith)
-    go false e k = let t : y ≡ 88 = eqb-true y 88 k in upper-word y (omega arith) (omega arith)
+words-whole (x ∷ l) h k = let p = and-split (wordByte x) (all wordByte l) k in rw (p .0, p .1)
 
 hex-whole : (w : List ℕ) → hexMark w ≡ true → someDigits 16 (drop 2 w) ≡ true → whole w ≡ true
 unfolding hexMark someDigits whole
 hex-whole [] h k = never k
 hex-whole (x ∷ []) h k = never k
 hex-whole (x ∷ (y ∷ u)) h k =
-    let p = both (eqb x 48) (eqb y 120 || eqb y 88) h in
-    let q = both (ltb 0 (length u)) (all (isDigit 16) u) k in
+    let p = and-split (eqb x 48) (eqb y 120 || eqb y 88) h in
+    let q = and-split (ltb 0 (length u)) (all (isDigit 16) u) k in
     let z : wordByte x ≡ true = rw (eqb-true x 48 (p .0)) (figure-word 48 refl) in
-    rw (z, mark-x y (p .1), digits-word 16 u (omega arith) (q .1))
+    rw (z, x-word y (p .1), digits-word 16 u (omega arith) (q .1))
 
 pub number-whole : (w : List ℕ) → isNumber w ≡ true → whole w ≡ true
 unfolding isNumber someDigits
@@ -260,8 +211,8 @@ number-whole w h = go (hexMark w) refl h
     go : (b : Bool) → hexMark w ≡ b → pick b (someDigits 16 (drop 2 w)) (not (zeroLed w) && someDigits 10 w) ≡ true → whole w ≡ true
     go true e k = hex-whole w e k
     go false e k =
-        let p = both (not (zeroLed w)) (someDigits 10 w) k in
-        let q = both (ltb 0 (length w)) (all (isDigit 10) w) (p .1) in
+        let p = and-split (not (zeroLed w)) (someDigits 10 w) k in
+        let q = and-split (ltb 0 (length w)) (all (isDigit 10) w) (p .1) in
         words-whole w (q .0) (digits-word 10 w (omega arith) (q .1))
 
 -- ---- names

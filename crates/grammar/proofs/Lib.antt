@@ -3,7 +3,6 @@ pub mod Slots
 pub mod Rows
 pub mod Exact
 pub mod Back
-pub mod Short
 pub mod Trip
 pub mod Stops
 pub mod Overs

@@ -16,7 +16,7 @@ use Rattle.statement.specs.declared.Found.the-variants.{Is, Nothing}
 use Rattle.statement.specs.Forms.{Slot, name, number, inBrackets, address, operand, names, max32, row}
 use Rattle.statement.specs.Opcodes.{recognise}
 use Rattle.statement.specs.Reading.{inBracketsC, offsetC, insideC, addressC, operandC, moreC, namesC, slotC, moreRowC, rowC, operandsC, start, opcodeLen, wholeBy, wholeC}
-use Rattle.grammar.proofs.Lexing.{never}
+use Rattle.laws.proofs.BoolLaws.{never}
 
 -- if something was too large, it was a number
 abbrev Far : Rest → Type 0

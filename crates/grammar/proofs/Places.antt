@@ -27,7 +27,8 @@ use Rattle.grammar.specs.Claims.{After, here, past, Stops, Place, Over, 
 use Rattle.statement.proofs.Words.{recognised, recognises}
 use Rattle.grammar.proofs.Rows.{row-sound}
 use Rattle.grammar.proofs.Exact.{whole-at, Met, spells-met}
-use Rattle.grammar.proofs.Lexing.{never, starts, token-parts}
+use Rattle.laws.proofs.BoolLaws.{never}
+use Rattle.grammar.proofs.Lexing.{starts, token-parts}
 use Rattle.grammar.proofs.Overs.{whole-far}
 use Rattle.grammar.proofs.Stops.{Stand, good, bad, Kind, Row, end, one, branch, reads, takes, Good, Stop, stop, head-none, run-stops, same-head, heads, lights, token-ends, token-replay}
 

@@ -10,7 +10,9 @@ use lib.Dec.{eqb}
 use borrow.Author.Tests.{ne-eqb, eqb-true}
 use Rattle.tokens.specs.Bytes.{pick, letter, wordByte, blank, runLen, afterBlanks, tokenLen, tokenOf, afterToken}
 use Rattle.grammar.specs.Claims.{After, here, past}
-use Rattle.grammar.proofs.Lexing.{never, starts, token-parts}
+use Rattle.laws.proofs.BoolLaws.{never}
+use Rattle.tokens.proofs.Runs.{run-le}
+use Rattle.grammar.proofs.Lexing.{starts, token-parts}
 
 -- ---- rows
 -- where reading stands: what is left, and whether all before it did fit
@@ -64,14 +66,6 @@ run-stops f (x ∷ z) h = go (f x) refl (run-stops f z h)
     go : (b : Bool) → f x ≡ b → f (getD (drop (runLen f z) z) 0 0) ≡ false → f (getD (drop (pick b (suc (runLen f z)) 0) (x ∷ z)) 0 0) ≡ false
     go true e i = i
     go false e i = e
-
-run-le : (f : ℕ → Bool) (l : List ℕ) → runLen f l ≤ length l
-run-le f [] = omega arith
-run-le f (x ∷ l) = go (f x) (run-le f l)
-  where
-    go : (b : Bool) → runLen f l ≤ length l → pick b (suc (runLen f l)) 0 ≤ suc (length l)
-    go true h = omega arith
-    go false h = omega arith
 
 -- ---- blanks
 blanks : List ℕ → List ℕ

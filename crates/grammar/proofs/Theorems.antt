@@ -1,5 +1,7 @@
 -- The theorems, together: each is proved in the file that its line names. Assumes nothing.
-use Prim.Native.Nat.{ℕ}
+use Prim.Native.Nat.{ℕ, _<_}
+use lib.ListN.{length}
+use borrow.Author.Tests.{lt-leb}
 use mathlib.Core.Path.{_≡_, refl, ap, sym, _∙_}
 use mathlib.Core.List.{List, _++_}
 use mathlib.Core.Bool.{true}
@@ -7,6 +9,8 @@ use Rattle.tokens.specs.Names.{isName, packed, nameBytes}
 use Rattle.tokens.specs.Numbers.{lowDigits, trimmed, decimal}
 use Rattle.statement.specs.declared.Num.{Num}
 use Rattle.statement.specs.declared.Num.the-variants.{X1, X2, X4, X8, X16, X32, X64, X128}
+use Rattle.statement.specs.declared.Reading.the-variants.{NoForm}
+use Rattle.statement.specs.Reading.{readOf}
 use Rattle.statement.specs.Text.{bytes}
 use Rattle.statement.specs.Forms.{numText}
 use Rattle.statement.specs.Cells.{times}
@@ -18,6 +22,10 @@ use Rattle.grammar.proofs.Places.{places, overs, ones}
 
 names : (v w : List ℕ) → isName v ≡ true → isName w ≡ true → packed v ≡ packed w → v ≡ w
 names v w p q e = sym (name-back v p) ∙ ap nameBytes e ∙ name-back w q
+
+long : (text : List ℕ) → 4096 < length text → readOf text ≡ NoForm 4096
+unfolding readOf
+long text h = rw (lt-leb (length text) 4096 h)
 
 nums : (n : Num) → numText n ≡ bytes ".x" ++ decimal (times n)
 unfolding decimal trimmed lowDigits
@@ -31,4 +39,4 @@ nums X64 = refl
 nums X128 = refl
 
 pub theorems : Theorems
-theorems = record { exact = exact; trip = trip; writable = writable; canonical = canonical; three = places; four = overs; one = ones; names = names; nums = nums }
+theorems = record { exact = exact; trip = trip; writable = writable; canonical = canonical; three = places; long = long; four = overs; one = ones; names = names; nums = nums }

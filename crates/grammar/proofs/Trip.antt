@@ -27,11 +27,11 @@ use Rattle.statement.specs.Reading.{readOf, registersOf}
 use Rattle.grammar.specs.Spells.{spaces, Mark, NameText, NumberText, BracketText, OffsetText, bare, plus, AddressText, OperandText, byName, byAddress, MoreNames, closes, comma, NamesText, opens, SlotText, MoreRow, RowText, Spells, sizedOperand, sizedSlot, sized}
 use Rattle.statement.specs.Canonical.{sparse, opcodeOf, mmaValues, valuesOf, offsetText, addressText, operandText, moreNamesText, namesText, slotText, moreRowText, rowText, textOf, allNames, addressGiven, operandGiven, slotGiven, rowGiven, countOf, given}
 use Rattle.grammar.specs.Claims.{Reads, Trip, Writable, Canonical}
-use Rattle.grammar.proofs.Lexing.{both, never}
+use Rattle.laws.proofs.BoolLaws.{and-split, never}
 use Rattle.grammar.proofs.Rows.{overRow}
 use Rattle.grammar.proofs.Exact.{over-none, over-sized, exact}
 use Rattle.grammar.proofs.Back.{packed-given, decimal-number, decimal-value}
-use Rattle.grammar.proofs.Short.{text-short}
+use Rattle.statement.proofs.Bound.{text-short}
 
 -- ---- limits of numbers that a decimal of 20 digits can write
 abbrev Small : Slot → Type 0
@@ -49,7 +49,7 @@ SmallRow (k ∷ ks) = Small k × SmallRow ks
 -- ---- canonical texts of operands spell them, after n spaces and before what ends a word
 same-name : (a b : Name) → sameName a b ≡ true → a ≡ b
 same-name a b h =
-    let p = both (eqb (a .hi) (b .hi)) (eqb (a .lo) (b .lo)) h in
+    let p = and-split (eqb (a .hi) (b .hi)) (eqb (a .lo) (b .lo)) h in
     let x = eqb-true (a .hi) (b .hi) (p .0) in
     let y = eqb-true (a .lo) (b .lo) (p .1) in
     ap (λ (k : ℕ). record { hi = k; lo = a .lo }) x ∙ ap (λ (k : ℕ). record { hi = b .hi; lo = k }) y
@@ -57,7 +57,7 @@ same-name a b h =
 name-spelled : (n : ℕ) (v : Name) (r : List ℕ) → nameGiven v ≡ true → runLen wordByte r ≡ 0 → NameText v (spaces n ++ (nameBytes v ++ r)) r
 unfolding nameGiven
 name-spelled n v r h e =
-    let p = both (isName (nameBytes v)) (sameName (packed (nameBytes v)) v) h in
+    let p = and-split (isName (nameBytes v)) (sameName (packed (nameBytes v)) v) h in
     record { bytes = nameBytes v; spelled = record { blanks = n; parts = refl; ends = e }; good = p .0; value = same-name (packed (nameBytes v)) v (p .1) }
 
 number-spelled : (n v : ℕ) (r : List ℕ) → v < 10 ^ 20 → runLen wordByte r ≡ 0 → NumberText v (spaces n ++ (decimal v ++ r)) r
@@ -96,7 +96,7 @@ offset-ends v r = go (eqb v 0)
 address-spelled : (n : ℕ) (v : Address) (r : List ℕ) → addressGiven v ≡ true → AddressText v (spaces n ++ (addressText v ++ r)) r
 unfolding addressText
 address-spelled n v r h =
-    let p = both (nameGiven (v .base)) (leb (v .offset) max32) h in
+    let p = and-split (nameGiven (v .base)) (leb (v .offset) max32) h in
     let rest : List ℕ = (nameBytes (v .base) ++ (offsetText (v .offset) ++ 93 ∷ [])) ++ r in
     record {
       l₁ = rest;
@@ -122,7 +122,7 @@ more-spelled : (ns : List Name) (r : List ℕ) → allNames ns ≡ true → More
 unfolding moreNamesText
 more-spelled [] r h = closes (mark-spelled 0 125 r)
 more-spelled (n ∷ ns) r h =
-    let p = both (nameGiven n) (allNames ns) h in
+    let p = and-split (nameGiven n) (allNames ns) h in
     let t : NameText n (32 ∷ ((nameBytes n ++ moreNamesText ns) ++ r)) (moreNamesText ns ++ r) = rw append-assoc (name-spelled 1 n (moreNamesText ns ++ r) (p .0) (more-ends ns r)) in
     comma (mark-spelled 0 44 (32 ∷ ((nameBytes n ++ moreNamesText ns) ++ r))) t (more-spelled ns r (p .1))
 
@@ -130,9 +130,9 @@ names-spelled : (n : ℕ) (v : List Name) (r : List ℕ) → slotGiven names v �
 unfolding namesText
 names-spelled n [] r h = never h
 names-spelled n (v ∷ ns) r h =
-    let p = both (ltb 0 (suc (length ns)) && leb (suc (length ns)) 128) (nameGiven v && allNames ns) h in
-    let q = both (nameGiven v) (allNames ns) (p .1) in
-    let k = leb-true (suc (length ns)) 128 (both (ltb 0 (suc (length ns))) (leb (suc (length ns)) 128) (p .0) .1) in
+    let p = and-split (ltb 0 (suc (length ns)) && leb (suc (length ns)) 128) (nameGiven v && allNames ns) h in
+    let q = and-split (nameGiven v) (allNames ns) (p .1) in
+    let k = leb-true (suc (length ns)) 128 (and-split (ltb 0 (suc (length ns))) (leb (suc (length ns)) 128) (p .0) .1) in
     let t : NameText v ((nameBytes v ++ moreNamesText ns) ++ r) (moreNamesText ns ++ r) = rw append-assoc (name-spelled 0 v (moreNamesText ns ++ r) (q .0) (more-ends ns r)) in
     let few : length ns ≤ 127 = omega arith in
     opens few (mark-spelled n 123 ((nameBytes v ++ moreNamesText ns) ++ r)) t (more-spelled ns r (q .1))
@@ -155,7 +155,7 @@ more-row-spelled : (ks : List Slot) (vs : Values ks) → SmallRow ks → rowGive
 unfolding moreRowText rowGiven
 more-row-spelled [] vs b h = mark-spelled 0 59 []
 more-row-spelled (k ∷ ks) vs b h =
-    let p = both (slotGiven k (vs .0)) (rowGiven ks (vs .1)) h in
+    let p = and-split (slotGiven k (vs .0)) (rowGiven ks (vs .1)) h in
     let rest : List ℕ = moreRowText ks (vs .1) in
     (32 ∷ (slotText k (vs .0) ++ rest), rest, mark-spelled 0 44 (32 ∷ (slotText k (vs .0) ++ rest)), slot-spelled k 1 (vs .0) rest (b .0) (p .0) (row-ends ks (vs .1)), more-row-spelled ks (vs .1) (b .1) (p .1))
 
@@ -163,7 +163,7 @@ row-spelled : (ks : List Slot) (vs : Values ks) → SmallRow ks → rowGiven ks 
 unfolding rowText rowGiven
 row-spelled [] vs b h = mark-spelled 0 59 []
 row-spelled (k ∷ ks) vs b h =
-    let p = both (slotGiven k (vs .0)) (rowGiven ks (vs .1)) h in
+    let p = and-split (slotGiven k (vs .0)) (rowGiven ks (vs .1)) h in
     let rest : List ℕ = moreRowText ks (vs .1) in
     (rest, slot-spelled k 1 (vs .0) rest (b .0) (p .0) (row-ends ks (vs .1)), more-row-spelled ks (vs .1) (b .1) (p .1))
 
@@ -215,7 +215,7 @@ made s.Exit regs h = no-names s.Exit regs h
 pub text-spells : (t : Statement) (regs : List Name) → given t regs ≡ true → Spells (record { statement = t; registers = regs }) (textOf t regs)
 unfolding given textOf
 text-spells t regs h =
-    let p = both (eqb (countOf t) (length regs)) (rowGiven (row (opcodeOf t)) (valuesOf t regs)) h in
+    let p = and-split (eqb (countOf t) (length regs)) (rowGiven (row (opcodeOf t)) (valuesOf t regs)) h in
     record {
       opcode = opcodeOf t;
       values = valuesOf t regs;
@@ -297,20 +297,20 @@ slot-fits : (k : Slot) (v : Value k) → slotGiven k v ≡ true → sizedSlot k 
 slot-fits name v h = refl
 slot-fits (number limit) v h = h
 slot-fits inBrackets v h = refl
-slot-fits address v h = both (nameGiven (v .base)) (leb (v .offset) max32) h .1
+slot-fits address v h = and-split (nameGiven (v .base)) (leb (v .offset) max32) h .1
 slot-fits operand (operand.Descriptor n) h = refl
-slot-fits operand (operand.Address a) h = both (nameGiven (a .base)) (leb (a .offset) max32) h .1
+slot-fits operand (operand.Address a) h = and-split (nameGiven (a .base)) (leb (a .offset) max32) h .1
 slot-fits names v h = refl
 
 row-fits : (ks : List Slot) (vs : Values ks) → rowGiven ks vs ≡ true → overRow ks vs false ≡ false
 unfolding rowGiven
 row-fits [] vs h = refl
-row-fits (k ∷ ks) vs h = let p = both (slotGiven k (vs .0)) (rowGiven ks (vs .1)) h in rw (slot-fits k (vs .0) (p .0)) (row-fits ks (vs .1) (p .1))
+row-fits (k ∷ ks) vs h = let p = and-split (slotGiven k (vs .0)) (rowGiven ks (vs .1)) h in rw (slot-fits k (vs .0) (p .0)) (row-fits ks (vs .1) (p .1))
 
 pub given-sized : (t : Statement) (regs : List Name) → given t regs ≡ true → sized t ≡ true
 unfolding given
 given-sized t regs h =
-    let p = both (eqb (countOf t) (length regs)) (rowGiven (row (opcodeOf t)) (valuesOf t regs)) h in
+    let p = and-split (eqb (countOf t) (length regs)) (rowGiven (row (opcodeOf t)) (valuesOf t regs)) h in
     let e = sym (over-sized (opcodeOf t) (valuesOf t regs)) ∙ row-fits (row (opcodeOf t)) (valuesOf t regs) (p .1) in
     not-false (sized t) (ap (λ (w : Whole). not (sized (w .statement))) (sym (made t regs (p .0))) ∙ e)
 

@@ -1,5 +1,5 @@
 -- What is shown of reading and writing: a record for each theorem, a field for each sentence of it, and last, in `Theorems`, of which texts and statements each is shown. Assumes nothing.
-use Prim.Native.Nat.{ℕ, _≤_}
+use Prim.Native.Nat.{ℕ, _<_, _≤_}
 use mathlib.Core.Path.{_≡_}
 use mathlib.Core.Logic.{_↔_}
 use mathlib.Core.List.{List, _++_}
@@ -107,6 +107,8 @@ pub record Theorems : Type 0 where
   pub writable : (t : Statement) (regs : List Name) → Writable t regs
   pub canonical : (text : List ℕ) (t : Statement) → readOf text ≡ Got t → Canonical text t
   pub three : (text : List ℕ) (place : ℕ) → length text ≤ 4096 → readOf text ≡ NoForm place → Place text place
+  -- Over 4,096 bytes no form matches, and the place is 4,096.
+  pub long : (text : List ℕ) → 4096 < length text → readOf text ≡ NoForm 4096
   pub four : (text : List ℕ) (place : ℕ) → readOf text ≡ TooLarge place → Over text place
   pub one : (fits : Statement → Bool) (text : List ℕ) → One fits text
   -- Names that are held as equal numbers have the same bytes: so two statements are equal exactly when forms, numbers and the bytes of names are.

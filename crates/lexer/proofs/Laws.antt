@@ -13,30 +13,6 @@ use borrow.Author.Tests.{eq-eqb, ne-eqb, le-leb, lt-leb}
 use Rattle.tokens.specs.Bytes.{pick, letter, wordByte, opcodeByte, blank, runLen, tokenLen, afterToken, afterBlanks}
 use Rattle.tokens.specs.Numbers.{digitOf}
 
--- ---- tests
-pub and-no : (b : Bool) → (b && false) ≡ false
-and-no true = refl
-and-no false = refl
-
-pub and-yes : (b : Bool) → (b && true) ≡ b
-and-yes true = refl
-and-yes false = refl
-
-pub and-parts : (a b : Bool) → (a && b) ≡ true → (a ≡ true) × (b ≡ true)
-and-parts true b h = (refl, h)
-and-parts false b h = absurd (true≢false (sym h))
-
--- ---- runs
-module _ (f : ℕ → Bool) (s : List ℕ) (i : ℕ) where
-  pub run-step : i < length s → f (getD s i 0) ≡ true → runLen f (drop i s) ≡ suc (runLen f (drop (i + 1) s))
-  run-step h e = rw (add-one, drop-cons s i 0 h, e)
-
-  pub run-stop : i < length s → f (getD s i 0) ≡ false → runLen f (drop i s) ≡ 0
-  run-stop h e = rw (drop-cons s i 0 h, e)
-
-  pub run-past : length s ≤ i → runLen f (drop i s) ≡ 0
-  run-past h = rw (drop-of-length-le s h)
-
 -- ---- classes
 one-of : (b : Bool) → b ≡ (((b || false) || false) || false)
 one-of true = refl
@@ -150,14 +126,6 @@ end-law s e = go (decLe (length s) e)
     go : Dec (length s ≤ e) → leb (length s) e ≡ eqb (length (drop e s)) 0
     go (yes p) = rw (drop-of-length-le s p, le-leb _ _ p)
     go (no q) = let p : e < length s = omega arith in rw (lt-leb _ _ p, drop-cons s e 0 p, ne-eqb (suc (length (drop (suc e) s))) 0 (omega arith))
-
-pub run-le : (f : ℕ → Bool) (l : List ℕ) → runLen f l ≤ length l
-run-le f [] = omega arith
-run-le f (x ∷ l) = by (f x) (run-le f l)
-  where
-    by : (b : Bool) → runLen f l ≤ length l → pick b (suc (runLen f l)) 0 ≤ suc (length l)
-    by true h = omega arith
-    by false h = omega arith
 
 -- past a token
 pub after-law : (s : List ℕ) (i e : ℕ) → e ≡ i + tokenLen (drop i s) → drop e s ≡ afterToken (drop i s)

@@ -17,7 +17,10 @@ use Rattle.tokens.specs.Bytes.{pick, between, letter, wordByte, runLen, all, to
 use Rattle.tokens.specs.Names.{sigil, isName, byteDigits, packed, noName}
 use Rattle.tokens.specs.Cursors.{Rest, Took, on, off, nameHere}
 use Rattle.lexer.specs.Runs.{wordsLen, thereBy, nameThere}
-use Rattle.lexer.proofs.Laws.{and-no, and-yes, and-parts, word-0, run-le, run-step}
+use mathlib.Core.Bool.{and-false, and-true}
+use Rattle.laws.proofs.BoolLaws.{and-split}
+use Rattle.tokens.proofs.Runs.{run-le, run-step}
+use Rattle.lexer.proofs.Laws.{word-0}
 
 -- ---- packing
 pub pack-start : (at room : ℕ) → (at + room - at ≡ room) × (8 - room + (at - at) ≡ 8 - room)
@@ -134,7 +137,7 @@ shape x n = (letter x || sigil x && ltb 0 n) && leb n 15
 there-by : (x : ℕ) (m : List ℕ) → (letter x || sigil x) ≡ true
     → nameThere (x ∷ m) ≡ pick (shape x (runLen wordByte m)) (record { ok = true; value = packed (x ∷ take (runLen wordByte m) m); rest = drop (runLen wordByte m) m }) (record { ok = false; value = noName; rest = x ∷ m })
 unfolding nameThere tokenOf tokenLen afterToken isName
-there-by x m h = rw (start-word x h, length-take-le (runLen wordByte m) m (run-le wordByte m), all-run wordByte m, and-yes (leb (runLen wordByte m) 15))
+there-by x m h = rw (start-word x h, length-take-le (runLen wordByte m) m (run-le wordByte m), all-run wordByte m, and-true (leb (runLen wordByte m) 15))
 
 there-not : (x : ℕ) (m : List ℕ) → (letter x || sigil x) ≡ false → nameThere (x ∷ m) ≡ record { ok = false; value = noName; rest = x ∷ m }
 unfolding nameThere tokenOf tokenLen isName
@@ -197,9 +200,9 @@ module _ (s : List ℕ) (at : ℕ) where
 
         pub long-none : (leb (at + 16) e && wordByte (getD s e 0)) ≡ true → record { ok = false; value = noName; rest = drop at s } ≡ nameThere (drop at s)
         long-none k =
-            let g = and-parts (leb (at + 16) e) (wordByte (getD s e 0)) k in
+            let g = and-split (leb (at + 16) e) (wordByte (getD s e 0)) k in
             let o : 15 < runLen wordByte (drop (at + 1) s) = omega (arith, whole-by, over (leb-true (at + 16) e (g .0)) (g .1) (decLe (runLen wordByte (drop (at + 8) s)) 8)) in
-            rw (there, lt-leb (runLen wordByte (drop (at + 1) s)) 15 o, and-no (letter (getD s at 0) || sigil (getD s at 0) && ltb 0 (runLen wordByte (drop (at + 1) s))))
+            rw (there, lt-leb (runLen wordByte (drop (at + 1) s)) 15 o, and-false (letter (getD s at 0) || sigil (getD s at 0) && ltb 0 (runLen wordByte (drop (at + 1) s))))
 
         pub long-name : (leb (at + 16) e && wordByte (getD s e 0)) ≡ false
             → record { ok = true; value = record { hi = byteDigits (getD s at 0) (take (wordsLen 7 (drop (at + 1) s)) (drop (at + 1) s)); lo = byteDigits 0 (take (wordsLen 8 (drop (at + 8) s)) (drop (at + 8) s)) }; rest = drop e s } ≡ nameThere (drop at s)
@@ -210,7 +213,7 @@ module _ (s : List ℕ) (at : ℕ) where
             let p : min 7 (7 + n) ≡ 7 = omega arith in
             let r : min 8 n ≡ n = omega arith in
             let q : at + 1 + (7 + n) ≡ e = omega arith in
-            let y : (letter x || sigil x && ltb 0 (7 + n)) ≡ true = rw (lt-ltb 0 (7 + n) (omega arith), and-yes (sigil x)) start in
+            let y : (letter x || sigil x && ltb 0 (7 + n)) ≡ true = rw (lt-ltb 0 (7 + n) (omega arith), and-true (sigil x)) start in
             rw (there, whole-by, y, le-leb (7 + n) 15 (omega arith), p, r, drop-drop (7 + n) (at + 1) s, q, ← pack-long x n (drop (at + 1) s), rest-by)
 
 -- ---- the name at the cursor

@@ -16,7 +16,11 @@ use Rattle.tokens.specs.Bytes.{pick, between, wordByte, runLen, all, tokenLen, 
 use Rattle.tokens.specs.Numbers.{digitOf, isDigit, hexMark, zeroLed, someDigits, isNumber, valueOf, numeralOf, fitted, noNumeral, positional}
 use Rattle.tokens.specs.Cursors.{Rest, on, off, numberHere}
 use Rattle.lexer.specs.Runs.{baseOf, digitsLen, digitsAfter, wholeRun, runNumeral}
-use Rattle.lexer.proofs.Laws.{and-no, and-parts, word-0, run-stop, run-past, run-le, word-low, word-mid, word-high}
+use mathlib.Core.Bool.{and-false}
+use Rattle.laws.proofs.BoolLaws.{and-split}
+use Rattle.tokens.proofs.Runs.{run-stop, run-past, run-le}
+use Rattle.tokens.proofs.Classes.{figure-word, digit-word, x-word}
+use Rattle.lexer.proofs.Laws.{word-0}
 
 -- ---- digits
 pub digit-no : (base x : ℕ) → base ≤ digitOf x → isDigit base x ≡ false
@@ -83,33 +87,6 @@ module _ (base : ℕ) (s : List ℕ) (v i : ℕ) where
       (omega (arith, grows base (v * base + digitOf (getD s i 0)) b (take (digitsLen base (drop (i + 1) s)) (drop (i + 1) s))))
 
 -- ---- a digit is a word byte
-in-range : (a e x : ℕ) → between a e x ≡ true → (a ≤ x) × (x ≤ e)
-in-range a e x h = let p = and-parts (leb a x) (leb x e) h in (leb-true a x (p .0), leb-true x e (p .1))
-
-or-left : (a b : Bool) → a ≡ true → (a || b) ≡ true
-or-left true b h = refl
-or-left false b h = absurd (true≢false (sym h))
-
-low-word : (x : ℕ) → 48 ≤ x → x ≤ 57 → wordByte x ≡ true
-low-word x g h = sym (word-low x h) ∙ or-left (leb 48 x) (eqb x 36) (le-leb 48 x g)
-
-mid-word : (x : ℕ) → 65 ≤ x → x ≤ 90 → wordByte x ≡ true
-mid-word x g h = sym (word-mid x (omega arith) (omega arith)) ∙ or-left (leb 65 x && leb x 90) (eqb x 95) (rw (le-leb 65 x g, le-leb x 90 h))
-
-high-word : (x : ℕ) → 97 ≤ x → x ≤ 122 → wordByte x ≡ true
-high-word x g h = sym (word-high x g) ∙ le-leb x 122 h
-
-digit-word : (base x : ℕ) → base ≤ 16 → isDigit base x ≡ true → wordByte x ≡ true
-unfolding isDigit digitOf
-digit-word base x b h = go (between 48 57 x) (between 65 70 x) (between 97 102 x) refl refl refl h
-  where
-    go : (c d e : Bool) → between 48 57 x ≡ c → between 65 70 x ≡ d → between 97 102 x ≡ e
-        → ltb (pick c (x - 48) (pick d (x - 55) (pick e (x - 87) 16))) base ≡ true → wordByte x ≡ true
-    go true d e p q r k = let t = in-range 48 57 x p in low-word x (t .0) (t .1)
-    go false true e p q r k = let t = in-range 65 70 x q in mid-word x (t .0) (omega arith)
-    go false false true p q r k = let t = in-range 97 102 x r in high-word x (t .0) (omega arith)
-    go false false false p q r k = absurd (let t : 16 < base = ltb-true 16 base k in omega arith)
-
 -- ---- a run of digits against the run of word bytes that it starts
 module _ (base : ℕ) (small : base ≤ 16) where
   run-all : (m : List ℕ) → all (isDigit base) (take (runLen wordByte m) m) ≡ not (wordByte (getD m (digitsLen base m) 0))
@@ -143,7 +120,7 @@ module _ (base : ℕ) (small : base ≤ 16) where
       go : (w : Bool) → wordByte (getD m (digitsLen base m) 0) ≡ w
           → pick (ltb 0 (digitsLen base m) && not (wordByte (getD m (digitsLen base m) 0))) (fitted (digitsAfter base 0 m)) noNumeral
           ≡ pick (ltb 0 (length (take (runLen wordByte m) m)) && all (isDigit base) (take (runLen wordByte m) m)) (fitted (positional base 0 (take (runLen wordByte m) m))) noNumeral
-      go true e = rw (run-all m, e, and-no (ltb 0 (digitsLen base m)), and-no (ltb 0 (length (take (runLen wordByte m) m))))
+      go true e = rw (run-all m, e, and-false (ltb 0 (digitsLen base m)), and-false (ltb 0 (length (take (runLen wordByte m) m))))
       go false e = rw (run-all m, e, run-len m e, length-take-le (digitsLen base m) m (run-le (isDigit base) m))
 
   run-end : (m : List ℕ) → runNumeral base m .ok ≡ true → runLen wordByte m ≡ digitsLen base m
@@ -212,7 +189,7 @@ other-numeral x u e = rw e
 
 other-none : (x : ℕ) (u : List ℕ) (n : Numeral) → isDigit 10 x ≡ false → pick (someDigits 10 (x ∷ u)) n noNumeral ≡ noNumeral
 unfolding someDigits
-other-none x u n e = rw (e, and-no (ltb 0 (suc (length u))))
+other-none x u n e = rw (e, and-false (ltb 0 (suc (length u))))
 
 other-token : (x : ℕ) (m : List ℕ) → eqb x 48 ≡ false → isDigit 10 x ≡ false → numeralOf (tokenOf (x ∷ m)) ≡ noNumeral
 unfolding tokenOf tokenLen
@@ -235,15 +212,8 @@ head-decimal-end x m h = go (wordByte x) refl
     go false e = absurd (true≢false (sym h ∙ ap (λ (n : Numeral). n .ok) (run-none 10 x m (digit-not 10 x (omega arith) e))))
 
 -- a token that starts with 0x or 0X
-x-word : (y : ℕ) → (eqb y 120 || eqb y 88) ≡ true → wordByte y ≡ true
-x-word y h = go (eqb y 120) refl h
-  where
-    go : (b : Bool) → eqb y 120 ≡ b → (b || eqb y 88) ≡ true → wordByte y ≡ true
-    go true e k = let t : y ≡ 120 = eqb-true y 120 e in high-word y (omega arith) (omega arith)
-    go false e k = let t : y ≡ 88 = eqb-true y 88 k in mid-word y (omega arith) (omega arith)
-
 word-48 : wordByte 48 ≡ true
-word-48 = low-word 48 (omega arith) (omega arith)
+word-48 = figure-word 48 refl
 
 hex-numeral : (y : ℕ) (w : List ℕ) → (eqb y 120 || eqb y 88) ≡ true → numeralOf (48 ∷ (y ∷ w)) ≡ pick (someDigits 16 w) (fitted (positional 16 0 w)) noNumeral
 unfolding numeralOf isNumber valueOf hexMark

@@ -9,22 +9,22 @@ ghost use Rattle.tokens.specs.Numbers.{digitOf};
 pub fn digit_of(x: u8) -> u8
     ensures { λ r. ⌜ r ≡ digitOf x ⌝ }
 {
-    if x <= 57 {
-        if x < 48 {
+    if x <= b'9' {
+        if x < b'0' {
             return 16;
         }
-        return x - 48;
+        return x - b'0';
     }
-    if 97 <= x {
-        if 102 < x {
+    if b'a' <= x {
+        if b'f' < x {
             return 16;
         }
         return x - 87;
     }
-    if x < 65 {
+    if x < b'A' {
         return 16;
     }
-    if 70 < x {
+    if b'F' < x {
         return 16;
     }
     x - 55
@@ -34,26 +34,26 @@ pub fn digit_of(x: u8) -> u8
 pub fn is_word(x: u8) -> bool
     ensures { λ r. ⌜ r ≡ wordByte x ⌝ }
 {
-    if 97 <= x {
-        return x <= 122;
+    if b'a' <= x {
+        return x <= b'z';
     }
-    if x <= 57 {
-        return (48 <= x) | (x == 36);
+    if x <= b'9' {
+        return (b'0' <= x) | (x == b'$');
     }
-    ((65 <= x) & (x <= 90)) | (x == 95)
+    ((b'A' <= x) & (x <= b'Z')) | (x == b'_')
 }
 
 // A byte of an opcode.
 pub fn is_opcode(x: u8) -> bool
     ensures { λ r. ⌜ r ≡ opcodeByte x ⌝ }
 {
-    if 97 <= x {
-        return x <= 122;
+    if b'a' <= x {
+        return x <= b'z';
     }
-    if x <= 58 {
-        return (48 <= x) | (x == 46);
+    if x <= b':' {
+        return (b'0' <= x) | (x == b'.');
     }
-    ((65 <= x) & (x <= 90)) | (x == 95)
+    ((b'A' <= x) & (x <= b'Z')) | (x == b'_')
 }
 
 // Whether a word byte stands at a position.
@@ -72,7 +72,7 @@ pub fn blanks_end(s: &[u8], at: usize) -> usize
 {
     let mut i = at;
     while i < s.len() {
-        if s[i] != 32 {
+        if s[i] != b' ' {
             return i;
         }
         i += 1;

@@ -47,7 +47,7 @@ pub fn mark(s: &[u8], k: Cursor, m: u8) -> Cursor
 pub fn end(s: &[u8], k: Cursor) -> Cursor
     ensures { λ r. ⌜ seen (now (s .entry)) r ≡ endC (seen (now (s .entry)) k) ⌝ }
 {
-    let d = mark(s, k, 59);
+    let d = mark(s, k, b';');
     let at = d.at;
     Cursor {
         at,

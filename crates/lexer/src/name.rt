@@ -20,14 +20,14 @@ fn wide(x: u8) -> u64
 pub fn is_letter(x: u8) -> bool
     ensures { λ r. ⌜ r ≡ letter x ⌝ }
 {
-    ((65 <= x) & (x <= 90)) | ((97 <= x) & (x <= 122))
+    ((b'A' <= x) & (x <= b'Z')) | ((b'a' <= x) & (x <= b'z'))
 }
 
 // One of _ $ %.
 pub fn is_sigil(x: u8) -> bool
     ensures { λ r. ⌜ r ≡ sigil x ⌝ }
 {
-    (x == 95) | (x == 36) | (x == 37)
+    (x == b'_') | (x == b'$') | (x == b'%')
 }
 
 // Whether a name may start with x.

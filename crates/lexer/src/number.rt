@@ -107,7 +107,7 @@ fn x_at(s: &[u8], at: usize) -> bool
         return false;
     }
     let x = s[at];
-    (x == 120) | (x == 88)
+    (x == b'x') | (x == b'X')
 }
 
 // The run of digits at a position, if there is one and no word byte after it.
@@ -141,7 +141,7 @@ pub fn numeral(s: &[u8], at: usize) -> Digits
             end: at,
         };
     }
-    if s[at] != 48 {
+    if s[at] != b'0' {
         return whole(s, at, false);
     }
     let next = at + 1;

@@ -12,6 +12,7 @@ use lib.Dec.{eqb}
 use borrow.Author.Tests.{eq-eqb, eqb-true, not-true, not-false}
 use Rattle.laws.proofs.BoolLaws.{and-split}
 use Rattle.tokens.specs.Bytes.{pick, opcodeByte, runLen, all}
+use Rattle.tokens.proofs.Runs.{run-le, run-ends, run-all}
 use Rattle.statement.specs.declared.Opcode.{Opcode}
 use Rattle.statement.specs.declared.Found.{Found}
 use Rattle.statement.specs.declared.Found.the-variants.{Is, Nothing}
@@ -36,12 +37,6 @@ starts-self [] r = refl
 starts-self (x ∷ p) r = rw (eq-eqb x x refl) (starts-self p r)
 
 -- ---- runs
-run-all : (f : ℕ → Bool) (p r : List ℕ) → all f p ≡ true → runLen f (p ++ r) ≡ length p + runLen f r
-run-all f [] r h = omega arith
-run-all f (x ∷ p) r h =
-    let q = and-split (f x) (all f p) h in
-    rw (q .0) (omega (arith, run-all f p r (q .1)))
-
 stops-run : (l : List ℕ) → stops l ≡ true → runLen opcodeByte l ≡ 0
 stops-run [] h = refl
 stops-run (x ∷ l) h = rw (not-by (opcodeByte x) h)
@@ -49,14 +44,6 @@ stops-run (x ∷ l) h = rw (not-by (opcodeByte x) h)
     not-by : (b : Bool) → not b ≡ true → b ≡ false
     not-by true h = sym h
     not-by false h = refl
-
-run-rest : (f : ℕ → Bool) (l : List ℕ) → runLen f (drop (runLen f l) l) ≡ 0
-run-rest f [] = refl
-run-rest f (x ∷ l) = by (f x) refl (run-rest f l)
-  where
-    by : (b : Bool) → f x ≡ b → runLen f (drop (runLen f l) l) ≡ 0 → runLen f (drop (runLen f (x ∷ l)) (x ∷ l)) ≡ 0
-    by true e h = rw e h
-    by false e h = rw (e, e)
 
 run-stops : (l : List ℕ) → runLen opcodeByte l ≡ 0 → stops l ≡ true
 run-stops [] h = refl
@@ -66,20 +53,12 @@ run-stops (x ∷ l) h = by (opcodeByte x) refl
     by true e = absurd (let q : suc (runLen opcodeByte l) ≡ 0 = rw e at h in omega arith)
     by false e = rw e
 
-run-le : (f : ℕ → Bool) (l : List ℕ) → runLen f l ≤ length l
-run-le f [] = omega arith
-run-le f (x ∷ l) = by (f x) (run-le f l)
-  where
-    by : (b : Bool) → runLen f l ≤ length l → pick b (suc (runLen f l)) 0 ≤ suc (length l)
-    by true h = omega arith
-    by false h = omega arith
-
 -- ---- heads
 -- a word, where no opcode byte follows, is the head
 head-word : (o : Opcode) (r : List ℕ) → stops r ≡ true → record { found = Is o; rest = r } ≡ headOf (word o ++ r)
 unfolding headOf
 head-word o r h =
-    let n : opcodeLen (word o ++ r) ≡ length (word o) = run-all opcodeByte (word o) r (clean o) ∙ rw (stops-run r h) (add-zero (length (word o))) in
+    let n : opcodeLen (word o ++ r) ≡ length (word o) = run-all opcodeByte (word o) r (clean o) (stops-run r h) in
     rw (n, take-append-seam (word o) r, recognised o) (rw (n, drop-append-seam (word o) r))
 
 -- in the words of the code: k is what is left after the candidate's word
@@ -105,6 +84,6 @@ module _ (s : List ℕ) (o : Opcode) (k : Left) (past : k ≡ pieceC (word o) (w
           let p : s ≡ word o′ ++ drop (opcodeLen s) s = sym (rw w at (take-append-drop (opcodeLen s) s)) in
           let same : o ≡ o′ = c ∙ ap candidateIn p ∙ leads o′ (drop (opcodeLen s) s) in
           let b : startsWith (word o′) s ≡ true = ap (startsWith (word o′)) p ∙ starts-self (word o′) (drop (opcodeLen s) s) in
-          let t : stops (drop (length (word o′)) s) ≡ true = rw (← n) (run-stops (drop (opcodeLen s) s) (run-rest opcodeByte s)) in
+          let t : stops (drop (length (word o′)) s) ≡ true = rw (← n) (run-stops (drop (opcodeLen s) s) (run-ends opcodeByte s)) in
           let g : (startsWith (word o′) s && stops (drop (length (word o′)) s)) ≡ false = rw (past, same) at h in
           absurd (let z : _≡_ {A = Bool} true false = rw (b, t) at g in let y : _≡_ {A = ℕ} 0 1 = cc in omega arith)

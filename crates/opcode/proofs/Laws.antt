@@ -5,7 +5,7 @@ use native.Mathlib.Nat.{add-suc, le-of-lt}
 use native.Mathlib.Omega.{arith}
 use mathlib.Core.Path.{_≡_, refl, sym, ap, _∙_}
 use mathlib.Core.List.{List, [], _∷_, _++_}
-use mathlib.Core.Bool.{Bool, true, false, _&&_}
+use mathlib.Core.Bool.{Bool, true, false, _&&_, and-true, and-false, and-assoc}
 use lib.ListN.{length, getD, drop, drop-of-length-le, length-append, length-drop}
 use lib.Seq.{drop-cons, drop-drop, drop-nil, drop-length}
 use lib.Dec.{eqb}
@@ -14,19 +14,6 @@ use Rattle.statement.specs.declared.Shape.{Shape}
 use Rattle.statement.specs.declared.Shape.the-variants.{S32x32, S16x64, S16x128, S16x256}
 use Rattle.opcode.specs.Heads.{numPlace, kindPlace}
 use Rattle.opcode.specs.Pieces.{startsWith, Left, pieceC}
-
--- ---- tests
-pub and-assoc : (a b c : Bool) → ((a && b) && c) ≡ (a && (b && c))
-and-assoc true b c = refl
-and-assoc false b c = refl
-
-pub and-no : (b : Bool) → (b && false) ≡ false
-and-no true = refl
-and-no false = refl
-
-pub and-yes : (b : Bool) → (b && true) ≡ b
-and-yes true = refl
-and-yes false = refl
 
 -- ---- places are small
 pub num-place-le : (shape : Shape) → numPlace shape ≤ 33
@@ -48,7 +35,7 @@ starts-step p w at i hp hw = rw (add-one, add-suc, drop-cons p i 0 hp, drop-cons
 
 -- no byte is left of p
 pub starts-end : (p w : List ℕ) (at i : ℕ) (ok r : Bool) → length p ≤ i → (ok && startsWith (drop i p) (drop (at + i) w)) ≡ r → ok ≡ r
-starts-end p w at i ok r h e = sym (and-yes ok) ∙ (rw (drop-of-length-le p h) at e)
+starts-end p w at i ok r h e = sym (and-true ok) ∙ (rw (drop-of-length-le p h) at e)
 
 -- ---- lengths
 -- nothing is left: only an empty piece starts it, or is all of it
@@ -60,7 +47,7 @@ starts-past (x ∷ p) = sym (ne-eqb (suc (length p)) 0 (λ e. omega arith))
 pub starts-short : (p w : List ℕ) → length w < length p → startsWith p w ≡ false
 starts-short [] w h = absurd (omega arith)
 starts-short (x ∷ p) [] h = refl
-starts-short (x ∷ p) (y ∷ w) h = rw (starts-short p w (omega arith)) (and-no (eqb y x))
+starts-short (x ∷ p) (y ∷ w) h = rw (starts-short p w (omega arith)) (and-false (eqb y x))
 
 -- ---- pieces
 starts-both : (a b w : List ℕ) → startsWith (a ++ b) w ≡ (startsWith a w && startsWith b (drop (length a) w))
@@ -89,7 +76,7 @@ module _ (p w : List ℕ) (at : ℕ) (ok : Bool) where
   pub piece-short : length w - at < length p → _≡_ {A = Left} (record { rest = drop (length w) w; ok = false }) (pieceC p (record { rest = drop at w; ok = ok }))
   unfolding pieceC
   piece-short h =
-      rw (drop-length w, drop-drop (length p) at w, drop-of-length-le w {i = at + length p} (omega arith), starts-short p (drop at w) (rw (length-drop at w) h), and-no ok)
+      rw (drop-length w, drop-drop (length p) at w, drop-of-length-le w {i = at + length p} (omega arith), starts-short p (drop at w) (rw (length-drop at w) h), and-false ok)
 
   pub piece-fits : (r : Bool) → r ≡ startsWith p (drop at w) → _≡_ {A = Left} (record { rest = drop (at + length p) w; ok = ok && r }) (pieceC p (record { rest = drop at w; ok = ok }))
   unfolding pieceC

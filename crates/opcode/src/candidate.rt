@@ -19,13 +19,13 @@ pub fn byte(w: &[u8], at: usize) -> u8
 pub fn shape_by(x: u8) -> Shape
     ensures { λ r. ⌜ r ≡ shapeBy x ⌝ }
 {
-    if x == 51 {
+    if x == b'3' {
         return Shape::S32x32;
     }
-    if x == 54 {
+    if x == b'6' {
         return Shape::S16x64;
     }
-    if x == 49 {
+    if x == b'1' {
         return Shape::S16x128;
     }
     Shape::S16x256
@@ -47,25 +47,25 @@ pub fn num_place(shape: Shape) -> usize
 pub fn num_at(x: u8, y: u8) -> Num
     ensures { λ r. ⌜ r ≡ numAt x y ⌝ }
 {
-    if x == 49 {
-        if y == 54 {
+    if x == b'1' {
+        if y == b'6' {
             return Num::X16;
         }
-        if y == 50 {
+        if y == b'2' {
             return Num::X128;
         }
         return Num::X1;
     }
-    if x == 50 {
+    if x == b'2' {
         return Num::X2;
     }
-    if x == 51 {
+    if x == b'3' {
         return Num::X32;
     }
-    if x == 52 {
+    if x == b'4' {
         return Num::X4;
     }
-    if x == 54 {
+    if x == b'6' {
         return Num::X64;
     }
     Num::X8
@@ -85,13 +85,13 @@ pub fn kind_place(ws: bool, sp: bool) -> usize
 pub fn kind_at(x: u8, y: u8) -> Kind
     ensures { λ r. ⌜ r ≡ kindAt x y ⌝ }
 {
-    if x == 116 {
+    if x == b't' {
         return Kind::Tf32;
     }
-    if x == 105 {
+    if x == b'i' {
         return Kind::I8;
     }
-    if y == 49 {
+    if y == b'1' {
         return Kind::F16;
     }
     Kind::F8f6f4
@@ -125,16 +125,16 @@ pub fn mma_in(w: &[u8]) -> Opcode
     ensures { λ r. ⌜ r ≡ mmaIn (now (w .entry)) ⌝ }
 {
     let x = byte(w, 12);
-    if x == 119 {
-        return mma_of(true, byte(w, 15) == 115, w);
+    if x == b'w' {
+        return mma_of(true, byte(w, 15) == b's', w);
     }
-    mma_of(false, x == 115, w)
+    mma_of(false, x == b's', w)
 }
 
 pub fn wait_by(w: &[u8]) -> Opcode
     ensures { λ r. ⌜ r ≡ pick (eqb (getD (now (w .entry)) 14 0) 108) Opcode.WaitLoad Opcode.WaitStore ⌝ }
 {
-    if byte(w, 14) == 108 {
+    if byte(w, 14) == b'l' {
         Opcode::WaitLoad
     } else {
         Opcode::WaitStore
@@ -144,7 +144,7 @@ pub fn wait_by(w: &[u8]) -> Opcode
 pub fn fence_by(w: &[u8]) -> Opcode
     ensures { λ r. ⌜ r ≡ pick (eqb (getD (now (w .entry)) 15 0) 98) Opcode.FenceBefore Opcode.FenceAfter ⌝ }
 {
-    if byte(w, 15) == 98 {
+    if byte(w, 15) == b'b' {
         Opcode::FenceBefore
     } else {
         Opcode::FenceAfter
@@ -154,7 +154,7 @@ pub fn fence_by(w: &[u8]) -> Opcode
 pub fn mov_by(w: &[u8]) -> Opcode
     ensures { λ r. ⌜ r ≡ pick (eqb (getD (now (w .entry)) 5 0) 51) Opcode.Mov32 Opcode.Mov64 ⌝ }
 {
-    if byte(w, 5) == 51 {
+    if byte(w, 5) == b'3' {
         Opcode::Mov32
     } else {
         Opcode::Mov64
@@ -164,33 +164,33 @@ pub fn mov_by(w: &[u8]) -> Opcode
 pub fn tcgen05_in(x: u8, w: &[u8]) -> Opcode
     ensures { λ r. ⌜ r ≡ tcgen05In x (now (w .entry)) ⌝ }
 {
-    if x == 108 {
+    if x == b'l' {
         return Opcode::Load {
             shape: shape_of(w),
             num: num_in(w),
         };
     }
-    if x == 115 {
+    if x == b's' {
         return Opcode::Store {
             shape: shape_of(w),
             num: num_in(w),
         };
     }
-    if x == 109 {
+    if x == b'm' {
         return mma_in(w);
     }
-    if x == 97 {
+    if x == b'a' {
         return Opcode::Alloc {
-            shared: byte(w, 40) == 115,
+            shared: byte(w, 40) == b's',
         };
     }
-    if x == 100 {
+    if x == b'd' {
         return Opcode::Dealloc;
     }
-    if x == 119 {
+    if x == b'w' {
         return wait_by(w);
     }
-    if x == 102 {
+    if x == b'f' {
         return fence_by(w);
     }
     Opcode::Relinquish
@@ -201,10 +201,10 @@ pub fn candidate_in(w: &[u8]) -> Opcode
     ensures { λ r. ⌜ r ≡ candidateIn (now (w .entry)) ⌝ }
 {
     let x = byte(w, 0);
-    if x == 109 {
+    if x == b'm' {
         return mov_by(w);
     }
-    if x == 116 {
+    if x == b't' {
         return tcgen05_in(byte(w, 8), w);
     }
     Opcode::Exit

@@ -19,6 +19,7 @@ use Rattle.statement.specs.declared.Statement.{Statement}
 use Rattle.statement.specs.declared.Statement.the-variants as s
 use Rattle.statement.specs.declared.Opcode.{Opcode}
 use Rattle.statement.specs.declared.Opcode.the-variants.{Mov32, Mov64, Alloc, Dealloc, Relinquish, Load, Store, WaitLoad, WaitStore, FenceBefore, FenceAfter, Multiply, Exit}
+use Rattle.statement.specs.Views.{accessOf, of}
 use Rattle.statement.specs.Forms.{word, Slot, name, number, inBrackets, address, operand, names, Value, Values, max32, row, Whole}
 
 -- ---- a statement's opcode and operands
@@ -126,19 +127,7 @@ rowGiven (k ∷ ks) v = slotGiven k (v .0) && rowGiven ks (v .1)
 
 -- the count in the statement is that of the names beside it
 abbrev pub countOf : Statement → ℕ
-countOf (s.Mov32 n v) = 0
-countOf (s.Mov64 n v) = 0
-countOf (s.Alloc n v) = 0
-countOf (s.Dealloc n v) = 0
-countOf s.Relinquish = 0
-countOf (s.Load a) = a .registers
-countOf (s.Store a) = a .registers
-countOf s.WaitLoad = 0
-countOf s.WaitStore = 0
-countOf s.FenceBefore = 0
-countOf s.FenceAfter = 0
-countOf (s.Multiply m) = 0
-countOf s.Exit = 0
+countOf t = of (accessOf t) (λ a. a .registers) 0
 
 -- a statement and names of registers such as reading gives
 unfoldable pub given : Statement → List Name → Bool

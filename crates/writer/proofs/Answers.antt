@@ -14,7 +14,7 @@ use Rattle.statement.specs.declared.Written.the-variants.{Length, Refused}
 use Rattle.statement.specs.Canonical.{textOf, given}
 use Rattle.writer.specs.Outputs.{Out, wrote, failed, outSeen, addC, writtenOf, leftBy}
 use Rattle.writer.proofs.Laws.{add-fits, add-refused, seen-over, seen-other, seen-wrote}
-use Rattle.writer.proofs.Bound.{text-short}
+use Rattle.statement.proofs.Bound.{text-short}
 
 -- one kind of output is not the other
 not-both : (o : Out) (l m : List ℕ) (n : ℕ) → o ≡ wrote l m → o ≡ failed n → ⊥

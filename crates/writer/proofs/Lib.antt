@@ -2,5 +2,4 @@ pub mod Laws
 pub mod Rows
 pub mod Digits
 pub mod Halves
-pub mod Bound
 pub mod Answers

@@ -5,7 +5,8 @@ use lib.ListN.{length, drop}
 use native.Mathlib.Omega.{arith}
 use borrow.Author.Needs.{needs}
 use Rattle.tokens.specs.Bytes.{runLen, blank}
-use Rattle.lexer.proofs.Laws.{run-step, run-stop, run-past, blank-no, blank-is}
+use Rattle.tokens.proofs.Runs.{run-step, run-stop, run-past}
+use Rattle.lexer.proofs.Laws.{blank-no, blank-is}
 use Rattle.lexer.proofs.bytes.blanks_end.Statement.{statement}
 use Rattle.lexer.proofs.bytes.blanks_end.Tie as tie
 

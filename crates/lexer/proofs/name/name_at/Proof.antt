@@ -5,7 +5,7 @@ use native.Mathlib.Omega.{arith}
 use lib.ListN.{length-drop, drop}
 use borrow.Author.Tests.{not-true, not-false}
 use Rattle.tokens.specs.Bytes.{wordByte}
-use Rattle.lexer.proofs.Laws.{run-le}
+use Rattle.tokens.proofs.Runs.{run-le}
 use Rattle.lexer.proofs.Names.{name-past, name-not, short-none, short-name, long-none, long-name}
 use borrow.Author.Needs.{needs}
 use Rattle.lexer.proofs.name.name_at.Statement.{statement}

@@ -8,7 +8,7 @@ use borrow.Author.Tests.{not-true, not-false}
 use Rattle.tokens.specs.Bytes.{wordByte}
 use Rattle.tokens.specs.Names.{byteDigits}
 use Rattle.lexer.specs.Runs.{wordsLen}
-use Rattle.lexer.proofs.Laws.{run-le, run-step, run-stop}
+use Rattle.tokens.proofs.Runs.{run-le, run-step, run-stop}
 use Rattle.lexer.proofs.Names.{pack-start, pack-step, pack-none, cap-next, cap-step, cap-small}
 use Rattle.lexer.proofs.name.pack.Statement.{statement}
 use Rattle.lexer.proofs.name.pack.Tie as tie

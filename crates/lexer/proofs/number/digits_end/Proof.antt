@@ -6,7 +6,7 @@ use native.Mathlib.Omega.{arith}
 use borrow.Author.Needs.{needs}
 use Rattle.tokens.specs.Bytes.{runLen}
 use Rattle.tokens.specs.Numbers.{isDigit}
-use Rattle.lexer.proofs.Laws.{run-step, run-stop, run-past}
+use Rattle.tokens.proofs.Runs.{run-step, run-stop, run-past}
 use Rattle.lexer.proofs.Numbers.{digit-no, digit-is}
 use Rattle.lexer.proofs.number.digits_end.Statement.{statement}
 use Rattle.lexer.proofs.number.digits_end.Tie as tie

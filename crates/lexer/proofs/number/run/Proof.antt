@@ -7,7 +7,7 @@ use borrow.Author.Needs.{needs}
 use borrow.Author.Tests.{not-true, not-false, ltb-true, ltb-false}
 use Rattle.tokens.specs.Numbers.{digitOf, isDigit}
 use Rattle.lexer.specs.Runs.{baseOf, digitsLen, digitsAfter}
-use Rattle.lexer.proofs.Laws.{run-step, run-stop, run-past}
+use Rattle.tokens.proofs.Runs.{run-step, run-stop, run-past}
 use Rattle.lexer.proofs.Numbers.{base-some, digit-no, digit-is, fit-small, fit-over, after-step, after-stop, after-past, after-over}
 use Rattle.lexer.proofs.number.run.Statement.{statement}
 use Rattle.lexer.proofs.number.run.Tie as tie

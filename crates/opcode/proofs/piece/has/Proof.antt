@@ -3,7 +3,8 @@
 use Prim.Native.Nat.{_+_, _-_, _≤_}
 use mathlib.Core.Path.{_≡_, _∙_}
 use lib.ListN.{length, drop}
-use Rattle.opcode.proofs.Laws.{starts-step, and-assoc, starts-end}
+use mathlib.Core.Bool.{and-assoc}
+use Rattle.opcode.proofs.Laws.{starts-step, starts-end}
 use native.Mathlib.Nat.{add-zero}
 use native.Mathlib.Omega.{arith}
 use mathlib.Core.Bool.{_&&_}

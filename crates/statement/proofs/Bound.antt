@@ -7,71 +7,27 @@ use mathlib.Core.Bool.{Bool, true, false, _&&_}
 use lib.ListN.{length, length-append}
 use lib.Dec.{ltb, leb, eqb}
 use borrow.Author.Tests.{leb-true}
+use Rattle.laws.proofs.BoolLaws.{and-l, and-r}
 use Rattle.instruction.specs.declared.Kind.{Kind}
 use Rattle.instruction.specs.declared.Kind.the-variants.{F16, Tf32, F8f6f4, I8}
 use Rattle.tokens.specs.declared.Name.{Name}
 use Rattle.tokens.specs.Bytes.{pick}
-use Rattle.tokens.specs.Names.{lowBytes, strip, nameBytes}
-use Rattle.tokens.specs.Numbers.{lowDigits, trimmed, decimal}
+use Rattle.tokens.specs.Names.{nameBytes}
+use Rattle.tokens.specs.Numbers.{decimal}
+use Rattle.tokens.proofs.Lengths.{pick-le, name-short, decimal-short}
 use Rattle.statement.specs.declared.Shape.{Shape}
 use Rattle.statement.specs.declared.Shape.the-variants.{S32x32, S16x64, S16x128, S16x256}
 use Rattle.statement.specs.declared.Num.{Num}
 use Rattle.statement.specs.declared.Num.the-variants.{X1, X2, X4, X8, X16, X32, X64, X128}
 use Rattle.statement.specs.declared.Address.{Address}
 use Rattle.statement.specs.declared.Operand.{Operand}
 use Rattle.statement.specs.declared.Statement.{Statement}
 use Rattle.statement.specs.declared.Opcode.{Opcode}
 use Rattle.statement.specs.declared.Opcode.the-variants.{Mov32, Mov64, Alloc, Dealloc, Relinquish, Load, Store, WaitLoad, WaitStore, FenceBefore, FenceAfter, Multiply, Exit}
 use Rattle.statement.specs.Text.{bytes}
 use Rattle.statement.specs.Forms.{word, shapeText, numText, kindText, option, Slot, name, number, inBrackets, address, operand, names, Value, Values, row}
 use Rattle.statement.specs.Canonical.{opcodeOf, valuesOf, countOf, offsetText, addressText, operandText, moreNamesText, namesText, slotText, slotGiven, moreRowText, rowText, rowGiven, allNames, textOf, given}
 use Rattle.statement.specs.declared.Operand.the-variants as o
-
-and-left : (a b : Bool) → (a && b) ≡ true → a ≡ true
-and-left true b e = refl
-and-left false b e = e
-
-and-right : (a b : Bool) → (a && b) ≡ true → b ≡ true
-and-right true b e = e
-and-right false true e = refl
-and-right false false e = e
-
--- ---- tokens
-pick-le : (b : Bool) (l m : List ℕ) (n : ℕ) → length l ≤ n → length m ≤ n → length (pick b l m) ≤ n
-pick-le true l m n p q = p
-pick-le false l m n p q = q
-
-strip-short : (l : List ℕ) → length (strip l) ≤ length l
-unfolding strip
-strip-short [] = omega arith
-strip-short (x ∷ l) = pick-le (eqb x 0) (strip l) (x ∷ l) (length (x ∷ l)) (omega (arith, strip-short l)) (omega arith)
-
-low-length : (k v : ℕ) → length (lowBytes k v) ≡ k
-unfolding lowBytes
-low-length zero v = refl
-low-length (suc k) v = omega (arith, length-append (lowBytes k (v / 256)) ((v % 256) ∷ []), low-length k (v / 256))
-
-name-short : (n : Name) → length (nameBytes n) ≤ 16
-unfolding nameBytes
-name-short n =
-    let x = strip (lowBytes 8 (n .hi)) in
-    let y = strip (lowBytes 8 (n .lo)) in
-    omega (arith, length-append x y, strip-short (lowBytes 8 (n .hi)), strip-short (lowBytes 8 (n .lo)), low-length 8 (n .hi), low-length 8 (n .lo))
-
-trimmed-short : (l : List ℕ) → length (trimmed l) ≤ length l
-unfolding trimmed
-trimmed-short [] = omega arith
-trimmed-short (x ∷ []) = omega arith
-trimmed-short (x ∷ (y ∷ l)) = pick-le (eqb x 48) (trimmed (y ∷ l)) (x ∷ (y ∷ l)) (length (x ∷ (y ∷ l))) (omega (arith, trimmed-short (y ∷ l))) (omega arith)
-
-digits-length : (k v : ℕ) → length (lowDigits k v) ≡ k
-unfolding lowDigits
-digits-length zero v = refl
-digits-length (suc k) v = omega (arith, length-append (lowDigits k (v / 10)) ((48 + v % 10) ∷ []), digits-length k (v / 10))
-
-decimal-short : (v : ℕ) → length (decimal v) ≤ 20
-unfolding decimal
-decimal-short v = omega (arith, trimmed-short (lowDigits 20 v), digits-length 20 v)
 
 -- ---- operands
 offset-short : (v : ℕ) → length (offsetText v) ≤ 21
@@ -115,7 +71,7 @@ slot-short inBrackets v e = omega (arith, length-append (nameBytes v) (93 ∷ []
 slot-short address v e = address-short v
 slot-short operand v e = operand-short v
 slot-short names v e =
-    let h : length v ≤ 128 = leb-true (length v) 128 (and-right (ltb 0 (length v)) (leb (length v) 128) (and-left (ltb 0 (length v) && leb (length v) 128) (allNames v) e)) in
+    let h : length v ≤ 128 = leb-true (length v) 128 (and-r (ltb 0 (length v)) (leb (length v) 128) (and-l (ltb 0 (length v) && leb (length v) 128) (allNames v) e)) in
     omega (arith, names-short v)
 
 -- ---- rows
@@ -127,13 +83,13 @@ more-short : (ks : List Slot) (v : Values ks) → rowGiven ks v ≡ true → len
 unfolding rowGiven moreRowText
 more-short [] v e = omega arith
 more-short (k ∷ ks) v e =
-    omega (arith, length-append (slotText k (v .0)) (moreRowText ks (v .1)), slot-short k (v .0) (and-left (slotGiven k (v .0)) (rowGiven ks (v .1)) e), more-short ks (v .1) (and-right (slotGiven k (v .0)) (rowGiven ks (v .1)) e))
+    omega (arith, length-append (slotText k (v .0)) (moreRowText ks (v .1)), slot-short k (v .0) (and-l (slotGiven k (v .0)) (rowGiven ks (v .1)) e), more-short ks (v .1) (and-r (slotGiven k (v .0)) (rowGiven ks (v .1)) e))
 
 row-short : (ks : List Slot) (v : Values ks) → rowGiven ks v ≡ true → length (rowText ks v) ≤ mostRow ks
 unfolding rowGiven rowText
 row-short [] v e = omega arith
 row-short (k ∷ ks) v e =
-    omega (arith, length-append (slotText k (v .0)) (moreRowText ks (v .1)), slot-short k (v .0) (and-left (slotGiven k (v .0)) (rowGiven ks (v .1)) e), more-short ks (v .1) (and-right (slotGiven k (v .0)) (rowGiven ks (v .1)) e))
+    omega (arith, length-append (slotText k (v .0)) (moreRowText ks (v .1)), slot-short k (v .0) (and-l (slotGiven k (v .0)) (rowGiven ks (v .1)) e), more-short ks (v .1) (and-r (slotGiven k (v .0)) (rowGiven ks (v .1)) e))
 
 row-most : (p : Opcode) → mostRow (row p) ≤ 2400
 row-most Mov32 = omega arith
@@ -204,4 +160,4 @@ unfolding textOf given
 text-short t regs e =
     let p = opcodeOf t in
     let v = valuesOf t regs in
-    omega (arith, length-append (word p) (rowText (row p) v), word-short p, row-most p, row-short (row p) v (and-right (eqb (countOf t) (length regs)) (rowGiven (row p) v) e))
+    omega (arith, length-append (word p) (rowText (row p) v), word-short p, row-most p, row-short (row p) v (and-r (eqb (countOf t) (length regs)) (rowGiven (row p) v) e))
