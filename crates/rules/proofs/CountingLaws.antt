@@ -1,4 +1,4 @@
--- Laws of tests, of counting and of the least number: each is an induction on how far one counts. Assumes nothing.
+-- Laws of counting and of the least number: each is an induction on how far one counts. Assumes nothing.
 use Prim.Native.Nat.{ℕ, zero, suc, _+_, _-_, _≤_, _<_, min}
 use mathlib.Core.Path.{_≡_, refl, sym}
 use mathlib.Core.Bool.{Bool, true, false, not, _&&_, _||_, cond}
@@ -6,35 +6,8 @@ use mathlib.Core.Logic.{_⊎_, inl, inr}
 use native.Mathlib.Omega.{arith}
 use lib.Dec.{leb, ltb, eqb}
 use borrow.Author.Tests.{eqb-true, eqb-false, ltb-true, ltb-false, leb-true, leb-false}
+use Rattle.laws.proofs.BoolLaws.{and-l, and-r, bool}
 use Rattle.rules.specs.Counting.{count, every, least}
-
--- ---- tests
-pub and-l : (a b : Bool) → a && b ≡ true → a ≡ true
-and-l true b e = refl
-and-l false b e = e
-
-pub and-r : (a b : Bool) → a && b ≡ true → b ≡ true
-and-r true b e = e
-and-r false b e = absurd (let z : _≡_ {A = ℕ} 0 1 = cc in omega arith)
-
-pub or-cases : (a b : Bool) → a || b ≡ true → (a ≡ true) ⊎ (b ≡ true)
-or-cases true b e = inl refl
-or-cases false b e = inr e
-
-pub bool : (b : Bool) → (b ≡ true) ⊎ (b ≡ false)
-bool true = inl refl
-bool false = inr refl
-
-pub not-t : (b : Bool) → not b ≡ true → b ≡ false
-not-t true e = sym e
-not-t false e = refl
-
-pub not-f : (b : Bool) → not b ≡ false → b ≡ true
-not-f true e = refl
-not-f false e = sym e
-
-pub clash : {b : Bool} → b ≡ true → b ≡ false → ⊥
-clash {b} p q = let z : _≡_ {A = ℕ} 0 1 = cc in omega arith
 
 -- ---- counting
 both : (a b : Bool) (x y z : ℕ) → (a ≡ true → b ≡ true → ⊥) → z ≡ x + y → cond (a || b) 1 0 + z ≡ cond a 1 0 + x + (cond b 1 0 + y)

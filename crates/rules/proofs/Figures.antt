@@ -1,22 +1,21 @@
 -- The columns held, asked for less given back over the lines, are those of the live allocations: an accepted line changes both sides alike.
 -- Assumes nothing.
 use Prim.Native.Nat.{ℕ, zero, suc, _+_, _-_, _<_}
-use mathlib.Core.Path.{_≡_, refl}
+use mathlib.Core.Path.{_≡_, refl, ap}
 use mathlib.Core.Bool.{Bool, true, false, _||_, cond}
 use mathlib.Core.List.{List, [], _∷_}
 use mathlib.Core.Option.{Option, none, some}
 use native.Mathlib.Omega.{arith}
-use borrow.Author.Tests.{eqb-true}
 use Rattle.laws.specs.Tests.{isSome}
 use Rattle.tokens.specs.declared.Name.{Name}
 use Rattle.tokens.specs.Names.{sameName}
-use Rattle.statement.specs.declared.Statement.the-variants.{Mov32, Mov64, Alloc, Dealloc, Relinquish, Load, Store, WaitLoad, WaitStore, FenceBefore, FenceAfter, Multiply, Exit}
+use Rattle.statement.specs.Views as act
+use Rattle.statement.specs.Views.{Act, actOf, requestIn, releaseIn, of}
 use Rattle.rules.specs.State.{State, Allocation, Placer, isLive, columnsOf, without, total}
-use Rattle.rules.specs.Reasons.{named, sized, placed}
-use Rattle.rules.specs.Sheet.{Line, badLayout, noForm, tooLarge, statement, Placing, lineRules, lineEffect, effect, added, requested, released, sum, heldAfter, stateBy, rulesBy}
+use Rattle.rules.specs.Sheet.{Line, badLayout, noForm, tooLarge, statement, Placing, lineRules, lineEffect, acted, effect, added, requested, released, sum, heldAfter, stateBy, rulesBy}
 use Rattle.rules.specs.Claims.{AllKept}
-use Rattle.rules.proofs.CountingLaws.{clash}
-use Rattle.rules.proofs.RuleLaws.{accepted}
+use Rattle.laws.proofs.BoolLaws.{clash}
+use Rattle.rules.proofs.RuleLaws.{accepted, request-kept, releases-kept}
 
 -- taking out an allocation takes its columns
 pub total-without : (n : Name) (l : List Allocation) → isLive n l ≡ true → total (without n l) + columnsOf n l ≡ total l
@@ -37,26 +36,24 @@ total-added n v (some s) l e = refl
 
 -- one accepted line
 balance-step : (place : Placer) (s : State) (held : ℕ) (x : Line) → AllKept (lineRules place s held x) → total (s .live) + requested x ≡ total (lineEffect place s x .live) + released x
-unfolding effect requested released named sized placed
+unfolding effect requested released
 balance-step place s held badLayout h = refl
 balance-step place s held noForm h = refl
 balance-step place s held tooLarge h = refl
-balance-step place s held (statement w (Mov32 n v)) h = refl
-balance-step place s held (statement w (Mov64 n v)) h = refl
-balance-step place s held (statement w (Alloc n v)) h =
-    omega (arith, total-added n v (place (s .live) v) (s .live) (accepted place s held w (Alloc n v) (h .1) .places))
-balance-step place s held (statement w (Dealloc n v)) h =
-    let a = accepted place s held w (Dealloc n v) (h .1) in
-    omega (arith, total-without n (s .live) (a .names), eqb-true (columnsOf n (s .live)) v (a .sizes))
-balance-step place s held (statement w Relinquish) h = refl
-balance-step place s held (statement w (Load a)) h = refl
-balance-step place s held (statement w (Store a)) h = refl
-balance-step place s held (statement w WaitLoad) h = refl
-balance-step place s held (statement w WaitStore) h = refl
-balance-step place s held (statement w FenceBefore) h = refl
-balance-step place s held (statement w FenceAfter) h = refl
-balance-step place s held (statement w (Multiply m)) h = refl
-balance-step place s held (statement w Exit) h = refl
+balance-step place s held (statement w t) h = at (actOf t) refl
+  where
+    at : (x : Act) → actOf t ≡ x → total (s .live) + of (requestIn x) (λ r. r .columns) 0 ≡ total (acted place s w x .live) + of (releaseIn x) (λ r. r .columns) 0
+    at (act.binds n width v) e = refl
+    at (act.requests n v) e =
+        omega (arith, total-added n v (place (s .live) v) (s .live) (request-kept place s held w t (accepted place s held w t (h .1)) (record { name = n; columns = v }) (ap requestIn e) .1))
+    at (act.releases n v) e =
+        let k = releases-kept place s held w t (accepted place s held w t (h .1)) n v e in
+        omega (arith, total-without n (s .live) (k .0), k .1)
+    at act.relinquishes e = refl
+    at (act.accesses a) e = refl
+    at (act.multiplies m) e = refl
+    at act.exits e = refl
+    at act.nothing e = refl
 
 module _ (placing : Placing) (line : ℕ → Line) where
   -- what is asked for is what was given back and what is live

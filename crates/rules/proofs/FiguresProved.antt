@@ -7,37 +7,35 @@ use mathlib.Core.Logic.{_⊎_, inl, inr}
 use native.Mathlib.Omega.{arith}
 use lib.Dec.{leb, ltb}
 use lib.ListN.{length}
-use borrow.Author.Tests.{eqb-true, ltb-true, ltb-false, leb-true, leb-false}
-use Rattle.statement.specs.declared.Statement.the-variants.{Mov32, Mov64, Alloc, Dealloc, Relinquish, Load, Store, WaitLoad, WaitStore, FenceBefore, FenceAfter, Multiply, Exit}
+use borrow.Author.Tests.{ltb-true, ltb-false, leb-true, leb-false}
+use Rattle.statement.specs.Views as act
+use Rattle.statement.specs.Views.{Act, actOf, exitIn}
 use Rattle.rules.specs.declared.Answer.{Answer}
 use Rattle.rules.specs.State.{State, Placer, total}
-use Rattle.rules.specs.Reasons.{cleared}
-use Rattle.rules.specs.Sheet.{Line, badLayout, noForm, tooLarge, statement, Sheet, Placing, lineRules, lineEffect, effect, stateBy, startsBy, reasonBy, stopBy, sum, heldAfter, peakUpTo, answer, answerBy}
+use Rattle.rules.specs.Sheet.{Line, badLayout, noForm, tooLarge, statement, Sheet, Placing, lineRules, lineEffect, acted, effect, stateBy, startsBy, reasonBy, stopBy, sum, heldAfter, peakUpTo, answer, answerBy}
 use Rattle.rules.specs.Claims.{AllKept, exits, acceptedLines, liveAfter, FiguresExact}
-use Rattle.rules.proofs.CountingLaws.{bool, clash}
-use Rattle.rules.proofs.RuleLaws.{accepted}
+use Rattle.laws.proofs.BoolLaws.{bool, clash}
+use Rattle.rules.proofs.RuleLaws.{accepted, exits-kept}
 use Rattle.rules.proofs.Figures.{held-total}
 use Rattle.rules.proofs.RulesProved.{zero-kept, stop-le, stop-hit, stop-before, stop-none, Clear, clear-passed, passing-clear, bad-header, at-stop, at-end}
 
 -- an accepted exit leaves nothing live
 exit-clears : (place : Placer) (s : State) (held : ℕ) (x : Line) → held ≡ total (s .live) → AllKept (lineRules place s held x) → exits x ≡ true → total (lineEffect place s x .live) ≡ 0
-unfolding effect cleared
+unfolding effect
 exit-clears place s held badLayout q h e = absurd (clash e refl)
 exit-clears place s held noForm q h e = absurd (clash e refl)
 exit-clears place s held tooLarge q h e = absurd (clash e refl)
-exit-clears place s held (statement w (Mov32 n v)) q h e = absurd (clash e refl)
-exit-clears place s held (statement w (Mov64 n v)) q h e = absurd (clash e refl)
-exit-clears place s held (statement w (Alloc n v)) q h e = absurd (clash e refl)
-exit-clears place s held (statement w (Dealloc n v)) q h e = absurd (clash e refl)
-exit-clears place s held (statement w Relinquish) q h e = absurd (clash e refl)
-exit-clears place s held (statement w (Load a)) q h e = absurd (clash e refl)
-exit-clears place s held (statement w (Store a)) q h e = absurd (clash e refl)
-exit-clears place s held (statement w WaitLoad) q h e = absurd (clash e refl)
-exit-clears place s held (statement w WaitStore) q h e = absurd (clash e refl)
-exit-clears place s held (statement w FenceBefore) q h e = absurd (clash e refl)
-exit-clears place s held (statement w FenceAfter) q h e = absurd (clash e refl)
-exit-clears place s held (statement w (Multiply m)) q h e = absurd (clash e refl)
-exit-clears place s held (statement w Exit) q h e = sym q ∙ eqb-true held 0 (accepted place s held w Exit (h .1) .clears)
+exit-clears place s held (statement w t) q h e = at (actOf t) e
+  where
+    at : (x : Act) → exitIn x ≡ true → total (acted place s w x .live) ≡ 0
+    at (act.binds n width v) f = absurd (clash f refl)
+    at (act.requests n v) f = absurd (clash f refl)
+    at (act.releases n v) f = absurd (clash f refl)
+    at act.relinquishes f = absurd (clash f refl)
+    at (act.accesses a) f = absurd (clash f refl)
+    at (act.multiplies m) f = absurd (clash f refl)
+    at act.exits f = sym q ∙ exits-kept place s held w t (accepted place s held w t (h .1)) e
+    at act.nothing f = absurd (clash f refl)
 
 -- ---- the peak
 held-first : (line : ℕ → Line) → heldAfter line 0 ≡ 0

@@ -6,4 +6,4 @@ pub mod LowestProved
 pub mod OrderlyProved
 pub mod RulesProved
 pub mod FiguresProved
-pub mod Examples
+pub mod WorkedProved

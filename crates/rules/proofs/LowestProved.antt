@@ -11,7 +11,8 @@ use borrow.Author.Tests.{ltb-true, ltb-false, leb-true, le-leb}
 use Rattle.rules.specs.Counting.{every, least}
 use Rattle.rules.specs.State.{Allocation, isFree, freeFrom, slot, lowest}
 use Rattle.rules.specs.Claims.{Free, LowestExact}
-use Rattle.rules.proofs.CountingLaws.{and-l, and-r, clash, every-at, every-all, least-hit, least-below}
+use Rattle.laws.proofs.BoolLaws.{and-l, and-r, clash}
+use Rattle.rules.proofs.CountingLaws.{every-at, every-all, least-hit, least-below}
 
 -- the test is the meaning
 pub from-test : (l : List Allocation) (x start : ℕ) → freeFrom l x start ≡ true → Free l x start

@@ -2,23 +2,24 @@
 -- rules 6 and 7, and no other line adds a name. Assumes nothing.
 use Prim.Native.Nat.{ℕ, zero, suc, _≤_, _<_}
 use mathlib.Core.Path.{_≡_, refl, sym, ap, _∙_, subst}
-use mathlib.Core.Bool.{Bool, true, false, not, _&&_, _||_, cond}
+use mathlib.Core.Bool.{Bool, true, false, not, _&&_, _||_, cond, or-true}
 use mathlib.Core.List.{List, [], _∷_}
 use mathlib.Core.Option.{Option, none, some}
 use mathlib.Core.Logic.{_⊎_, inl, inr}
 use native.Mathlib.Omega.{arith}
 use lib.Dec.{ltb, eqb}
 use lib.ListN.{length}
-use borrow.Author.Tests.{eqb-true, ltb-true}
+use borrow.Author.Tests.{not-true, eqb-true, ltb-true}
 use Rattle.tokens.specs.declared.Name.{Name}
 use Rattle.tokens.specs.Names.{sameName}
-use Rattle.statement.specs.declared.Statement.the-variants.{Mov32, Mov64, Alloc, Dealloc, Relinquish, Load, Store, WaitLoad, WaitStore, FenceBefore, FenceAfter, Multiply, Exit}
+use Rattle.statement.specs.Views as act
+use Rattle.statement.specs.Views.{Act, actOf}
 use Rattle.rules.specs.State.{State, Allocation, Binding, Placer, isLive, without, isBound, bind}
-use Rattle.rules.specs.Reasons.{named, roomed, roomFor}
-use Rattle.rules.specs.Sheet.{Line, badLayout, noForm, tooLarge, statement, Placing, lineRules, lineEffect, effect, added, moved, heldAfter, stateBy, rulesBy}
+use Rattle.rules.specs.Reasons.{roomFor}
+use Rattle.rules.specs.Sheet.{Line, badLayout, noForm, tooLarge, statement, Placing, lineRules, lineEffect, acted, effect, added, moved, heldAfter, stateBy, rulesBy}
 use Rattle.rules.specs.Claims.{AllKept, Orderly}
-use Rattle.rules.proofs.CountingLaws.{and-l, and-r, or-cases, not-t, clash}
-use Rattle.rules.proofs.RuleLaws.{accepted}
+use Rattle.laws.proofs.BoolLaws.{and-l, and-r, or-cases, clash}
+use Rattle.rules.proofs.RuleLaws.{accepted, binds-kept, requests-kept}
 
 -- ---- names
 pub same-name : (a b : Name) → sameName a b ≡ true → a ≡ b
@@ -28,10 +29,6 @@ same-name a b e =
     ap (λ h. record { hi = h; lo = a .lo }) p ∙ ap (λ l. record { hi = b .hi; lo = l }) q
 
 -- ---- the table of values
-or-true : (a : Bool) → a || true ≡ true
-or-true true = refl
-or-true false = refl
-
 -- what is bound afterwards is the name, or was bound
 bound-bind : (m : Name) (b : Binding) (l : List Binding) → isBound m (bind b l) ≡ true → (sameName (b .name) m ≡ true) ⊎ (isBound m l ≡ true)
 unfolding isBound bind
@@ -99,35 +96,32 @@ mov-orderly s n width v p r o =
     }
   where
     at : (m : Name) → isLive m (s .live) ≡ true → (sameName n m ≡ true) ⊎ (isBound m (s .values) ≡ true) → ⊥
-    at m live (inl e) = clash (subst (λ k. isLive k (s .live) ≡ true) (sym (same-name n m e)) live) (not-t (isLive n (s .live)) p)
+    at m live (inl e) = clash (subst (λ k. isLive k (s .live) ≡ true) (sym (same-name n m e)) live) (not-true (isLive n (s .live)) p)
     at m live (inr e) = o .apart m live e
 
-alloc-orderly : (s : State) (n : Name) (v : ℕ) (place : Placer) (w : ℕ) → not (isLive n (s .live)) && not (isBound n (s .values)) ≡ true → Orderly s → Orderly (effect place s w (Alloc n v))
-unfolding effect
+alloc-orderly : (s : State) (n : Name) (v : ℕ) (place : Placer) (w : ℕ) → not (isLive n (s .live)) && not (isBound n (s .values)) ≡ true → Orderly s → Orderly (acted place s w (act.requests n v))
 alloc-orderly s n v place w p o = record { few = o .few; apart = λ m live bound. at m bound (live-added m n v (place (s .live) v) (s .live) live) }
   where
     at : (m : Name) → isBound m (s .values) ≡ true → (sameName n m ≡ true) ⊎ (isLive m (s .live) ≡ true) → ⊥
-    at m bound (inl e) = clash (subst (λ k. isBound k (s .values) ≡ true) (sym (same-name n m e)) bound) (not-t (isBound n (s .values)) (and-r (not (isLive n (s .live))) (not (isBound n (s .values))) p))
+    at m bound (inl e) = clash (subst (λ k. isBound k (s .values) ≡ true) (sym (same-name n m e)) bound) (not-true (isBound n (s .values)) (and-r (not (isLive n (s .live))) (not (isBound n (s .values))) p))
     at m bound (inr e) = o .apart m e bound
 
 orderly-step : (place : Placer) (s : State) (held : ℕ) (x : Line) → AllKept (lineRules place s held x) → Orderly s → Orderly (lineEffect place s x)
-unfolding effect named roomed
+unfolding effect
 orderly-step place s held badLayout h o = o
 orderly-step place s held noForm h o = o
 orderly-step place s held tooLarge h o = o
-orderly-step place s held (statement w (Mov32 n v)) h o = let a = accepted place s held w (Mov32 n v) (h .1) in mov-orderly s n 32 v (a .names) (a .rooms) o
-orderly-step place s held (statement w (Mov64 n v)) h o = let a = accepted place s held w (Mov64 n v) (h .1) in mov-orderly s n 64 v (a .names) (a .rooms) o
-orderly-step place s held (statement w (Alloc n v)) h o = alloc-orderly s n v place w (accepted place s held w (Alloc n v) (h .1) .names) o
-orderly-step place s held (statement w (Dealloc n v)) h o = record { few = o .few; apart = λ m live bound. o .apart m (live-without m n (s .live) live) bound }
-orderly-step place s held (statement w Relinquish) h o = record { few = o .few; apart = o .apart }
-orderly-step place s held (statement w (Load a)) h o = o
-orderly-step place s held (statement w (Store a)) h o = o
-orderly-step place s held (statement w WaitLoad) h o = o
-orderly-step place s held (statement w WaitStore) h o = o
-orderly-step place s held (statement w FenceBefore) h o = o
-orderly-step place s held (statement w FenceAfter) h o = o
-orderly-step place s held (statement w (Multiply m)) h o = o
-orderly-step place s held (statement w Exit) h o = record { few = o .few; apart = o .apart }
+orderly-step place s held (statement w t) h o = at (actOf t) refl
+  where
+    at : (x : Act) → actOf t ≡ x → Orderly (acted place s w x)
+    at (act.binds n width v) e = let k = binds-kept place s held w t (accepted place s held w t (h .1)) n v width e in mov-orderly s n width v (k .0) (k .1) o
+    at (act.requests n v) e = alloc-orderly s n v place w (requests-kept place s held w t (accepted place s held w t (h .1)) n v e) o
+    at (act.releases n v) e = record { few = o .few; apart = λ m live bound. o .apart m (live-without m n (s .live) live) bound }
+    at act.relinquishes e = record { few = o .few; apart = o .apart }
+    at (act.accesses a) e = o
+    at (act.multiplies m) e = o
+    at act.exits e = record { few = o .few; apart = o .apart }
+    at act.nothing e = o
 
 -- after any number of accepted lines, under any placing
 pub orderly : (placing : Placing) (line : ℕ → Line) (n : ℕ) → ((k : ℕ) → k < n → AllKept (rulesBy placing line k)) → Orderly (stateBy placing line n)

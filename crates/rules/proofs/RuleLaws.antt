@@ -1,20 +1,29 @@
 -- Ordered rules: the number of the first broken one is 0 exactly where all are kept, and k exactly where rule k is the first broken. Each law is an
 -- induction on the list. Assumes nothing.
 use Prim.Native.Nat.{ℕ, _≤_, _<_}
-use mathlib.Core.Path.{_≡_, refl, ap, _∙_}
-use mathlib.Core.Bool.{Bool, true, false, _&&_, cond}
+use mathlib.Core.Path.{_≡_, refl, ap, _∙_, subst}
+use mathlib.Core.Bool.{Bool, true, false, not, _&&_, _||_, cond}
+use mathlib.Core.Option.{some}
 use mathlib.Core.List.{List, [], _∷_, _++_}
 use native.Mathlib.Omega.{arith}
 use lib.Dec.{leb, ltb, eqb}
-use borrow.Author.Tests.{eq-eqb, ne-eqb, ltb-true, leb-true}
+use borrow.Author.Tests.{eqb-true, eq-eqb, ne-eqb, ltb-true, leb-true}
+use Rattle.laws.specs.Tests.{all, isSome}
 use Rattle.laws.specs.Rules.{Rule, rule, firstBroken}
+use Rattle.tokens.specs.declared.Name.{Name}
+use Rattle.request.specs.Request.{legal}
+use Rattle.statement.specs.declared.Access.{Access}
+use Rattle.statement.specs.declared.Mma.{Mma}
 use Rattle.statement.specs.declared.Statement.{Statement}
-use Rattle.rules.specs.State.{State, Placer}
-use Rattle.rules.specs.Reasons.{named, roomed, warped, sized, permitted, placed, reads, mListed, nListed, typesListed, inside, cleared, openRules, closedRules, rules}
+use Rattle.statement.specs.Views as act
+use Rattle.statement.specs.Views.{Ask, Act, isExit, actOf, requestOf, releaseOf, requestIn, releaseIn, accessIn, mmaIn, boundIn, bookingIn, for, when, holds}
+use Rattle.rules.specs.State.{State, Placer, isLive, isBound, columnsOf}
+use Rattle.rules.specs.Reasons.{mmaNamed, mmaReads, allEnd, roomFor, isWarp, laneOfWarp, ends, named, roomed, warped, sized, permitted, placed, reads, mListed, nListed, typesListed, inside, cleared, openRules, closedRules, rules}
+use Rattle.statement.specs.Cells as cells
 use Rattle.statement.specs.Cells.{counted}
 use Rattle.rules.specs.Sheet.{Line, badLayout, noForm, tooLarge, statement, lineRules}
 use Rattle.rules.specs.Claims.{AllKept, FirstIs, numbers, InOrder}
-use Rattle.rules.proofs.CountingLaws.{and-l, and-r, clash}
+use Rattle.laws.proofs.BoolLaws.{and-l, and-r, clash}
 
 -- the numbers are from 1 to m
 abbrev pub Numbered : ℕ → List Rule → Type 0
@@ -155,3 +164,71 @@ accepted place s held w t h = by (s .exited) refl h
     by : (b : Bool) → s .exited ≡ b → AllKept (cond b (closedRules t) (openRules place s held w t)) → Accepted place s held w t
     by true e k = absurd (kept-closed t k)
     by false e k = kept-open place s held w t e k
+
+-- a request that is accepted is legal, and has a start
+pub request-kept : (place : Placer) (s : State) (held w : ℕ) (t : Statement) → Accepted place s held w t → (r : Ask) → requestOf t ≡ some r
+    → (legal (r .columns) ≡ true) × (isSome (place (s .live) (r .columns)) ≡ true)
+unfolding sized placed
+request-kept place s held w t a r e = (
+  subst (λ q. holds (for q (λ r. legal (r .columns)) ∷ for (releaseOf t) (λ r. eqb (columnsOf (r .name) (s .live)) (r .columns)) ∷ []) ≡ true) e (a .sizes),
+  subst (λ q. holds (for q (λ r. isSome (place (s .live) (r .columns))) ∷ []) ≡ true) e (a .places),
+)
+
+-- the test of reason 6, by what a statement does
+abbrev namedIn : State → Act → Bool
+namedIn s x = holds
+    (for (boundIn x) (λ n. not (isLive n (s .live)))
+    ∷ for (requestIn x) (λ r. not (isLive (r .name) (s .live)) && not (isBound (r .name) (s .values)))
+    ∷ for (releaseIn x) (λ r. isLive (r .name) (s .live))
+    ∷ for (accessIn x) (λ a. isLive (a .address .base) (s .live))
+    ∷ for (mmaIn x) (λ m. all (mmaNamed s m))
+    ∷ [])
+
+-- and that of reason 14
+abbrev insideIn : State → Act → Bool
+insideIn s x = holds (for (accessIn x) (λ a. ends s (a .address) (cells.columnsOf (a .shape) (a .num))) ∷ for (mmaIn x) (λ m. all (allEnd s m)) ∷ [])
+
+module _ (place : Placer) (s : State) (held w : ℕ) (t : Statement) (a : Accepted place s held w t) (n : Name) (k : ℕ) where
+  -- a mov that is accepted names no live allocation, and has room
+  pub binds-kept : (width : ℕ) → actOf t ≡ act.binds n width k → (not (isLive n (s .live)) ≡ true) × (roomFor s n ≡ true)
+  unfolding named roomed
+  binds-kept width e = (subst (λ x. namedIn s x ≡ true) e (a .names), subst (λ x. holds (for (boundIn x) (roomFor s) ∷ []) ≡ true) e (a .rooms))
+
+  -- an alloc a name that is not taken
+  pub requests-kept : actOf t ≡ act.requests n k → not (isLive n (s .live)) && not (isBound n (s .values)) ≡ true
+  unfolding named
+  requests-kept e = subst (λ x. namedIn s x ≡ true) e (a .names)
+
+  -- a dealloc a live allocation and its columns
+  pub releases-kept : actOf t ≡ act.releases n k → (isLive n (s .live) ≡ true) × (columnsOf n (s .live) ≡ k)
+  unfolding sized named
+  releases-kept e = (
+    subst (λ x. namedIn s x ≡ true) e (a .names),
+    eqb-true (columnsOf n (s .live)) k
+        (subst (λ x. holds (for (requestIn x) (λ r. legal (r .columns)) ∷ for (releaseIn x) (λ r. eqb (columnsOf (r .name) (s .live)) (r .columns)) ∷ []) ≡ true) e (a .sizes)),
+  )
+
+module _ (place : Placer) (s : State) (held w : ℕ) (t : Statement) (a : Accepted place s held w t) where
+  -- a ld or st a live allocation, the lane of its warp, and columns inside
+  pub accesses-kept : (x : Access) → actOf t ≡ act.accesses x
+      → (isLive (x .address .base) (s .live) ≡ true) × (laneOfWarp w x ≡ true) × (ends s (x .address) (cells.columnsOf (x .shape) (x .num)) ≡ true)
+  unfolding named warped inside
+  accesses-kept x e = (
+    subst (λ y. namedIn s y ≡ true) e (a .names),
+    subst (λ y. holds (for (accessIn y) (laneOfWarp w) ∷ when (bookingIn y) (isWarp (s .warp) w) ∷ []) ≡ true) e (a .warps),
+    subst (λ y. insideIn s y ≡ true) e (a .ends),
+  )
+
+  -- an mma its names, words that read, and columns inside
+  pub multiplies-kept : (m : Mma) → actOf t ≡ act.multiplies m → (all (mmaNamed s m) ≡ true) × (all (mmaReads s m) ≡ true) × (all (allEnd s m) ≡ true)
+  unfolding named reads inside
+  multiplies-kept m e = (
+    subst (λ y. namedIn s y ≡ true) e (a .names),
+    subst (λ y. holds (for (mmaIn y) (λ m. all (mmaReads s m)) ∷ []) ≡ true) e (a .words),
+    subst (λ y. insideIn s y ≡ true) e (a .ends),
+  )
+
+-- exit where nothing is held
+pub exits-kept : (place : Placer) (s : State) (held w : ℕ) (t : Statement) → Accepted place s held w t → isExit t ≡ true → held ≡ 0
+unfolding cleared
+exits-kept place s held w t a e = eqb-true held 0 (subst (λ b. not b || eqb held 0 ≡ true) e (a .clears))

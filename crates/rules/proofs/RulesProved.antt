@@ -8,16 +8,18 @@ use mathlib.Core.Logic.{_⊎_, inl, inr}
 use native.Mathlib.Omega.{arith}
 use lib.Dec.{leb, ltb, eqb}
 use lib.ListN.{length}
-use borrow.Author.Tests.{eqb-true, eqb-false, ltb-true, ltb-false, leb-true, leb-false, lt-ltb, le-ltb, eq-eqb, ne-eqb}
+use borrow.Author.Tests.{not-true, not-false, eqb-true, eqb-false, ltb-true, ltb-false, leb-true, leb-false, lt-ltb, le-ltb, eq-eqb, ne-eqb}
 use Rattle.laws.specs.Rules.{Rule, rule, firstBroken}
-use Rattle.statement.specs.declared.Statement.the-variants.{Mov32, Mov64, Alloc, Dealloc, Relinquish, Load, Store, WaitLoad, WaitStore, FenceBefore, FenceAfter, Multiply, Exit}
+use Rattle.statement.specs.Views as act
+use Rattle.statement.specs.Views.{Act, actOf, exitIn}
 use Rattle.rules.specs.Counting.{least}
 use Rattle.rules.specs.State.{State, Placer}
 use Rattle.rules.specs.Reasons.{rules, closedRules, openRules}
-use Rattle.rules.specs.Sheet.{Line, badLayout, noForm, tooLarge, statement, Sheet, Placing, lineRules, lineEffect, effect, stateBy, startsBy, rulesBy, reasonBy, stopBy, heldAfter, peakUpTo, answer, closing, answerAt, answerBy}
+use Rattle.rules.specs.Sheet.{Line, badLayout, noForm, tooLarge, statement, Sheet, Placing, lineRules, lineEffect, acted, effect, stateBy, startsBy, rulesBy, reasonBy, stopBy, heldAfter, peakUpTo, answer, closing, answerAt, answerBy}
 use Rattle.rules.specs.Claims.{AllKept, exits, Passing, Passed, endRules, ownRules, rulesAt, Refused, RulesExact}
 use Rattle.rules.specs.declared.Answer.{Answer}
-use Rattle.rules.proofs.CountingLaws.{bool, not-t, not-f, clash, least-le, least-hit, least-below}
+use Rattle.laws.proofs.BoolLaws.{bool, clash}
+use Rattle.rules.proofs.CountingLaws.{least-le, least-hit, least-below}
 use Rattle.rules.proofs.RuleLaws.{Numbered, kept-closed, kept-none, none-kept, at-most, first-is, is-first, in-turn-kept, in-turn-broken, line-numbered}
 
 -- ---- lines and exit
@@ -26,38 +28,34 @@ unfolding effect
 exit-ends place s badLayout e = absurd (clash e refl)
 exit-ends place s noForm e = absurd (clash e refl)
 exit-ends place s tooLarge e = absurd (clash e refl)
-exit-ends place s (statement w (Mov32 n v)) e = absurd (clash e refl)
-exit-ends place s (statement w (Mov64 n v)) e = absurd (clash e refl)
-exit-ends place s (statement w (Alloc n v)) e = absurd (clash e refl)
-exit-ends place s (statement w (Dealloc n v)) e = absurd (clash e refl)
-exit-ends place s (statement w Relinquish) e = absurd (clash e refl)
-exit-ends place s (statement w (Load a)) e = absurd (clash e refl)
-exit-ends place s (statement w (Store a)) e = absurd (clash e refl)
-exit-ends place s (statement w WaitLoad) e = absurd (clash e refl)
-exit-ends place s (statement w WaitStore) e = absurd (clash e refl)
-exit-ends place s (statement w FenceBefore) e = absurd (clash e refl)
-exit-ends place s (statement w FenceAfter) e = absurd (clash e refl)
-exit-ends place s (statement w (Multiply m)) e = absurd (clash e refl)
-exit-ends place s (statement w Exit) e = refl
+exit-ends place s (statement w t) e = at (actOf t) e
+  where
+    at : (x : Act) → exitIn x ≡ true → acted place s w x .exited ≡ true
+    at (act.binds n width v) e = absurd (clash e refl)
+    at (act.requests n v) e = absurd (clash e refl)
+    at (act.releases n v) e = absurd (clash e refl)
+    at act.relinquishes e = absurd (clash e refl)
+    at (act.accesses a) e = absurd (clash e refl)
+    at (act.multiplies m) e = absurd (clash e refl)
+    at act.exits e = refl
+    at act.nothing e = absurd (clash e refl)
 
 pub other-stays : (place : Placer) (s : State) (x : Line) → exits x ≡ false → lineEffect place s x .exited ≡ s .exited
 unfolding effect
 other-stays place s badLayout e = refl
 other-stays place s noForm e = refl
 other-stays place s tooLarge e = refl
-other-stays place s (statement w (Mov32 n v)) e = refl
-other-stays place s (statement w (Mov64 n v)) e = refl
-other-stays place s (statement w (Alloc n v)) e = refl
-other-stays place s (statement w (Dealloc n v)) e = refl
-other-stays place s (statement w Relinquish) e = refl
-other-stays place s (statement w (Load a)) e = refl
-other-stays place s (statement w (Store a)) e = refl
-other-stays place s (statement w WaitLoad) e = refl
-other-stays place s (statement w WaitStore) e = refl
-other-stays place s (statement w FenceBefore) e = refl
-other-stays place s (statement w FenceAfter) e = refl
-other-stays place s (statement w (Multiply m)) e = refl
-other-stays place s (statement w Exit) e = absurd (clash refl e)
+other-stays place s (statement w t) e = at (actOf t) e
+  where
+    at : (x : Act) → exitIn x ≡ false → acted place s w x .exited ≡ s .exited
+    at (act.binds n width v) e = refl
+    at (act.requests n v) e = refl
+    at (act.releases n v) e = refl
+    at act.relinquishes e = refl
+    at (act.accesses a) e = refl
+    at (act.multiplies m) e = refl
+    at act.exits e = absurd (clash refl e)
+    at act.nothing e = refl
 
 -- after exit every line breaks a rule
 pub no-more : (place : Placer) (s : State) (held : ℕ) (x : Line) → AllKept (lineRules place s held x) → s .exited ≡ true → ⊥
@@ -93,11 +91,11 @@ module _ (placing : Placing) (line : ℕ → Line) where
   unfolding stopBy
   stop-hit n h =
       let k = least (λ k. not (eqb (reasonBy placing line k) 0)) n in
-      omega (arith, eqb-false (reason k) 0 (not-t (eqb (reason k) 0) (least-hit (λ k. not (eqb (reasonBy placing line k) 0)) n h)))
+      omega (arith, eqb-false (reason k) 0 (not-true (eqb (reason k) 0) (least-hit (λ k. not (eqb (reasonBy placing line k) 0)) n h)))
 
   pub stop-before : (n j : ℕ) → j < stopBy placing line n → reason j ≡ 0
   unfolding stopBy
-  stop-before n j h = eqb-true (reason j) 0 (not-f (eqb (reason j) 0) (least-below (λ k. not (eqb (reasonBy placing line k) 0)) n j h))
+  stop-before n j h = eqb-true (reason j) 0 (not-false (eqb (reason j) 0) (least-below (λ k. not (eqb (reasonBy placing line k) 0)) n j h))
 
   -- it stops at the end exactly where no line is refused
   pub stop-none : (n : ℕ) → ((k : ℕ) → k < n → reason k ≡ 0) → stopBy placing line n ≡ n

@@ -3,3 +3,4 @@ pub mod State
 pub mod Reasons
 pub mod Sheet
 pub mod Claims
+pub mod Worked

@@ -11,10 +11,10 @@ use Rattle.tokens.specs.declared.Name.{Name}
 use Rattle.statement.specs.declared.Reading.{Reading}
 use Rattle.statement.specs.declared.Reading.the-variants.{Got, NoForm, TooLarge}
 use Rattle.statement.specs.declared.Statement.{Statement}
-use Rattle.statement.specs.declared.Statement.the-variants.{Mov32, Mov64, Alloc, Dealloc, Relinquish, Load, Store, WaitLoad, WaitStore, FenceBefore, FenceAfter, Multiply, Exit}
 use Rattle.rules.specs.declared.Answer.{Answer}
 use Rattle.rules.specs.Counting.{least}
-use Rattle.statement.specs.Views.{requestOf, releaseOf, of}
+use Rattle.statement.specs.Views as act
+use Rattle.statement.specs.Views.{Act, actOf, requestOf, releaseOf, of}
 use Rattle.rules.specs.State.{State, opened, Allocation, Placer, lowest, without, bind}
 use Rattle.rules.specs.Reasons.{rules}
 
@@ -59,20 +59,19 @@ added n columns (some start) l = record { name = n; start = start; columns = col
 abbrev pub moved : State → Name → ℕ → ℕ → State
 moved s n width v = record { live = s .live; values = bind (record { name = n; width = width; number = v }) (s .values); warp = s .warp; relinquished = s .relinquished; exited = s .exited }
 
+abbrev pub acted : Placer → State → ℕ → Act → State
+acted place s w (act.binds n width v) = moved s n width v
+acted place s w (act.requests n v) = record { live = added n v (place (s .live) v) (s .live); values = s .values; warp = fixed (s .warp) w; relinquished = s .relinquished; exited = s .exited }
+acted place s w (act.releases n v) = record { live = without n (s .live); values = s .values; warp = s .warp; relinquished = s .relinquished; exited = s .exited }
+acted place s w act.relinquishes = record { live = s .live; values = s .values; warp = fixed (s .warp) w; relinquished = true; exited = s .exited }
+acted place s w (act.accesses a) = s
+acted place s w (act.multiplies m) = s
+acted place s w act.exits = record { live = s .live; values = s .values; warp = s .warp; relinquished = s .relinquished; exited = true }
+acted place s w act.nothing = s
+
+-- by what the statement does
 unfoldable pub effect : Placer → State → ℕ → Statement → State
-effect place s w (Mov32 n v) = moved s n 32 v
-effect place s w (Mov64 n v) = moved s n 64 v
-effect place s w (Alloc n v) = record { live = added n v (place (s .live) v) (s .live); values = s .values; warp = fixed (s .warp) w; relinquished = s .relinquished; exited = s .exited }
-effect place s w (Dealloc n v) = record { live = without n (s .live); values = s .values; warp = s .warp; relinquished = s .relinquished; exited = s .exited }
-effect place s w Relinquish = record { live = s .live; values = s .values; warp = fixed (s .warp) w; relinquished = true; exited = s .exited }
-effect place s w (Load a) = s
-effect place s w (Store a) = s
-effect place s w WaitLoad = s
-effect place s w WaitStore = s
-effect place s w FenceBefore = s
-effect place s w FenceAfter = s
-effect place s w (Multiply m) = s
-effect place s w Exit = record { live = s .live; values = s .values; warp = s .warp; relinquished = s .relinquished; exited = true }
+effect place s w t = acted place s w (actOf t)
 
 abbrev pub lineEffect : Placer → State → Line → State
 lineEffect place s badLayout = s

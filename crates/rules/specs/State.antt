@@ -1,4 +1,4 @@
--- What the rules remember of a sheet from line to line (document 01, 'Booking'), and the placing of a request. Assumes nothing.
+-- What the rules remember of a sheet from line to line (docs/FORMAT.md, 'Booking'), and the placing of a request. Assumes nothing.
 use Prim.Native.Nat.{ℕ, _+_, _*_}
 use mathlib.Core.Bool.{Bool, true, false, not, _&&_, _||_, cond}
 use mathlib.Core.List.{List, [], _∷_}
@@ -9,7 +9,7 @@ use Rattle.tokens.specs.Names.{sameName}
 use Rattle.rules.specs.Counting.{every, least}
 
 -- ---- allocations
--- a live allocation (document 01: a holding)
+-- a live allocation: a holding
 pub record Allocation : Type 0 where
   pub name : Name
   pub start : ℕ

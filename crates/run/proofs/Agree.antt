@@ -9,7 +9,7 @@ use mathlib.Core.Logic.{_⊎_, inl, inr}
 use native.Mathlib.Omega.{arith}
 use lib.Dec.{leb, eqb}
 use lib.ListN.{getD}
-use borrow.Author.Tests.{ltb-true, leb-true, le-leb, eqb-true, eq-eqb}
+use borrow.Author.Tests.{not-true, ltb-true, leb-true, le-leb, eqb-true, eq-eqb}
 use Rattle.laws.specs.Tests.{all, isSome}
 use Rattle.laws.specs.Layout.{says, stands}
 use Rattle.laws.specs.Format.{kept}
@@ -29,17 +29,18 @@ use Rattle.statement.specs.declared.Shape.{Shape}
 use Rattle.statement.specs.declared.Shape.the-variants.{S32x32, S16x64, S16x128, S16x256}
 use Rattle.statement.specs.declared.Access.{Access}
 use Rattle.statement.specs.declared.Statement.{Statement}
-use Rattle.statement.specs.declared.Statement.the-variants.{Mov32, Mov64, Alloc, Dealloc, Relinquish, Load, Store, WaitLoad, WaitStore, FenceBefore, FenceAfter, Multiply, Exit}
 use Rattle.statement.specs.Canonical.{sparse}
+use Rattle.statement.specs.Views as act
+use Rattle.statement.specs.Views.{Act, actOf, requestIn, exitIn, of}
 use Rattle.statement.specs.Cells as cells
 use Rattle.rules.specs.State as s
 use Rattle.rules.specs.State.{State, Allocation, Binding, Placer}
 use Rattle.rules.specs.Reasons as reasons
-use Rattle.rules.specs.Sheet.{Line, badLayout, noForm, tooLarge, statement, Placing, lineRules, lineEffect, added, effect, heldAfter, stateBy, rulesBy}
+use Rattle.rules.specs.Sheet.{Line, badLayout, noForm, tooLarge, statement, Placing, lineRules, lineEffect, added, acted, effect, heldAfter, stateBy, rulesBy}
 use Rattle.rules.specs.Claims.{AllKept}
 use Rattle.rules.proofs.RulesProved.{no-more}
-use Rattle.rules.proofs.CountingLaws.{and-l, and-r, or-cases, not-t, clash}
-use Rattle.rules.proofs.RuleLaws.{Accepted, accepted}
+use Rattle.laws.proofs.BoolLaws.{and-l, and-r, or-cases, clash}
+use Rattle.rules.proofs.RuleLaws.{Accepted, accepted, request-kept, requests-kept, releases-kept, accesses-kept, multiplies-kept, exits-kept}
 use Rattle.rules.proofs.OrderlyProved.{same-name}
 use Rattle.run.specs.Run as run
 use Rattle.run.specs.Run.{Holding, Region, region, Run, Phase, going, stoppedAt, exited, ended, nOf, orZero, has, hasName, hasBoth, without, lies, allLie, bookedBy, operandRegions, metadataRegions, known, startAt, mayUse, heldColumns, able, done, inPhase, go, after}
@@ -262,85 +263,72 @@ pub record Agree (st : State) (r : Run) : Type 0 where
   pub open′ : st .exited ≡ false
   pub goes : r .phase ≡ going
 
--- the statement asks for nothing, or the start may be used for it
-unfoldable pub freeFor : List Holding → Statement → Option ℕ → Bool
-freeFor l (Mov32 n v) o = true
-freeFor l (Mov64 n v) o = true
-freeFor l (Alloc n v) o = mayUse l v o
-freeFor l (Dealloc n v) o = true
-freeFor l Relinquish o = true
-freeFor l (Load a) o = true
-freeFor l (Store a) o = true
-freeFor l WaitLoad o = true
-freeFor l WaitStore o = true
-freeFor l FenceBefore o = true
-freeFor l FenceAfter o = true
-freeFor l (Multiply m) o = true
-freeFor l Exit o = true
+-- nothing is asked for, or the start may be used for it
+unfoldable pub freeFor : List Holding → Act → Option ℕ → Bool
+freeFor l t o = of (requestIn t) (λ r. mayUse l (r .columns) o) true
 
--- the number under idesc
-idesc-is : (place : Placer) (st : State) (r : Run) (held w : ℕ) (m : Mma) → Accepted place st held w (Multiply m) → Agree st r
-    → run.numberOf (m .idesc) (r .notes) ≡ some (s.numberOf (m .idesc) (st .values))
-unfolding reasons.named
-idesc-is place st r held w m a g =
-    let e = each (reasons.mmaNamed st m) (a .names) in
-    let width : s.widthOf (m .idesc) (st .values) ≡ 32 = eqb-true (s.widthOf (m .idesc) (st .values)) 32 (e .1 .1 .1 .1 .0) in
-    g .numbers (m .idesc) ∙ lookup-some (m .idesc) (st .values) (omega (arith, width))
+-- what the rules say of an mma
+module _ (st : State) (m : Mma) (names : all (reasons.mmaNamed st m) ≡ true) where
+  -- the number under idesc
+  idesc-is : (r : Run) → Agree st r → run.numberOf (m .idesc) (r .notes) ≡ some (s.numberOf (m .idesc) (st .values))
+  idesc-is r g =
+      let e = each (reasons.mmaNamed st m) names in
+      let width : s.widthOf (m .idesc) (st .values) ≡ 32 = eqb-true (s.widthOf (m .idesc) (st .values)) 32 (e .1 .1 .1 .1 .0) in
+      g .numbers (m .idesc) ∙ lookup-some (m .idesc) (st .values) (omega (arith, width))
 
-mma-n : (place : Placer) (st : State) (held w : ℕ) (m : Mma) → Accepted place st held w (Multiply m) → reasons.instructionOf st m .descriptor .n ≡ nOf (s.numberOf (m .idesc) (st .values))
-unfolding reasons.reads reasons.instructionOf
-mma-n place st held w m a =
-    let e = each (reasons.mmaReads st m) (a .words) in
-    n-is (m .kind) (m .ws) (sparse (m .metadata)) (s.numberOf (m .idesc) (st .values))
-    (eqb-true (instruction.decoded (m .kind) (m .ws) (sparse (m .metadata)) (s.numberOf (m .idesc) (st .values)) .reason) 0 (e .1 .1 .0))
+  module _ (words : all (reasons.mmaReads st m) ≡ true) (ends : all (reasons.allEnd st m) ≡ true) where
+    mma-n : reasons.instructionOf st m .descriptor .n ≡ nOf (s.numberOf (m .idesc) (st .values))
+    unfolding reasons.instructionOf
+    mma-n =
+        n-is (m .kind) (m .ws) (sparse (m .metadata)) (s.numberOf (m .idesc) (st .values))
+        (eqb-true (instruction.decoded (m .kind) (m .ws) (sparse (m .metadata)) (s.numberOf (m .idesc) (st .values)) .reason) 0 (each (reasons.mmaReads st m) words .1 .1 .0))
 
-mma-all : (place : Placer) (st : State) (r : Run) (held w : ℕ) (m : Mma) → Accepted place st held w (Multiply m) → Agree st r
-    → allLie (region (m .d) 128 (nOf (s.numberOf (m .idesc) (st .values))) ∷ (operandRegions (m .a) ++ metadataRegions (m .metadata))) (r .live) ≡ true
-unfolding reasons.named reasons.inside
-mma-all place st r held w m a g =
-    let n = each (reasons.mmaNamed st m) (a .names) in
-    let i = each (reasons.allEnd st m) (a .ends) in
-    let v = nOf (s.numberOf (m .idesc) (st .values)) in
-    allLie-cons (region (m .d) 128 v) (operandRegions (m .a) ++ metadataRegions (m .metadata)) (r .live)
-    (mma-lies st (m .d) v (r .live) (g .alike) (n .0) (subst (λ c. reasons.mmaEnds st (m .d) c ≡ true) (mma-n place st held w m a) (i .0)))
-    (operand-lies st (m .a) (metadataRegions (m .metadata)) (r .live) (g .alike) (n .1 .0) (i .1 .0)
-    (metadata-lies st (m .metadata) (r .live) (g .alike) (n .1 .1 .1 .0) (i .1 .1 .0)))
+    mma-all : (r : Run) → Agree st r
+        → allLie (region (m .d) 128 (nOf (s.numberOf (m .idesc) (st .values))) ∷ (operandRegions (m .a) ++ metadataRegions (m .metadata))) (r .live) ≡ true
+    mma-all r g =
+        let n = each (reasons.mmaNamed st m) names in
+        let i = each (reasons.allEnd st m) ends in
+        let v = nOf (s.numberOf (m .idesc) (st .values)) in
+        allLie-cons (region (m .d) 128 v) (operandRegions (m .a) ++ metadataRegions (m .metadata)) (r .live)
+        (mma-lies st (m .d) v (r .live) (g .alike) (n .0) (subst (λ c. reasons.mmaEnds st (m .d) c ≡ true) mma-n (i .0)))
+        (operand-lies st (m .a) (metadataRegions (m .metadata)) (r .live) (g .alike) (n .1 .0) (i .1 .0)
+        (metadata-lies st (m .metadata) (r .live) (g .alike) (n .1 .1 .1 .0) (i .1 .1 .0)))
 
 one-lies : (x : Region) (b : List Holding) → has (lies x) b ≡ true → allLie (x ∷ []) b ≡ true
 one-lies x b e = allLie-cons x [] b e (allLie-none b)
 
 -- a dealloc names a holding of that length
-pub dealloc-both : (place : Placer) (st : State) (r : Run) (held w : ℕ) (n : Name) (v : ℕ) → Accepted place st held w (Dealloc n v) → Agree st r
+pub dealloc-both : (st : State) (r : Run) (n : Name) (v : ℕ) → (s.isLive n (st .live) ≡ true) × (s.columnsOf n (st .live) ≡ v) → Agree st r
     → (has (hasBoth n v) (r .live) ≡ true) × (without (hasBoth n v) (r .live) ≡ without (hasName n) (r .live))
-unfolding reasons.named reasons.sized
-dealloc-both place st r held w n v a g =
-    let live : has (hasName n) (r .live) ≡ true = sym (live-alike n (st .live) (r .live) (g .alike)) ∙ a .names in
-    let size : lengthOf n (r .live) ≡ v = sym (length-alike n (st .live) (r .live) (g .alike)) ∙ eqb-true (s.columnsOf n (st .live)) v (a .sizes) in
+dealloc-both st r n v k g =
+    let live : has (hasName n) (r .live) ≡ true = sym (live-alike n (st .live) (r .live) (g .alike)) ∙ k .0 in
+    let size : lengthOf n (r .live) ≡ v = sym (length-alike n (st .live) (r .live) (g .alike)) ∙ k .1 in
     subst (λ x. (has (hasBoth n x) (r .live) ≡ true) × (without (hasBoth n x) (r .live) ≡ without (hasName n) (r .live))) size (both n (r .live) live)
 
 -- of a line that breaks no rule, the run does all but a request whose start may not be used
 pub able-is : (starts : List ℕ) (place : Placer) (st : State) (r : Run) (held w : ℕ) (t : Statement)
-    → w < 4 → held ≡ s.total (st .live) → Accepted place st held w t → Agree st r → Sound r → able starts r t ≡ freeFor (r .live) t (startAt starts (r .requests))
-unfolding able freeFor bookedBy known reasons.named reasons.warped reasons.inside reasons.cleared
-able-is starts place st r held w (Mov32 n v) p q a g d = refl
-able-is starts place st r held w (Mov64 n v) p q a g d = refl
-able-is starts place st r held w (Alloc n v) p q a g d =
-    let e : has (hasName n) (r .live) ≡ false = sym (live-alike n (st .live) (r .live) (g .alike)) ∙ not-t (s.isLive n (st .live)) (and-l (not (s.isLive n (st .live))) (not (s.isBound n (st .values))) (a .names)) in
-    rw e
-able-is starts place st r held w (Dealloc n v) p q a g d = dealloc-both place st r held w n v a g .0
-able-is starts place st r held w Relinquish p q a g d = refl
-able-is starts place st r held w (Load x) p q a g d =
-    one-lies (region (x .address) (cells.lanesOf (x .shape)) (cells.columnsOf (x .shape) (x .num))) (r .live) (access-lies st w x (r .live) (g .alike) p (a .names) (a .warps) (a .ends))
-able-is starts place st r held w (Store x) p q a g d =
-    one-lies (region (x .address) (cells.lanesOf (x .shape)) (cells.columnsOf (x .shape) (x .num))) (r .live) (access-lies st w x (r .live) (g .alike) p (a .names) (a .warps) (a .ends))
-able-is starts place st r held w WaitLoad p q a g d = refl
-able-is starts place st r held w WaitStore p q a g d = refl
-able-is starts place st r held w FenceBefore p q a g d = refl
-able-is starts place st r held w FenceAfter p q a g d = refl
-able-is starts place st r held w (Multiply m) p q a g d = rw (idesc-is place st r held w m a g) (mma-all place st r held w m a g)
-able-is starts place st r held w Exit p q a g d =
-    eq-eqb (heldColumns (r .live)) 0
-    (omega (arith, counted (r .live) (d .low) (d .apart), total-alike (st .live) (r .live) (g .alike), q, eqb-true held 0 (a .clears)))
+    → w < 4 → held ≡ s.total (st .live) → Accepted place st held w t → Agree st r → Sound r → able starts r (actOf t) ≡ freeFor (r .live) (actOf t) (startAt starts (r .requests))
+unfolding able freeFor bookedBy known allLie
+able-is starts place st r held w t p q a g d = at (actOf t) refl
+  where
+    at : (x : Act) → actOf t ≡ x → able starts r x ≡ freeFor (r .live) x (startAt starts (r .requests))
+    at (act.binds n width v) e = refl
+    at (act.requests n v) e =
+        let k = requests-kept place st held w t a n v e in
+        let f : has (hasName n) (r .live) ≡ false = sym (live-alike n (st .live) (r .live) (g .alike)) ∙ not-true (s.isLive n (st .live)) (and-l (not (s.isLive n (st .live))) (not (s.isBound n (st .values))) k) in
+        rw f
+    at (act.releases n v) e = dealloc-both st r n v (releases-kept place st held w t a n v e) g .0
+    at act.relinquishes e = refl
+    at (act.accesses x) e =
+        let k = accesses-kept place st held w t a x e in
+        one-lies (region (x .address) (cells.lanesOf (x .shape)) (cells.columnsOf (x .shape) (x .num))) (r .live) (access-lies st w x (r .live) (g .alike) p (k .0) (k .1) (k .2))
+    at (act.multiplies m) e =
+        let k = multiplies-kept place st held w t a m e in
+        rw (idesc-is st m (k .0) r g) (mma-all st m (k .0) (k .1) (k .2) r g)
+    at act.exits e =
+        eq-eqb (heldColumns (r .live)) 0
+        (omega (arith, counted (r .live) (d .low) (d .apart), total-alike (st .live) (r .live) (g .alike), q, exits-kept place st held w t a (ap exitIn e)))
+    at act.nothing e = refl
 
 -- ---- in each phase of the run
 abbrev pub Follows : Phase → State → Run → Type 0
@@ -366,44 +354,45 @@ noted-alike st r n m width v g =
     ap (λ o. cond (sameName n m) (some v) o) (g .numbers m) ∙ sym (lookup-bind m (record { name = n; width = width; number = v }) (st .values))
 
 does : (starts : List ℕ) (place : Placer) (st : State) (r : Run) (held w : ℕ) (t : Statement)
-    → Accepted place st held w t → Agree st r → Follows (done starts r t .phase) (effect place st w t) (done starts r t)
-unfolding done effect reasons.placed
-does starts place st r held w (Mov32 n v) a g = record { alike = g .alike; numbers = λ m. noted-alike st r n m 32 v g; open′ = g .open′; goes = refl }
-does starts place st r held w (Mov64 n v) a g = record { alike = g .alike; numbers = λ m. noted-alike st r n m 64 v g; open′ = g .open′; goes = refl }
-does starts place st r held w (Alloc n v) a g =
-    record {
-      alike = added-alike n v (orZero (startAt starts (r .requests))) (place (st .live) v) (st .live) (r .live) (a .places) (g .alike);
-      numbers = g .numbers;
-      open′ = g .open′;
-      goes = refl;
-    }
-does starts place st r held w (Dealloc n v) a g =
-    record {
-      alike = subst (λ l. Alike (s.without n (st .live)) l) (sym (dealloc-both place st r held w n v a g .1)) (without-alike n (st .live) (r .live) (g .alike));
-      numbers = g .numbers;
-      open′ = g .open′;
-      goes = refl;
-    }
-does starts place st r held w Relinquish a g = subst (λ p. Follows p (effect place st w Relinquish) r) (sym (g .goes)) (record { alike = g .alike; numbers = g .numbers; open′ = g .open′; goes = g .goes })
-does starts place st r held w (Load x) a g = stays st r g
-does starts place st r held w (Store x) a g = stays st r g
-does starts place st r held w WaitLoad a g = stays st r g
-does starts place st r held w WaitStore a g = stays st r g
-does starts place st r held w FenceBefore a g = stays st r g
-does starts place st r held w FenceAfter a g = stays st r g
-does starts place st r held w (Multiply m) a g = stays st r g
-does starts place st r held w Exit a g = (refl, g .alike)
+    → Accepted place st held w t → Agree st r → Follows (done starts r (actOf t) .phase) (effect place st w t) (done starts r (actOf t))
+unfolding done effect
+does starts place st r held w t a g = at (actOf t) refl
+  where
+    at : (x : Act) → actOf t ≡ x → Follows (done starts r x .phase) (acted place st w x) (done starts r x)
+    at (act.binds n width v) e = record { alike = g .alike; numbers = λ m. noted-alike st r n m width v g; open′ = g .open′; goes = refl }
+    at (act.requests n v) e =
+        let k = request-kept place st held w t a (record { name = n; columns = v }) (ap requestIn e) in
+        record {
+          alike = added-alike n v (orZero (startAt starts (r .requests))) (place (st .live) v) (st .live) (r .live) (k .1) (g .alike);
+          numbers = g .numbers;
+          open′ = g .open′;
+          goes = refl;
+        }
+    at (act.releases n v) e =
+        let k = dealloc-both st r n v (releases-kept place st held w t a n v e) g in
+        record {
+          alike = subst (λ l. Alike (s.without n (st .live)) l) (sym (k .1)) (without-alike n (st .live) (r .live) (g .alike));
+          numbers = g .numbers;
+          open′ = g .open′;
+          goes = refl;
+        }
+    at act.relinquishes e =
+        subst (λ p. Follows p (acted place st w act.relinquishes) r) (sym (g .goes)) (record { alike = g .alike; numbers = g .numbers; open′ = g .open′; goes = g .goes })
+    at (act.accesses x) e = stays st r g
+    at (act.multiplies m) e = stays st r g
+    at act.exits e = (refl, g .alike)
+    at act.nothing e = stays st r g
 
 -- ---- lines
 pub able-line : (starts : List ℕ) (place : Placer) (st : State) (r : Run) (held : ℕ) (x : Line) → held ≡ s.total (st .live) → AllKept (lineRules place st held x) → Agree st r → Sound r
-    → able starts r (turnOf x .statement) ≡ freeFor (r .live) (turnOf x .statement) (startAt starts (r .requests))
+    → able starts r (turnOf x .act) ≡ freeFor (r .live) (turnOf x .act) (startAt starts (r .requests))
 able-line starts place st r held badLayout q h g d = absurd (clash (h .0) refl)
 able-line starts place st r held noForm q h g d = absurd (clash (h .0) refl)
 able-line starts place st r held tooLarge q h g d = absurd (clash (h .0) refl)
 able-line starts place st r held (statement w t) q h g d = able-is starts place st r held w t (ltb-true w 4 (h .0)) q (accepted place st held w t (h .1)) g d
 
 does-line : (starts : List ℕ) (place : Placer) (st : State) (r : Run) (held : ℕ) (x : Line) → AllKept (lineRules place st held x) → Agree st r
-    → Follows (done starts r (turnOf x .statement) .phase) (lineEffect place st x) (done starts r (turnOf x .statement))
+    → Follows (done starts r (turnOf x .act) .phase) (lineEffect place st x) (done starts r (turnOf x .act))
 does-line starts place st r held badLayout h g = absurd (clash (h .0) refl)
 does-line starts place st r held noForm h g = absurd (clash (h .0) refl)
 does-line starts place st r held tooLarge h g = absurd (clash (h .0) refl)
@@ -412,9 +401,9 @@ does-line starts place st r held (statement w t) h g = does starts place st r he
 steps : (starts : List ℕ) (place : Placer) (st : State) (r : Run) (held number : ℕ) (x : Line) (p : Phase) → r .phase ≡ p → AllKept (lineRules place st held x) → Follows p st r
     → Follows (go p starts r number (turnOf x) .phase) (lineEffect place st x) (go p starts r number (turnOf x))
 unfolding go
-steps starts place st r held number x going q h g = at (able starts r (turnOf x .statement))
+steps starts place st r held number x going q h g = at (able starts r (turnOf x .act))
   where
-    at : (t : Bool) → Follows (cond t (done starts r (turnOf x .statement)) (inPhase (stoppedAt number) r) .phase) (lineEffect place st x) (cond t (done starts r (turnOf x .statement)) (inPhase (stoppedAt number) r))
+    at : (t : Bool) → Follows (cond t (done starts r (turnOf x .act)) (inPhase (stoppedAt number) r) .phase) (lineEffect place st x) (cond t (done starts r (turnOf x .act)) (inPhase (stoppedAt number) r))
     at true = does-line starts place st r held x h g
     at false = tt
 steps starts place st r held number x (stoppedAt l) q h g = subst (λ p. Follows p (lineEffect place st x) r) (sym q) tt

@@ -4,17 +4,17 @@ use Prim.Native.Nat.{ℕ, zero, suc, _+_, _≤_, _<_}
 use mathlib.Core.Path.{_≡_, refl, sym, ap, _∙_, subst}
 use mathlib.Core.Bool.{Bool, true, false, not, _&&_, cond}
 use mathlib.Core.List.{List, [], _∷_}
-use mathlib.Core.Option.{Option}
+use mathlib.Core.Option.{Option, none, some, Option·some-injective, Option·none-ne-some}
 use mathlib.Core.Logic.{_⊎_, inl, inr}
 use native.Mathlib.Omega.{arith}
 use lib.Dec.{leb}
 use borrow.Author.Tests.{leb-true, leb-false, le-leb, lt-ltb, eqb-true}
 use Rattle.tokens.specs.Names.{sameName}
-use Rattle.statement.specs.declared.Statement.{Statement}
-use Rattle.statement.specs.declared.Statement.the-variants.{Mov32, Mov64, Alloc, Dealloc, Relinquish, Load, Store, WaitLoad, WaitStore, FenceBefore, FenceAfter, Multiply, Exit}
+use Rattle.statement.specs.Views as act
+use Rattle.statement.specs.Views.{Act, Ask, requestIn, of}
 use Rattle.rules.specs.Sheet.{Sheet, Placing, heldAfter, stateBy, rulesBy}
 use Rattle.rules.specs.Claims.{AllKept}
-use Rattle.rules.proofs.CountingLaws.{and-l, and-r, or-cases, bool, clash}
+use Rattle.laws.proofs.BoolLaws.{and-l, and-r, or-cases, bool, clash}
 use Rattle.rules.proofs.OrderlyProved.{same-name}
 use Rattle.rules.proofs.Figures.{held-total}
 use Rattle.rules.proofs.RulesProved.{Clear, zero-kept}
@@ -80,92 +80,59 @@ finish-exited ended e = absurd (omega (arith, ap number e))
 
 -- ---- one line
 -- a statement that is done does not stop the run
-pub done-goes : (starts : List ℕ) (r : Run) (t : Statement) (l : ℕ) → r .phase ≡ going → done starts r t .phase ≡ stoppedAt l → ⊥
+pub done-goes : (starts : List ℕ) (r : Run) (t : Act) (l : ℕ) → r .phase ≡ going → done starts r t .phase ≡ stoppedAt l → ⊥
 unfolding done
-done-goes starts r (Mov32 n v) l q e = going-stopped l refl e
-done-goes starts r (Mov64 n v) l q e = going-stopped l refl e
-done-goes starts r (Alloc n v) l q e = going-stopped l refl e
-done-goes starts r (Dealloc n v) l q e = going-stopped l refl e
-done-goes starts r Relinquish l q e = going-stopped l q e
-done-goes starts r (Load a) l q e = going-stopped l q e
-done-goes starts r (Store a) l q e = going-stopped l q e
-done-goes starts r WaitLoad l q e = going-stopped l q e
-done-goes starts r WaitStore l q e = going-stopped l q e
-done-goes starts r FenceBefore l q e = going-stopped l q e
-done-goes starts r FenceAfter l q e = going-stopped l q e
-done-goes starts r (Multiply m) l q e = going-stopped l q e
-done-goes starts r Exit l q e = exited-stopped l refl e
+done-goes starts r (act.binds n w v) l q e = going-stopped l refl e
+done-goes starts r (act.requests n v) l q e = going-stopped l refl e
+done-goes starts r (act.releases n v) l q e = going-stopped l refl e
+done-goes starts r act.relinquishes l q e = going-stopped l q e
+done-goes starts r (act.accesses a) l q e = going-stopped l q e
+done-goes starts r (act.multiplies m) l q e = going-stopped l q e
+done-goes starts r act.exits l q e = exited-stopped l refl e
+done-goes starts r act.nothing l q e = going-stopped l q e
 
 module _ (starts : List ℕ) (r : Run) (line : ℕ) (x : Turn) (q : r .phase ≡ going) where
-  by-able : go (r .phase) starts r line x ≡ cond (able starts r (x .statement)) (done starts r (x .statement)) (inPhase (stoppedAt line) r)
+  by-able : go (r .phase) starts r line x ≡ cond (able starts r (x .act)) (done starts r (x .act)) (inPhase (stoppedAt line) r)
   unfolding go
   by-able = ap (λ p. go p starts r line x) q
 
   -- it is done, or the run stops
-  pub go-by : (P : Run → Type 0) → (able starts r (x .statement) ≡ true → P (done starts r (x .statement))) → (able starts r (x .statement) ≡ false → P (inPhase (stoppedAt line) r))
+  pub go-by : (P : Run → Type 0) → (able starts r (x .act) ≡ true → P (done starts r (x .act))) → (able starts r (x .act) ≡ false → P (inPhase (stoppedAt line) r))
       → P (go (r .phase) starts r line x)
-  go-by P f g = subst P (sym by-able) (at (able starts r (x .statement)) refl)
+  go-by P f g = subst P (sym by-able) (at (able starts r (x .act)) refl)
     where
-      at : (t : Bool) → able starts r (x .statement) ≡ t → P (cond t (done starts r (x .statement)) (inPhase (stoppedAt line) r))
+      at : (t : Bool) → able starts r (x .act) ≡ t → P (cond t (done starts r (x .act)) (inPhase (stoppedAt line) r))
       at true e = f e
       at false e = g e
 
-  stop-unable : (l : ℕ) → go (r .phase) starts r line x .phase ≡ stoppedAt l → (able starts r (x .statement) ≡ false) × (l ≡ line)
+  stop-unable : (l : ℕ) → go (r .phase) starts r line x .phase ≡ stoppedAt l → (able starts r (x .act) ≡ false) × (l ≡ line)
   stop-unable l =
-      go-by (λ z. z .phase ≡ stoppedAt l → (able starts r (x .statement) ≡ false) × (l ≡ line))
-      (λ e d. absurd (done-goes starts r (x .statement) l q d))
+      go-by (λ z. z .phase ≡ stoppedAt l → (able starts r (x .act) ≡ false) × (l ≡ line))
+      (λ e d. absurd (done-goes starts r (x .act) l q d))
       (λ e d. (e, same-line l line d refl))
 
-  unable-stop : able starts r (x .statement) ≡ false → go (r .phase) starts r line x .phase ≡ stoppedAt line
+  unable-stop : able starts r (x .act) ≡ false → go (r .phase) starts r line x .phase ≡ stoppedAt line
   unable-stop e = go-by (λ z. z .phase ≡ stoppedAt line) (λ f. absurd (clash f e)) (λ f. refl)
 
 -- ---- requests
-requests-same : (t : Statement) (x y : ℕ) → Requests t x → Requests t y → x ≡ y
-requests-same (Alloc n v) x y a b = a ∙ sym b
-requests-same (Mov32 n v) x y a b = absurd a
-requests-same (Mov64 n v) x y a b = absurd a
-requests-same (Dealloc n v) x y a b = absurd a
-requests-same Relinquish x y a b = absurd a
-requests-same (Load m) x y a b = absurd a
-requests-same (Store m) x y a b = absurd a
-requests-same WaitLoad x y a b = absurd a
-requests-same WaitStore x y a b = absurd a
-requests-same FenceBefore x y a b = absurd a
-requests-same FenceAfter x y a b = absurd a
-requests-same (Multiply m) x y a b = absurd a
-requests-same Exit x y a b = absurd a
+requests-same : (t : Act) (x y : ℕ) → Requests t x → Requests t y → x ≡ y
+requests-same t x y a b = Option·some-injective x y (sym a ∙ b)
 
-pub free-is : (l : List Holding) (t : Statement) (o : Option ℕ) (x : ℕ) → Requests t x → freeFor l t o ≡ mayUse l x o
+pub free-is : (l : List Holding) (t : Act) (o : Option ℕ) (x : ℕ) → Requests t x → freeFor l t o ≡ mayUse l x o
 unfolding freeFor
-free-is l (Alloc n v) o x a = ap (λ y. mayUse l y o) (sym a)
-free-is l (Mov32 n v) o x a = absurd a
-free-is l (Mov64 n v) o x a = absurd a
-free-is l (Dealloc n v) o x a = absurd a
-free-is l Relinquish o x a = absurd a
-free-is l (Load m) o x a = absurd a
-free-is l (Store m) o x a = absurd a
-free-is l WaitLoad o x a = absurd a
-free-is l WaitStore o x a = absurd a
-free-is l FenceBefore o x a = absurd a
-free-is l FenceAfter o x a = absurd a
-free-is l (Multiply m) o x a = absurd a
-free-is l Exit o x a = absurd a
+free-is l t o x a = at (requestIn t) a
+  where
+    at : (q : Option Ask) → of q (λ r. some (r .columns)) none ≡ some x → of q (λ r. mayUse l (r .columns) o) true ≡ mayUse l x o
+    at none e = absurd (Option·none-ne-some x e)
+    at (some r) e = ap (λ y. mayUse l y o) (Option·some-injective (r .columns) x e)
 
-free-asks : (l : List Holding) (t : Statement) (o : Option ℕ) → freeFor l t o ≡ false → (x : ℕ) × (Requests t x × (mayUse l x o ≡ false))
+free-asks : (l : List Holding) (t : Act) (o : Option ℕ) → freeFor l t o ≡ false → (x : ℕ) × (Requests t x × (mayUse l x o ≡ false))
 unfolding freeFor
-free-asks l (Alloc n v) o e = (v, (refl, e))
-free-asks l (Mov32 n v) o e = absurd (clash refl e)
-free-asks l (Mov64 n v) o e = absurd (clash refl e)
-free-asks l (Dealloc n v) o e = absurd (clash refl e)
-free-asks l Relinquish o e = absurd (clash refl e)
-free-asks l (Load m) o e = absurd (clash refl e)
-free-asks l (Store m) o e = absurd (clash refl e)
-free-asks l WaitLoad o e = absurd (clash refl e)
-free-asks l WaitStore o e = absurd (clash refl e)
-free-asks l FenceBefore o e = absurd (clash refl e)
-free-asks l FenceAfter o e = absurd (clash refl e)
-free-asks l (Multiply m) o e = absurd (clash refl e)
-free-asks l Exit o e = absurd (clash refl e)
+free-asks l t o e = at (requestIn t) e
+  where
+    at : (q : Option Ask) → of q (λ r. mayUse l (r .columns) o) true ≡ false → (x : ℕ) × ((of q (λ r. some (r .columns)) none ≡ some x) × (mayUse l x o ≡ false))
+    at none e = absurd (clash refl e)
+    at (some r) e = (r .columns, (refl, e))
 
 -- ---- accesses
 found : (p : Holding → Bool) (l : List Holding) → has p l ≡ true → (h : Holding) × Among h l × (p h ≡ true)
@@ -200,41 +167,31 @@ unfolding allLie
 all-inside [] l e = tt
 all-inside (a ∷ xs) l e = (inside a l (and-l (has (lies a) l) (allLie xs l) e), all-inside xs l (and-r (has (lies a) l) (allLie xs l) e))
 
-able-inside : (starts : List ℕ) (r : Run) (t : Statement) → able starts r t ≡ true → (known (r .notes) t ≡ true) × AllInside (bookedBy (r .notes) t) (r .live)
+able-inside : (starts : List ℕ) (r : Run) (t : Act) → able starts r t ≡ true → (known (r .notes) t ≡ true) × AllInside (bookedBy (r .notes) t) (r .live)
 unfolding able bookedBy known
-able-inside starts r (Mov32 n v) e = (refl, tt)
-able-inside starts r (Mov64 n v) e = (refl, tt)
-able-inside starts r (Alloc n v) e = (refl, tt)
-able-inside starts r (Dealloc n v) e = (refl, tt)
-able-inside starts r Relinquish e = (refl, tt)
-able-inside starts r (Load a) e = (refl, all-inside (bookedBy (r .notes) (Load a)) (r .live) e)
-able-inside starts r (Store a) e = (refl, all-inside (bookedBy (r .notes) (Store a)) (r .live) e)
-able-inside starts r WaitLoad e = (refl, tt)
-able-inside starts r WaitStore e = (refl, tt)
-able-inside starts r FenceBefore e = (refl, tt)
-able-inside starts r FenceAfter e = (refl, tt)
-able-inside starts r (Multiply m) e =
-    let k = known (r .notes) (Multiply m) in
-    let b = bookedBy (r .notes) (Multiply m) in
+able-inside starts r (act.binds n w v) e = (refl, tt)
+able-inside starts r (act.requests n v) e = (refl, tt)
+able-inside starts r (act.releases n v) e = (refl, tt)
+able-inside starts r act.relinquishes e = (refl, tt)
+able-inside starts r (act.accesses a) e = (refl, all-inside (bookedBy (r .notes) (act.accesses a)) (r .live) e)
+able-inside starts r (act.multiplies m) e =
+    let k = known (r .notes) (act.multiplies m) in
+    let b = bookedBy (r .notes) (act.multiplies m) in
     (and-l k (allLie b (r .live)) e, all-inside b (r .live) (and-r k (allLie b (r .live)) e))
-able-inside starts r Exit e = (refl, tt)
+able-inside starts r act.exits e = (refl, tt)
+able-inside starts r act.nothing e = (refl, tt)
 
 -- ---- the exit
-exit-empty : (starts : List ℕ) (r : Run) (t : Statement) → r .phase ≡ going → able starts r t ≡ true → done starts r t .phase ≡ exited → heldColumns (done starts r t .live) ≡ 0
+exit-empty : (starts : List ℕ) (r : Run) (t : Act) → r .phase ≡ going → able starts r t ≡ true → done starts r t .phase ≡ exited → heldColumns (done starts r t .live) ≡ 0
 unfolding able done
-exit-empty starts r (Mov32 n v) q e f = absurd (going-exited refl f)
-exit-empty starts r (Mov64 n v) q e f = absurd (going-exited refl f)
-exit-empty starts r (Alloc n v) q e f = absurd (going-exited refl f)
-exit-empty starts r (Dealloc n v) q e f = absurd (going-exited refl f)
-exit-empty starts r Relinquish q e f = absurd (going-exited q f)
-exit-empty starts r (Load a) q e f = absurd (going-exited q f)
-exit-empty starts r (Store a) q e f = absurd (going-exited q f)
-exit-empty starts r WaitLoad q e f = absurd (going-exited q f)
-exit-empty starts r WaitStore q e f = absurd (going-exited q f)
-exit-empty starts r FenceBefore q e f = absurd (going-exited q f)
-exit-empty starts r FenceAfter q e f = absurd (going-exited q f)
-exit-empty starts r (Multiply m) q e f = absurd (going-exited q f)
-exit-empty starts r Exit q e f = eqb-true (heldColumns (r .live)) 0 e
+exit-empty starts r (act.binds n w v) q e f = absurd (going-exited refl f)
+exit-empty starts r (act.requests n v) q e f = absurd (going-exited refl f)
+exit-empty starts r (act.releases n v) q e f = absurd (going-exited refl f)
+exit-empty starts r act.relinquishes q e f = absurd (going-exited q f)
+exit-empty starts r (act.accesses a) q e f = absurd (going-exited q f)
+exit-empty starts r (act.multiplies m) q e f = absurd (going-exited q f)
+exit-empty starts r act.exits q e f = eqb-true (heldColumns (r .live)) 0 e
+exit-empty starts r act.nothing q e f = absurd (going-exited q f)
 
 -- ---- many lines
 module _ (starts : List ℕ) (turns : ℕ → Turn) where
@@ -270,7 +227,7 @@ module _ (starts : List ℕ) (turns : ℕ → Turn) where
     turn : ℕ
     before : turn < n
     reached : now turn .phase ≡ going
-    unable : able starts (now turn) (turns turn .statement) ≡ false
+    unable : able starts (now turn) (turns turn .act) ≡ false
     line : l ≡ turn + 2
 
   first-going : now 0 .phase ≡ going
@@ -308,7 +265,7 @@ module _ (starts : List ℕ) (turns : ℕ → Turn) where
       at (goes q) ih =
           subst (λ (z : Run). z .phase ≡ exited → heldColumns (z .live) ≡ 0) (sym (next m))
           (go-by starts (now m) (m + 2) (turns m) q (λ z. z .phase ≡ exited → heldColumns (z .live) ≡ 0)
-          (λ f d. exit-empty starts (now m) (turns m .statement) q f d)
+          (λ f d. exit-empty starts (now m) (turns m .act) q f d)
           (λ f d. absurd (exited-stopped (m + 2) d refl))) e
       at (stopped j q) ih = same (stays-stopped m j q) ih
       at (out q) ih = same (stays-exited m q) ih
@@ -330,7 +287,7 @@ module _ (placing : Placing) (sheet : Sheet) (c : Clear placing sheet) (starts :
 
   -- at a line that is reached
   pub able-at : (k : ℕ) → Reached sheet starts k
-      → able starts (our k) (turnsOf sheet k .statement) ≡ freeFor (our k .live) (turnsOf sheet k .statement) (startAt starts (our k .requests))
+      → able starts (our k) (turnsOf sheet k .act) ≡ freeFor (our k .live) (turnsOf sheet k .act) (startAt starts (our k .requests))
   able-at k h =
       able-line starts (placing k) (stateBy placing (sheet .line) k) (our k) (heldAfter (sheet .line) k) (sheet .line k)
       (held-total placing (sheet .line) k (λ j p. kept j (omega (arith, h .0, p)))) (kept k (h .0))
@@ -341,13 +298,13 @@ module _ (placing : Placing) (sheet : Sheet) (c : Clear placing sheet) (starts :
       let h : Reached sheet starts k = f .asks .0 in
       ap (λ (z : Run). z .phase) (next starts (turnsOf sheet) k)
       ∙ unable-stop starts (our k) (k + 2) (turnsOf sheet k) (h .1)
-      (able-at k h ∙ free-is (our k .live) (turnsOf sheet k .statement) (startAt starts (our k .requests)) (f .columns) (f .asks .1) ∙ f .unmet)
+      (able-at k h ∙ free-is (our k .live) (turnsOf sheet k .act) (startAt starts (our k .requests)) (f .columns) (f .asks .1) ∙ f .unmet)
 
   stop-fails : (l : ℕ) → our (sheet .count) .phase ≡ stoppedAt l → (k : ℕ) × (Fails sheet starts k × (l ≡ k + 2))
   stop-fails l e =
       let s = stop-of starts (turnsOf sheet) l (sheet .count) e in
       let h : Reached sheet starts (s .turn) = (s .before, s .reached) in
-      let a = free-asks (our (s .turn) .live) (turnsOf sheet (s .turn) .statement) (startAt starts (our (s .turn) .requests)) (sym (able-at (s .turn) h) ∙ s .unable) in
+      let a = free-asks (our (s .turn) .live) (turnsOf sheet (s .turn) .act) (startAt starts (our (s .turn) .requests)) (sym (able-at (s .turn) h) ∙ s .unable) in
       (s .turn, (record { columns = a .0; asks = (h, a .1 .0); unmet = a .1 .1 }, s .line))
 
   abbrev last : Run
@@ -383,7 +340,7 @@ module _ (placing : Placing) (sheet : Sheet) (c : Clear placing sheet) (starts :
         otherwise = λ n. otherwise n (ends (phase (last .phase)));
         full = λ w k x s a e. full w k x s a e (bool (usable (our k .live) x s));
         apart = λ k. sound starts (turnsOf sheet) k .apart;
-        inside = λ k h n. fallen k h n (bool (able starts (our k) (turnsOf sheet k .statement)));
+        inside = λ k h n. fallen k h n (bool (able starts (our k) (turnsOf sheet k .act)));
         counted = λ k. sums starts (turnsOf sheet) k;
         nothing = λ e. exited-empty starts (turnsOf sheet) (sheet .count) (from-exit e);
       }
@@ -398,11 +355,11 @@ module _ (placing : Placing) (sheet : Sheet) (c : Clear placing sheet) (starts :
           let f = stop-fails (k + 2) (from-stop (k + 2) e) in
           let same : f .0 ≡ k = omega (arith, f .1 .1) in
           let g : Fails sheet starts k = subst (λ j. Fails sheet starts j) same (f .1 .0) in
-          let eq : g .columns ≡ x = requests-same (turnsOf sheet k .statement) (g .columns) x (g .asks .1) (a .1) in
+          let eq : g .columns ≡ x = requests-same (turnsOf sheet k .act) (g .columns) x (g .asks .1) (a .1) in
           absurd (clash (w k x s a u) (subst (λ y. mayUse (our k .live) y (startAt starts (our k .requests)) ≡ false) eq (g .unmet)))
       full w k x s a e (inr u) = u
 
       fallen : (k : ℕ) → Reached sheet starts k → (our (suc k) .phase ≡ stoppedAt (k + 2) → ⊥)
-          → (able starts (our k) (turnsOf sheet k .statement) ≡ true) ⊎ (able starts (our k) (turnsOf sheet k .statement) ≡ false) → Fallen sheet starts k
-      fallen k h n (inl e) = let i = able-inside starts (our k) (turnsOf sheet k .statement) e in record { number = i .0; inside = i .1 }
+          → (able starts (our k) (turnsOf sheet k .act) ≡ true) ⊎ (able starts (our k) (turnsOf sheet k .act) ≡ false) → Fallen sheet starts k
+      fallen k h n (inl e) = let i = able-inside starts (our k) (turnsOf sheet k .act) e in record { number = i .0; inside = i .1 }
       fallen k h n (inr e) = absurd (n (ap (λ (z : Run). z .phase) (next starts (turnsOf sheet) k) ∙ unable-stop starts (our k) (k + 2) (turnsOf sheet k) (h .1) e))

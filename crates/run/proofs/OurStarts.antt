@@ -4,7 +4,7 @@ use Prim.Native.Nat.{ℕ, zero, suc, _+_, _*_, _/_, _%_, _≤_, _<_}
 use mathlib.Core.Path.{_≡_, refl, sym, ap, _∙_, subst}
 use mathlib.Core.Bool.{Bool, true, false, not, _&&_, _||_, cond}
 use mathlib.Core.List.{List, [], _∷_, _++_, append-assoc, append-nil}
-use mathlib.Core.Option.{Option, none, some}
+use mathlib.Core.Option.{Option, none, some, Option·some-injective, Option·none-ne-some}
 use mathlib.Core.Logic.{_⊎_}
 use native.Mathlib.Omega.{arith}
 use lib.Count.{ones}
@@ -18,20 +18,22 @@ use Rattle.tokens.specs.declared.Name.{Name}
 use Rattle.tokens.specs.Names.{sameName}
 use Rattle.request.specs.Request.{legal}
 use Rattle.statement.specs.declared.Statement.{Statement}
-use Rattle.statement.specs.declared.Statement.the-variants.{Mov32, Mov64, Alloc, Dealloc, Relinquish, Load, Store, WaitLoad, WaitStore, FenceBefore, FenceAfter, Multiply, Exit}
+use Rattle.statement.specs.Views as act
+use Rattle.statement.specs.Views.{Ask, Act, actOf, requestOf, requestIn, of}
 use Rattle.rules.specs.Counting.{every, least}
 use Rattle.rules.specs.State as s
 use Rattle.rules.specs.State.{State, Allocation, covers, isFree, freeFrom, slot, lowest}
 use Rattle.rules.specs.Reasons as reasons
-use Rattle.rules.specs.Sheet.{Line, badLayout, noForm, tooLarge, statement, Sheet, ours, lineRules, lineEffect, added, effect, given, startList, stateBy, startsBy, rulesBy, heldAfter, peakUpTo, answerBy, startsOf, placesAfter}
+use Rattle.rules.specs.Sheet.{Line, badLayout, noForm, tooLarge, statement, Sheet, ours, lineRules, lineEffect, added, acted, effect, given, startList, stateBy, startsBy, rulesBy, heldAfter, peakUpTo, answerBy, startsOf, placesAfter}
 use Rattle.rules.specs.Claims.{AllKept}
-use Rattle.rules.proofs.CountingLaws.{and-l, and-r, bool, clash, every-at, every-all, least-hit, least-below}
-use Rattle.rules.proofs.RuleLaws.{Accepted, accepted}
+use Rattle.laws.proofs.BoolLaws.{and-l, and-r, bool, clash}
+use Rattle.rules.proofs.CountingLaws.{every-at, every-all, least-hit, least-below}
+use Rattle.rules.proofs.RuleLaws.{Accepted, accepted, request-kept, releases-kept}
 use Rattle.rules.proofs.Figures.{held-total}
 use Rattle.rules.proofs.RulesProved.{Clear, zero-kept, no-more, passed-figures}
 use Rattle.rules.proofs.FiguresProved.{figures-exact}
 use Rattle.run.specs.Run.{Holding, Run, Phase, going, stoppedAt, exited, ended, within, held, heldColumns, usable, startAt, mayUse, has, hasName, without, orZero, able, done, go, after, peakOf}
-use Rattle.run.specs.Demand3.{turnOf, turnsOf, Requests, Asks, Placed}
+use Rattle.run.specs.Demand3.{turnOf, turnsOf, Requests, Asks, Placed, Reached}
 use Rattle.run.proofs.Sound.{sound, counted, usable-at}
 use Rattle.run.proofs.Agree.{Alike, Agree, Follows, freeFor, total-alike, dealloc-both}
 use Rattle.run.proofs.AnyStarts.{Is, goes, stopped, out, over, phase, done-goes, go-by, beside, agrees, able-at, any-starts}
@@ -158,19 +160,7 @@ module _ (line : ℕ → Line) where
 
 -- the start that a list has for a request is the one that the placing gives
 abbrev Given : List ℕ → ℕ → State → Statement → Type 0
-Given starts q st (Mov32 n v) = Unit {0}
-Given starts q st (Mov64 n v) = Unit {0}
-Given starts q st (Alloc n v) = startAt starts q ≡ lowest (st .live) v
-Given starts q st (Dealloc n v) = Unit {0}
-Given starts q st Relinquish = Unit {0}
-Given starts q st (Load a) = Unit {0}
-Given starts q st (Store a) = Unit {0}
-Given starts q st WaitLoad = Unit {0}
-Given starts q st WaitStore = Unit {0}
-Given starts q st FenceBefore = Unit {0}
-Given starts q st FenceAfter = Unit {0}
-Given starts q st (Multiply m) = Unit {0}
-Given starts q st Exit = Unit {0}
+Given starts q st t = (r : Ask) → requestOf t ≡ some r → startAt starts q ≡ lowest (st .live) (r .columns)
 
 given-start : (starts l rest : List ℕ) (o : Option ℕ) → isSome o ≡ true → starts ≡ (l ++ startList o) ++ rest → startAt starts (length l) ≡ o
 given-start starts l rest none e f = absurd (clash e refl)
@@ -178,66 +168,51 @@ given-start starts l rest (some x) e f = ap (λ z. startAt z (length l)) f ∙ s
 
 given-by : (starts l rest : List ℕ) (st : State) (held w : ℕ) (t : Statement) → Accepted lowest st held w t
     → starts ≡ (l ++ given lowest st (statement w t)) ++ rest → Given starts (length l) st t
-unfolding given reasons.placed
-given-by starts l rest st held w (Mov32 n v) a e = tt
-given-by starts l rest st held w (Mov64 n v) a e = tt
-given-by starts l rest st held w (Alloc n v) a e = given-start starts l rest (lowest (st .live) v) (a .places) e
-given-by starts l rest st held w (Dealloc n v) a e = tt
-given-by starts l rest st held w Relinquish a e = tt
-given-by starts l rest st held w (Load m) a e = tt
-given-by starts l rest st held w (Store m) a e = tt
-given-by starts l rest st held w WaitLoad a e = tt
-given-by starts l rest st held w WaitStore a e = tt
-given-by starts l rest st held w FenceBefore a e = tt
-given-by starts l rest st held w FenceAfter a e = tt
-given-by starts l rest st held w (Multiply m) a e = tt
-given-by starts l rest st held w Exit a e = tt
+unfolding given
+given-by starts l rest st held w t a e r f =
+    given-start starts l rest (lowest (st .live) (r .columns)) (request-kept lowest st held w t a r f .1)
+    (e ∙ ap (λ q. (l ++ of q (λ x. startList (lowest (st .live) (x .columns))) []) ++ rest) f)
 
 -- ---- one line of our run
 own-free : (starts : List ℕ) (st : State) (r : Run) (held w : ℕ) (t : Statement) → Accepted lowest st held w t → Same (st .live) (r .live) → Given starts (r .requests) st t
-    → freeFor (r .live) t (startAt starts (r .requests)) ≡ true
-unfolding freeFor reasons.placed
-own-free starts st r held w (Mov32 n v) a e g = refl
-own-free starts st r held w (Mov64 n v) a e g = refl
-own-free starts st r held w (Alloc n v) a e g = ap (λ o. mayUse (r .live) v o) g ∙ lowest-may (st .live) (r .live) v e (a .places)
-own-free starts st r held w (Dealloc n v) a e g = refl
-own-free starts st r held w Relinquish a e g = refl
-own-free starts st r held w (Load m) a e g = refl
-own-free starts st r held w (Store m) a e g = refl
-own-free starts st r held w WaitLoad a e g = refl
-own-free starts st r held w WaitStore a e g = refl
-own-free starts st r held w FenceBefore a e g = refl
-own-free starts st r held w FenceAfter a e g = refl
-own-free starts st r held w (Multiply m) a e g = refl
-own-free starts st r held w Exit a e g = refl
+    → freeFor (r .live) (actOf t) (startAt starts (r .requests)) ≡ true
+unfolding freeFor
+own-free starts st r held w t a e g = at (requestOf t) refl
+  where
+    at : (q : Option Ask) → requestOf t ≡ q → of q (λ x. mayUse (r .live) (x .columns) (startAt starts (r .requests))) true ≡ true
+    at none f = refl
+    at (some x) f =
+        ap (λ o. mayUse (r .live) (x .columns) o) (g x f)
+        ∙ lowest-may (st .live) (r .live) (x .columns) e (request-kept lowest st held w t a x f .1)
 
 one-start : (o : Option ℕ) → isSome o ≡ true → length (startList o) ≡ 1
 one-start none e = absurd (clash e refl)
 one-start (some x) e = refl
 
 own-done : (starts : List ℕ) (st : State) (r : Run) (held w : ℕ) (t : Statement) → Accepted lowest st held w t → Agree st r → Same (st .live) (r .live) → Given starts (r .requests) st t
-    → Same (effect lowest st w t .live) (done starts r t .live) × (done starts r t .requests ≡ r .requests + length (given lowest st (statement w t)))
-unfolding done effect given reasons.placed
-own-done starts st r held w (Mov32 n v) a m e g = (e, omega arith)
-own-done starts st r held w (Mov64 n v) a m e g = (e, omega arith)
-own-done starts st r held w (Alloc n v) a m e g = (
-  subst (λ o. Same (added n v (lowest (st .live) v) (st .live)) (record { name = n; start = orZero o; length = v } ∷ r .live)) (sym g)
-      (same-added n v (lowest (st .live) v) (st .live) (r .live) (a .places) e),
-  omega (arith, one-start (lowest (st .live) v) (a .places)),
-)
-own-done starts st r held w (Dealloc n v) a m e g = (
-  subst (λ l. Same (s.without n (st .live)) l) (sym (dealloc-both lowest st r held w n v a m .1)) (same-without n (st .live) (r .live) e),
-  omega arith,
-)
-own-done starts st r held w Relinquish a m e g = (e, omega arith)
-own-done starts st r held w (Load x) a m e g = (e, omega arith)
-own-done starts st r held w (Store x) a m e g = (e, omega arith)
-own-done starts st r held w WaitLoad a m e g = (e, omega arith)
-own-done starts st r held w WaitStore a m e g = (e, omega arith)
-own-done starts st r held w FenceBefore a m e g = (e, omega arith)
-own-done starts st r held w FenceAfter a m e g = (e, omega arith)
-own-done starts st r held w (Multiply x) a m e g = (e, omega arith)
-own-done starts st r held w Exit a m e g = (e, omega arith)
+    → Same (effect lowest st w t .live) (done starts r (actOf t) .live) × (done starts r (actOf t) .requests ≡ r .requests + length (given lowest st (statement w t)))
+unfolding done effect given
+own-done starts st r held w t a m e g = at (actOf t) refl
+  where
+    at : (x : Act) → actOf t ≡ x
+        → Same (acted lowest st w x .live) (done starts r x .live) × (done starts r x .requests ≡ r .requests + length (of (requestIn x) (λ y. startList (lowest (st .live) (y .columns))) []))
+    at (act.binds n width v) f = (e, omega arith)
+    at (act.requests n v) f =
+        let q : Ask = record { name = n; columns = v } in
+        let k = request-kept lowest st held w t a q (ap requestIn f) .1 in (
+          subst (λ o. Same (added n v (lowest (st .live) v) (st .live)) (record { name = n; start = orZero o; length = v } ∷ r .live)) (sym (g q (ap requestIn f)))
+              (same-added n v (lowest (st .live) v) (st .live) (r .live) k e),
+          omega (arith, one-start (lowest (st .live) v) k),
+        )
+    at (act.releases n v) f = (
+      subst (λ l. Same (s.without n (st .live)) l) (sym (dealloc-both st r n v (releases-kept lowest st held w t a n v f) m .1)) (same-without n (st .live) (r .live) e),
+      omega arith,
+    )
+    at act.relinquishes f = (e, omega arith)
+    at (act.accesses x) f = (e, omega arith)
+    at (act.multiplies x) f = (e, omega arith)
+    at act.exits f = (e, omega arith)
+    at act.nothing f = (e, omega arith)
 
 -- what holds of our run in each phase
 abbrev Own : Phase → State → Run → ℕ → Type 0
@@ -260,7 +235,7 @@ own-same ended st r q o = o
 
 own-step : (starts l rest : List ℕ) (st : State) (r : Run) (held number : ℕ) (x : Line)
     → AllKept (lineRules lowest st held x) → r .phase ≡ going → Agree st r
-    → able starts r (turnOf x .statement) ≡ freeFor (r .live) (turnOf x .statement) (startAt starts (r .requests))
+    → able starts r (turnOf x .act) ≡ freeFor (r .live) (turnOf x .act) (startAt starts (r .requests))
     → Same (st .live) (r .live) → r .requests ≡ length l → starts ≡ (l ++ given lowest st x) ++ rest
     → Own (go (r .phase) starts r number (turnOf x) .phase) (lineEffect lowest st x) (go (r .phase) starts r number (turnOf x)) (length (l ++ given lowest st x))
 own-step starts l rest st r held number badLayout h q m b e f g = absurd (clash (h .0) refl)
@@ -271,58 +246,39 @@ own-step starts l rest st r held number (statement w t) h q m b e f g =
     let u : Given starts (r .requests) st t = subst (λ j. Given starts j st t) (sym f) (given-by starts l rest st held w t a g) in
     let o = own-done starts st r held w t a m e u in
     go-by starts r number (turnOf (statement w t)) q (λ z. Own (z .phase) (effect lowest st w t) z (length (l ++ given lowest st (statement w t))))
-    (λ d. own-phase (done starts r t .phase) (effect lowest st w t) (done starts r t) (length (l ++ given lowest st (statement w t))) (λ j. done-goes starts r t j q) (o .0)
+    (λ d. own-phase (done starts r (actOf t) .phase) (effect lowest st w t) (done starts r (actOf t)) (length (l ++ given lowest st (statement w t))) (λ j. done-goes starts r (actOf t) j q) (o .0)
     (o .1 ∙ omega (arith, f, length-append l (given lowest st (statement w t)))))
     (λ d. absurd (clash (b ∙ own-free starts st r held w t a e u) d))
 
 legal-least : (x : ℕ) → legal x ≡ true → 32 ≤ x
 legal-least x e = leb-true 32 x (each (leb 32 x ∷ leb x 512 ∷ eqb (ones x) 1 ∷ []) e .0)
 
+-- the request of a line, by the columns that it asks for
+request-of : (t : Statement) (v : ℕ) → Requests (actOf t) v → (r : Ask) × ((requestOf t ≡ some r) × (r .columns ≡ v))
+request-of t v e = at (requestOf t) refl e
+  where
+    at : (q : Option Ask) → requestOf t ≡ q → of q (λ r. some (r .columns)) none ≡ some v → (r : Ask) × ((requestOf t ≡ some r) × (r .columns ≡ v))
+    at none f e = absurd (Option·none-ne-some v e)
+    at (some r) f e = (r, (f, Option·some-injective (r .columns) v e))
+
 -- a request that is accepted asks for some columns, and the placing has a start for it
-asked : (st : State) (held w : ℕ) (t : Statement) (x : ℕ) → Accepted lowest st held w t → Requests t x → (0 < x) × (isSome (lowest (st .live) x) ≡ true)
-unfolding reasons.sized reasons.placed
-asked st held w (Alloc n v) x a e = subst (λ y. (0 < y) × (isSome (lowest (st .live) y) ≡ true)) (sym e) (omega (arith, legal-least v (a .sizes)), a .places)
-asked st held w (Mov32 n v) x a e = absurd e
-asked st held w (Mov64 n v) x a e = absurd e
-asked st held w (Dealloc n v) x a e = absurd e
-asked st held w Relinquish x a e = absurd e
-asked st held w (Load m) x a e = absurd e
-asked st held w (Store m) x a e = absurd e
-asked st held w WaitLoad x a e = absurd e
-asked st held w WaitStore x a e = absurd e
-asked st held w FenceBefore x a e = absurd e
-asked st held w FenceAfter x a e = absurd e
-asked st held w (Multiply m) x a e = absurd e
-asked st held w Exit x a e = absurd e
+asked-line : (st : State) (held : ℕ) (x : Line) (v : ℕ) → AllKept (lineRules lowest st held x) → Requests (turnOf x .act) v → (0 < v) × (isSome (lowest (st .live) v) ≡ true)
+asked-line st held badLayout v h e = absurd (Option·none-ne-some v e)
+asked-line st held noForm v h e = absurd (Option·none-ne-some v e)
+asked-line st held tooLarge v h e = absurd (Option·none-ne-some v e)
+asked-line st held (statement w t) v h e =
+    let q = request-of t v e in
+    let k = request-kept lowest st held w t (accepted lowest st held w t (h .1)) (q .0) (q .1 .0) in
+    subst (λ y. (0 < y) × (isSome (lowest (st .live) y) ≡ true)) (q .1 .1) (omega (arith, legal-least (q .0 .columns) (k .0)), k .1)
 
-asked-line : (st : State) (held : ℕ) (x : Line) (v : ℕ) → AllKept (lineRules lowest st held x) → Requests (turnOf x .statement) v → (0 < v) × (isSome (lowest (st .live) v) ≡ true)
-asked-line st held badLayout v h e = absurd e
-asked-line st held noForm v h e = absurd e
-asked-line st held tooLarge v h e = absurd e
-asked-line st held (statement w t) v h e = asked st held w t v (accepted lowest st held w t (h .1)) e
-
-given-request : (starts l rest : List ℕ) (st : State) (held w : ℕ) (t : Statement) (v : ℕ) → Accepted lowest st held w t → Requests t v
-    → starts ≡ (l ++ given lowest st (statement w t)) ++ rest → startAt starts (length l) ≡ lowest (st .live) v
-given-request starts l rest st held w (Alloc n v) x a e g = given-by starts l rest st held w (Alloc n v) a g ∙ ap (λ y. lowest (st .live) y) (sym e)
-given-request starts l rest st held w (Mov32 n v) x a e g = absurd e
-given-request starts l rest st held w (Mov64 n v) x a e g = absurd e
-given-request starts l rest st held w (Dealloc n v) x a e g = absurd e
-given-request starts l rest st held w Relinquish x a e g = absurd e
-given-request starts l rest st held w (Load m) x a e g = absurd e
-given-request starts l rest st held w (Store m) x a e g = absurd e
-given-request starts l rest st held w WaitLoad x a e g = absurd e
-given-request starts l rest st held w WaitStore x a e g = absurd e
-given-request starts l rest st held w FenceBefore x a e g = absurd e
-given-request starts l rest st held w FenceAfter x a e g = absurd e
-given-request starts l rest st held w (Multiply m) x a e g = absurd e
-given-request starts l rest st held w Exit x a e g = absurd e
-
-given-line : (starts l rest : List ℕ) (st : State) (held : ℕ) (x : Line) (v : ℕ) → AllKept (lineRules lowest st held x) → Requests (turnOf x .statement) v
+given-line : (starts l rest : List ℕ) (st : State) (held : ℕ) (x : Line) (v : ℕ) → AllKept (lineRules lowest st held x) → Requests (turnOf x .act) v
     → starts ≡ (l ++ given lowest st x) ++ rest → startAt starts (length l) ≡ lowest (st .live) v
-given-line starts l rest st held badLayout v h e g = absurd e
-given-line starts l rest st held noForm v h e g = absurd e
-given-line starts l rest st held tooLarge v h e g = absurd e
-given-line starts l rest st held (statement w t) v h e g = given-request starts l rest st held w t v (accepted lowest st held w t (h .1)) e g
+given-line starts l rest st held badLayout v h e g = absurd (Option·none-ne-some v e)
+given-line starts l rest st held noForm v h e g = absurd (Option·none-ne-some v e)
+given-line starts l rest st held tooLarge v h e g = absurd (Option·none-ne-some v e)
+given-line starts l rest st held (statement w t) v h e g =
+    let q = request-of t v e in
+    given-by starts l rest st held w t (accepted lowest st held w t (h .1)) g (q .0) (q .1 .0) ∙ ap (λ y. lowest (st .live) y) (q .1 .1)
 
 -- ---- our run of a passed sheet
 module _ (sheet : Sheet) (c : Clear ours sheet) where
@@ -345,6 +301,12 @@ module _ (sheet : Sheet) (c : Clear ours sheet) where
   unfolding startsBy
   parts k h = grows (sheet .line) (sheet .count) (suc k) h
 
+  -- no line follows an exit
+  left : (k : ℕ) → k < sheet .count → our k .phase ≡ exited → ⊥
+  left k h q =
+      let f : Follows exited (state k) (our k) = subst (λ p. Follows p (state k) (our k)) q (beside ours sheet c list k (omega (arith, h))) in
+      no-more lowest (state k) (heldAfter (sheet .line) k) (sheet .line k) (kept k h) (f .0)
+
   own : (k : ℕ) → k ≤ sheet .count → Own (our k .phase) (state k) (our k) (length (upTo k))
   unfolding after stateBy startsBy
   own zero h = (tt, refl)
@@ -358,9 +320,7 @@ module _ (sheet : Sheet) (c : Clear ours sheet) where
           own-step list (upTo k) (p .0) (state k) (our k) (heldAfter (sheet .line) k) (k + 2) (sheet .line k) (kept k (omega (arith, h))) q (agrees ours sheet c list k (omega (arith, h)) q)
           (able-at ours sheet c list k ((omega (arith, h)), q)) (e .0) (e .1) (p .1)
       at (stopped l q) o = absurd (subst (λ p. Own p (state k) (our k) (length (upTo k))) q o)
-      at (out q) o =
-          let f : Follows exited (state k) (our k) = subst (λ p. Follows p (state k) (our k)) q (beside ours sheet c list k (omega (arith, h))) in
-          absurd (no-more lowest (state k) (heldAfter (sheet .line) k) (sheet .line k) (kept k (omega (arith, h))) (f .0))
+      at (out q) o = absurd (left k (omega (arith, h)) q)
       at (over q) o = absurd (subst (λ p. Follows p (state k) (our k)) q (beside ours sheet c list k (omega (arith, h))))
 
   same-at : (k : ℕ) → k ≤ sheet .count → Same (state k .live) (our k .live) × (our k .requests ≡ length (upTo k))
@@ -403,10 +363,21 @@ module _ (sheet : Sheet) (c : Clear ours sheet) where
       ∙ sets-eq list old 0 (omega (arith, figures-exact ours sheet (length old) .roomy e))
       ∙ ap (λ k. list ++ drop k old) (let z : 0 + length list ≡ length list = omega arith in z)
 
+  -- the run comes to every line: it stops nowhere, and what follows an exit breaks a rule
+  reached : (k : ℕ) → k < sheet .count → Reached sheet list k
+  reached k h = (h, at (phase (our k .phase)))
+    where
+      at : Is (our k .phase) → our k .phase ≡ going
+      at (goes q) = q
+      at (stopped l q) = absurd (subst (λ p. Own p (state k) (our k) (length (upTo k))) q (own k (omega (arith, h))))
+      at (out q) = absurd (left k h q)
+      at (over q) = absurd (subst (λ p. Follows p (state k) (our k)) q (beside ours sheet c list k (omega (arith, h))))
+
   pub our-starts : Placed sheet list
   our-starts =
       record {
         meets = meets;
+        reached = reached;
         exits = any-starts ours sheet c list .otherwise (λ k f. clash (meets k (f .columns) (f .asks)) (f .unmet));
         lowest = least-start;
         all = sym (same-at (sheet .count) (omega arith) .1);

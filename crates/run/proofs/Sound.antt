@@ -8,13 +8,14 @@ use mathlib.Core.Option.{Option, none, some}
 use mathlib.Core.Logic.{_⊎_, inl, inr}
 use native.Mathlib.Omega.{arith}
 use lib.Dec.{leb, ltb, eqb}
-use borrow.Author.Tests.{ltb-true, leb-true, eqb-true}
+use borrow.Author.Tests.{not-true, ltb-true, leb-true, eqb-true}
 use Rattle.tokens.specs.declared.Name.{Name}
 use Rattle.tokens.specs.Names.{sameName}
-use Rattle.statement.specs.declared.Statement.{Statement}
-use Rattle.statement.specs.declared.Statement.the-variants.{Mov32, Mov64, Alloc, Dealloc, Relinquish, Load, Store, WaitLoad, WaitStore, FenceBefore, FenceAfter, Multiply, Exit}
+use Rattle.statement.specs.Views as act
+use Rattle.statement.specs.Views.{Act}
 use Rattle.rules.specs.Counting.{every}
-use Rattle.rules.proofs.CountingLaws.{and-l, and-r, not-t, clash, count-or, count-none, count-range, every-at}
+use Rattle.laws.proofs.BoolLaws.{and-l, and-r, or-right, clash}
+use Rattle.rules.proofs.CountingLaws.{count-or, count-none, count-range, every-at}
 use Rattle.run.specs.Run.{Turn, Holding, Run, Phase, going, stoppedAt, exited, ended, within, held, heldColumns, usable, startAt, mayUse, has, without, hasName, hasBoth, orZero, able, done, inPhase, go, after}
 use Rattle.run.specs.Demand3.{NoOverlap}
 
@@ -58,7 +59,7 @@ unfolding usable
 usable-at l x s c e p q = every-at (λ c. ltb c 512 && not (held l c)) s x c (and-r (eqb (s % 32) 0) (every (λ c. ltb c 512 && not (held l c)) s x) e) p q
 
 pub usable-free : (l : List Holding) (x s c : ℕ) → usable l x s ≡ true → s ≤ c → c < s + x → held l c ≡ false
-usable-free l x s c e p q = not-t (held l c) (and-r (ltb c 512) (not (held l c)) (usable-at l x s c e p q))
+usable-free l x s c e p q = not-true (held l c) (and-r (ltb c 512) (not (held l c)) (usable-at l x s c e p q))
 
 usable-low : (l : List Holding) (x s : ℕ) → usable l x s ≡ true → (x ≡ 0) ⊎ (s + x ≤ 512)
 usable-low l zero s e = inl refl
@@ -76,10 +77,6 @@ used l x (some s) e = e
 or-keep : (a b c : Bool) → (c ≡ true → b ≡ true) → a || c ≡ true → a || b ≡ true
 or-keep true b c f e = refl
 or-keep false b c f e = f e
-
-or-right : (a b : Bool) → b ≡ true → a || b ≡ true
-or-right true b e = refl
-or-right false b e = e
 
 held-cond : (h : Holding) (m l : List Holding) (c : ℕ) (t : Bool) → (held m c ≡ true → held l c ≡ true) → held (cond t l (h ∷ m)) c ≡ true → held (h ∷ l) c ≡ true
 unfolding held
@@ -123,11 +120,10 @@ pub record Sound (r : Run) : Type 0 where
   pub apart : NoOverlap (r .live)
   pub sum : r .asked ≡ r .returned + total (r .live)
 
-does : (starts : List ℕ) (r : Run) (x : Statement) → able starts r x ≡ true → Sound r → Sound (done starts r x)
+does : (starts : List ℕ) (r : Run) (x : Act) → able starts r x ≡ true → Sound r → Sound (done starts r x)
 unfolding able done total
-does starts r (Mov32 n v) e s = record { low = s .low; apart = s .apart; sum = s .sum }
-does starts r (Mov64 n v) e s = record { low = s .low; apart = s .apart; sum = s .sum }
-does starts r (Alloc n v) e s =
+does starts r (act.binds n width v) e s = record { low = s .low; apart = s .apart; sum = s .sum }
+does starts r (act.requests n v) e s =
     let o = startAt starts (r .requests) in
     let u = used (r .live) v o (and-r (not (has (hasName n) (r .live))) (mayUse (r .live) v o) e) in
     let h : Holding = record { name = n; start = orZero o; length = v } in
@@ -136,28 +132,24 @@ does starts r (Alloc n v) e s =
       apart = ((λ c p q. clash q (usable-free (r .live) v (orZero o) c u (within-from h c p) (within-to h c p))), s .apart);
       sum = omega (arith, s .sum);
     }
-does starts r (Dealloc n v) e s =
+does starts r (act.releases n v) e s =
     record {
       low = low-without (hasBoth n v) (r .live) (s .low);
       apart = apart-without (hasBoth n v) (r .live) (s .apart);
       sum = omega (arith, s .sum, total-without n v (r .live) e);
     }
-does starts r Relinquish e s = s
-does starts r (Load a) e s = s
-does starts r (Store a) e s = s
-does starts r WaitLoad e s = s
-does starts r WaitStore e s = s
-does starts r FenceBefore e s = s
-does starts r FenceAfter e s = s
-does starts r (Multiply m) e s = s
-does starts r Exit e s = record { low = s .low; apart = s .apart; sum = s .sum }
+does starts r act.relinquishes e s = s
+does starts r (act.accesses a) e s = s
+does starts r act.nothing e s = s
+does starts r (act.multiplies m) e s = s
+does starts r act.exits e s = record { low = s .low; apart = s .apart; sum = s .sum }
 
 goes : (p : Phase) (starts : List ℕ) (r : Run) (line : ℕ) (x : Turn) → Sound r → Sound (go p starts r line x)
 unfolding go
-goes going starts r line x s = at (able starts r (x .statement)) refl
+goes going starts r line x s = at (able starts r (x .act)) refl
   where
-    at : (t : Bool) → able starts r (x .statement) ≡ t → Sound (cond t (done starts r (x .statement)) (inPhase (stoppedAt line) r))
-    at true e = does starts r (x .statement) e s
+    at : (t : Bool) → able starts r (x .act) ≡ t → Sound (cond t (done starts r (x .act)) (inPhase (stoppedAt line) r))
+    at true e = does starts r (x .act) e s
     at false e = record { low = s .low; apart = s .apart; sum = s .sum }
 goes (stoppedAt l) starts r line x s = s
 goes exited starts r line x s = s

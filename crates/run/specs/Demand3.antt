@@ -6,18 +6,18 @@ use mathlib.Core.List.{List, [], _∷_, _++_}
 use mathlib.Core.Option.{none, some}
 use mathlib.Core.Logic.{_⊎_}
 use lib.ListN.{length, drop}
-use Rattle.statement.specs.declared.Statement.{Statement}
-use Rattle.statement.specs.declared.Statement.the-variants.{Mov32, Mov64, Alloc, Dealloc, Relinquish, Load, Store, WaitLoad, WaitStore, FenceBefore, FenceAfter, Multiply, Exit}
+use Rattle.statement.specs.Views as act
+use Rattle.statement.specs.Views.{Act, actOf, requestIn, of}
 use Rattle.rules.specs.Sheet.{Line, badLayout, noForm, tooLarge, statement, Sheet, answerOf, startsOf, placesAfter}
 use Rattle.run.specs.Run.{Turn, Holding, Region, Run, Phase, going, stoppedAt, exited, within, held, heldColumns, usable, startAt, mayUse, bookedBy, known, after, outcome, peakOf}
 
 -- ---- the sheet's statements
 -- a line that gave no statement, which no passed sheet has, does nothing
 abbrev pub turnOf : Line → Turn
-turnOf badLayout = record { warp = 0; statement = FenceAfter }
-turnOf noForm = record { warp = 0; statement = FenceAfter }
-turnOf tooLarge = record { warp = 0; statement = FenceAfter }
-turnOf (statement w t) = record { warp = w; statement = t }
+turnOf badLayout = record { warp = 0; act = act.nothing }
+turnOf noForm = record { warp = 0; act = act.nothing }
+turnOf tooLarge = record { warp = 0; act = act.nothing }
+turnOf (statement w t) = record { warp = w; act = actOf t }
 
 abbrev pub turnsOf : Sheet → ℕ → Turn
 turnsOf sheet k = turnOf (sheet .line k)
@@ -44,21 +44,9 @@ abbrev pub AllInside : List Region → List Holding → Type 0
 AllInside [] l = Unit {0}
 AllInside (r ∷ rs) l = Inside r l × AllInside rs l
 
--- the request of a statement
-abbrev pub Requests : Statement → ℕ → Type 0
-Requests (Alloc n x) columns = columns ≡ x
-Requests (Mov32 n x) columns = ⊥
-Requests (Mov64 n x) columns = ⊥
-Requests (Dealloc n x) columns = ⊥
-Requests Relinquish columns = ⊥
-Requests (Load a) columns = ⊥
-Requests (Store a) columns = ⊥
-Requests WaitLoad columns = ⊥
-Requests WaitStore columns = ⊥
-Requests FenceBefore columns = ⊥
-Requests FenceAfter columns = ⊥
-Requests (Multiply m) columns = ⊥
-Requests Exit columns = ⊥
+-- that many columns are asked for
+abbrev pub Requests : Act → ℕ → Type 0
+Requests t columns = of (requestIn t) (λ r. some (r .columns)) none ≡ some columns
 
 -- ---- a run of a sheet under a list of starts
 module _ (sheet : Sheet) (starts : List ℕ) where
@@ -66,8 +54,8 @@ module _ (sheet : Sheet) (starts : List ℕ) where
   abbrev pub at : ℕ → Run
   at k = after starts (turnsOf sheet) k
 
-  abbrev pub statementAt : ℕ → Statement
-  statementAt k = turnsOf sheet k .statement
+  abbrev pub actAt : ℕ → Act
+  actAt k = turnsOf sheet k .act
 
   -- the run comes to turn k
   abbrev pub Reached : ℕ → Type 0
@@ -75,7 +63,7 @@ module _ (sheet : Sheet) (starts : List ℕ) where
 
   -- turn k is reached, and asks for that many columns
   abbrev pub Asks : ℕ → ℕ → Type 0
-  Asks k columns = Reached k × Requests (statementAt k) columns
+  Asks k columns = Reached k × Requests (actAt k) columns
 
   -- the start that the list has for the request at turn k may be used there
   abbrev pub met : ℕ → ℕ → Bool
@@ -96,8 +84,8 @@ module _ (sheet : Sheet) (starts : List ℕ) where
 
   -- the accesses of turn k fall inside the holdings that they name, and the number that they need was moved
   pub record Fallen (k : ℕ) : Type 0 where
-    pub number : known (at k .notes) (statementAt k) ≡ true
-    pub inside : AllInside (bookedBy (at k .notes) (statementAt k)) (at k .live)
+    pub number : known (at k .notes) (actAt k) ≡ true
+    pub inside : AllInside (bookedBy (at k .notes) (actAt k)) (at k .live)
 
   -- ---- demand 3, for any list of starts
   pub record Whichever : Type 0 where
@@ -123,6 +111,8 @@ module _ (sheet : Sheet) (starts : List ℕ) where
     -- every request is met, and the run reaches its exit
     pub meets : (k columns : ℕ) → Asks k columns → met k columns ≡ true
     pub exits : Outcome exited
+    -- it comes to every line
+    pub reached : (k : ℕ) → k < sheet .count → Reached k
     -- the placing is ours: each request has the lowest start that may be used there
     pub lowest : (k columns start : ℕ) → Asks k columns → usable (at k .live) columns start ≡ true → (s : ℕ) × ((startAt starts (at k .requests) ≡ some s) × (s ≤ start))
     -- the starts are those of this run, one for each of its requests

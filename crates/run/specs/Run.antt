@@ -1,5 +1,5 @@
--- Document 01, 'The run': what statements do to an empty memory of 512 columns under a list of starts. It shares with the rules the typed
--- statement, when names are the same and the table of cells alone (and plain counting). Assumes nothing.
+-- The run: what statements do to an empty memory of 512 columns under a list of starts. It shares with the rules the typed statement and its views,
+-- when names are the same and the table of cells alone (and plain counting). Assumes nothing.
 use Prim.Native.Nat.{ℕ, zero, suc, _+_, _*_, _/_, _%_, _^_, max}
 use mathlib.Core.Bool.{Bool, true, false, not, _&&_, _||_, cond}
 use mathlib.Core.List.{List, [], _∷_, _++_}
@@ -12,16 +12,16 @@ use Rattle.statement.specs.declared.Operand.{Operand}
 use Rattle.statement.specs.declared.Operand.the-variants as operand
 use Rattle.statement.specs.declared.Metadata.{Metadata}
 use Rattle.statement.specs.declared.Metadata.the-variants.{Dense, Sparse}
-use Rattle.statement.specs.declared.Statement.{Statement}
-use Rattle.statement.specs.declared.Statement.the-variants.{Mov32, Mov64, Alloc, Dealloc, Relinquish, Load, Store, WaitLoad, WaitStore, FenceBefore, FenceAfter, Multiply, Exit}
+use Rattle.statement.specs.Views as act
+use Rattle.statement.specs.Views.{Act, requestIn, releaseIn, accessIn, mmaIn, exitIn, for, when, holds, of}
 use Rattle.statement.specs.Cells.{lanesOf, columnsOf}
 use Rattle.rules.specs.Counting.{count, every}
 
 -- ---- what it takes
--- a statement with its warp; turn k is line k + 2 of the sheet
+-- what a statement does, with its warp; turn k is line k + 2 of the sheet
 pub record Turn : Type 0 where
   pub warp : ℕ
-  pub statement : Statement
+  pub act : Act
 
 -- ---- what it keeps
 -- a live holding
@@ -136,20 +136,10 @@ metadataRegions Dense = []
 metadataRegions (Sparse a) = region a 128 2 ∷ []
 
 -- what a statement books by the numbers moved so far: a ld or st its own cells; an mma all 128 lanes, and N columns at d, 8 at a, 2 at the metadata
-unfoldable pub bookedBy : List Note → Statement → List Region
-bookedBy v (Mov32 n x) = []
-bookedBy v (Mov64 n x) = []
-bookedBy v (Alloc n x) = []
-bookedBy v (Dealloc n x) = []
-bookedBy v Relinquish = []
-bookedBy v (Load a) = region (a .address) (lanesOf (a .shape)) (columnsOf (a .shape) (a .num)) ∷ []
-bookedBy v (Store a) = region (a .address) (lanesOf (a .shape)) (columnsOf (a .shape) (a .num)) ∷ []
-bookedBy v WaitLoad = []
-bookedBy v WaitStore = []
-bookedBy v FenceBefore = []
-bookedBy v FenceAfter = []
-bookedBy v (Multiply m) = region (m .d) 128 (nOf (orZero (numberOf (m .idesc) v))) ∷ (operandRegions (m .a) ++ metadataRegions (m .metadata))
-bookedBy v Exit = []
+unfoldable pub bookedBy : List Note → Act → List Region
+bookedBy v t =
+    of (accessIn t) (λ a. region (a .address) (lanesOf (a .shape)) (columnsOf (a .shape) (a .num)) ∷ [])
+    (of (mmaIn t) (λ m. region (m .d) 128 (nOf (orZero (numberOf (m .idesc) v))) ∷ (operandRegions (m .a) ++ metadataRegions (m .metadata))) [])
 
 -- the access lies below lane 128, and in the holding, which has its name
 unfoldable pub lies : Region → Holding → Bool
@@ -164,47 +154,27 @@ isThere none = false
 isThere (some v) = true
 
 -- the number that a statement needs was moved: that under idesc
-unfoldable pub known : List Note → Statement → Bool
-known v (Mov32 n x) = true
-known v (Mov64 n x) = true
-known v (Alloc n x) = true
-known v (Dealloc n x) = true
-known v Relinquish = true
-known v (Load a) = true
-known v (Store a) = true
-known v WaitLoad = true
-known v WaitStore = true
-known v FenceBefore = true
-known v FenceAfter = true
-known v (Multiply m) = isThere (numberOf (m .idesc) v)
-known v Exit = true
+unfoldable pub known : List Note → Act → Bool
+known v t = of (mmaIn t) (λ m. isThere (numberOf (m .idesc) v)) true
 
 -- ---- a line
 -- whether a statement can be done: an alloc of a name that is not live, at a start that may be used; a dealloc of a holding of that name and
--- length; an exit where nothing is held; and every booked access lies in the holding that it names
-unfoldable pub able : List ℕ → Run → Statement → Bool
-able starts r (Mov32 n x) = true
-able starts r (Mov64 n x) = true
-able starts r (Alloc n x) = not (has (hasName n) (r .live)) && mayUse (r .live) x (startAt starts (r .requests))
-able starts r (Dealloc n x) = has (hasBoth n x) (r .live)
-able starts r Relinquish = true
-able starts r (Load a) = allLie (bookedBy (r .notes) (Load a)) (r .live)
-able starts r (Store a) = allLie (bookedBy (r .notes) (Store a)) (r .live)
-able starts r WaitLoad = true
-able starts r WaitStore = true
-able starts r FenceBefore = true
-able starts r FenceAfter = true
-able starts r (Multiply m) = known (r .notes) (Multiply m) && allLie (bookedBy (r .notes) (Multiply m)) (r .live)
-able starts r Exit = eqb (heldColumns (r .live)) 0
+-- length; an exit where nothing is held; and any other where every booked access lies in the holding that it names
+unfoldable pub able : List ℕ → Run → Act → Bool
+able starts r t = holds
+    (for (requestIn t) (λ q. not (has (hasName (q .name)) (r .live)) && mayUse (r .live) (q .columns) (startAt starts (r .requests)))
+    ∷ for (releaseIn t) (λ q. has (hasBoth (q .name) (q .columns)) (r .live))
+    ∷ when (exitIn t) (eqb (heldColumns (r .live)) 0)
+    ∷ some (known (r .notes) t && allLie (bookedBy (r .notes) t) (r .live))
+    ∷ [])
 
 abbrev pub noted : Run → Name → ℕ → Run
 noted r n x = record { live = r .live; notes = record { name = n; number = x } ∷ r .notes; asked = r .asked; returned = r .returned; requests = r .requests; phase = going }
 
 -- a statement done
-unfoldable pub done : List ℕ → Run → Statement → Run
-done starts r (Mov32 n x) = noted r n x
-done starts r (Mov64 n x) = noted r n x
-done starts r (Alloc n x) =
+unfoldable pub done : List ℕ → Run → Act → Run
+done starts r (act.binds n width x) = noted r n x
+done starts r (act.requests n x) =
     record {
       live = record { name = n; start = orZero (startAt starts (r .requests)); length = x } ∷ r .live;
       notes = r .notes;
@@ -213,23 +183,20 @@ done starts r (Alloc n x) =
       requests = suc (r .requests);
       phase = going;
     }
-done starts r (Dealloc n x) = record { live = without (hasBoth n x) (r .live); notes = r .notes; asked = r .asked; returned = r .returned + x; requests = r .requests; phase = going }
-done starts r Relinquish = r
-done starts r (Load a) = r
-done starts r (Store a) = r
-done starts r WaitLoad = r
-done starts r WaitStore = r
-done starts r FenceBefore = r
-done starts r FenceAfter = r
-done starts r (Multiply m) = r
-done starts r Exit = record { live = r .live; notes = r .notes; asked = r .asked; returned = r .returned; requests = r .requests; phase = exited }
+done starts r (act.releases n x) =
+    record { live = without (hasBoth n x) (r .live); notes = r .notes; asked = r .asked; returned = r .returned + x; requests = r .requests; phase = going }
+done starts r act.relinquishes = r
+done starts r (act.accesses a) = r
+done starts r (act.multiplies m) = r
+done starts r act.exits = record { live = r .live; notes = r .notes; asked = r .asked; returned = r .returned; requests = r .requests; phase = exited }
+done starts r act.nothing = r
 
 abbrev pub inPhase : Phase → Run → Run
 inPhase p r = record { live = r .live; notes = r .notes; asked = r .asked; returned = r .returned; requests = r .requests; phase = p }
 
 -- a line that cannot be done stops the run and changes nothing; a run that is not going stays as it is
 unfoldable pub go : Phase → List ℕ → Run → ℕ → Turn → Run
-go going starts r line x = cond (able starts r (x .statement)) (done starts r (x .statement)) (inPhase (stoppedAt line) r)
+go going starts r line x = cond (able starts r (x .act)) (done starts r (x .act)) (inPhase (stoppedAt line) r)
 go (stoppedAt l) starts r line x = r
 go exited starts r line x = r
 go ended starts r line x = r

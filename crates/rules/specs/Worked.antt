@@ -1,0 +1,291 @@
+-- Worked examples of the rules at both sides of each figure: tables of small sheets with their answers, under one claim, so that a wrong figure in a
+-- definition is seen here. proofs/WorkedProved.antt computes them. Assumes nothing.
+use Prim.Native.Nat.{ℕ, zero, suc, _+_, _*_}
+use mathlib.Core.Path.{_≡_}
+use mathlib.Core.Bool.{Bool, true, false, cond}
+use mathlib.Core.List.{List, [], _∷_, _++_, map}
+use mathlib.Core.Option.{none}
+use lib.ListN.{getD, length}
+use Rattle.laws.specs.Rules.{firstBroken}
+use Rattle.tokens.specs.declared.Name.{Name}
+use Rattle.instruction.specs.declared.Kind.the-variants.{F16}
+use Rattle.statement.specs.declared.Address.{Address}
+use Rattle.statement.specs.declared.Shape.{Shape}
+use Rattle.statement.specs.declared.Shape.the-variants.{S32x32, S16x64, S16x128, S16x256}
+use Rattle.statement.specs.declared.Num.{Num}
+use Rattle.statement.specs.declared.Num.the-variants.{X1, X2, X4, X8, X16, X32, X64, X128}
+use Rattle.statement.specs.declared.Operand.{Operand}
+use Rattle.statement.specs.declared.Operand.the-variants as operand
+use Rattle.statement.specs.declared.Metadata.{Metadata}
+use Rattle.statement.specs.declared.Metadata.the-variants.{Dense, Sparse}
+use Rattle.statement.specs.declared.Statement.{Statement}
+use Rattle.statement.specs.declared.Statement.the-variants.{Mov32, Mov64, Alloc, Dealloc, Relinquish, Load, Store, Multiply, Exit}
+use Rattle.rules.specs.declared.Answer.{Answer}
+use Rattle.rules.specs.State.{State, Allocation, Binding, lowest}
+use Rattle.rules.specs.Reasons.{openRules}
+use Rattle.rules.specs.Sheet.{Line, badLayout, noForm, tooLarge, statement, Sheet, answer, answerOf}
+
+-- a function gives each case its answer
+abbrev pub Gives : {A B : Type 0} → (A → B) → List (A × B) → Type 0
+Gives f rows = map (λ row. f (row .0)) rows ≡ map (λ row. row .1) rows
+
+-- ---- lines
+abbrev pub name : ℕ → Name
+name n = record { hi = n; lo = 0 }
+
+abbrev pub at : ℕ → ℕ → ℕ → Address
+at n lane column = record { base = name n; offset = lane * 65536 + column }
+
+abbrev pub alloc : ℕ → ℕ → Line
+alloc n columns = statement 0 (Alloc (name n) columns)
+
+abbrev pub dealloc : ℕ → ℕ → Line
+dealloc n columns = statement 0 (Dealloc (name n) columns)
+
+abbrev pub exit : Line
+exit = statement 0 Exit
+
+-- the answer of these lines after a good line 1, with four places lent
+abbrev pub judged : List Line → Answer
+judged lines = answerOf (record { header = true; line = λ k. getD lines k noForm; count = length lines }) 4
+
+-- ---- whole sheets: reason, line, held and peak
+abbrev pub sheetCases : List (List Line × Answer)
+sheetCases =
+    -- header alone; header and exit; a line of wrong layout, of no form and of too large a number after one of 32 columns
+    ([], answer 15 1 0 0)
+    ∷ (exit ∷ [], answer 0 2 0 0)
+    ∷ (alloc 1 32 ∷ badLayout ∷ [], answer 2 3 32 32)
+    ∷ (alloc 1 32 ∷ noForm ∷ [], answer 3 3 32 32)
+    ∷ (alloc 1 32 ∷ tooLarge ∷ [], answer 4 3 32 32)
+    -- exit with columns held; missing exit; a line after exit
+    ∷ (alloc 1 32 ∷ exit ∷ [], answer 15 3 32 32)
+    ∷ (alloc 1 32 ∷ [], answer 15 2 32 32)
+    ∷ (exit ∷ dealloc 1 32 ∷ [], answer 15 3 0 0)
+    -- the warp stays fixed, for a dealloc and a second relinquish too; alloc after relinquish; dealloc after it passes
+    ∷ (alloc 1 32 ∷ dealloc 1 32 ∷ statement 1 (Alloc (name 1) 32) ∷ [], answer 8 4 0 32)
+    ∷ (alloc 1 32 ∷ statement 1 (Dealloc (name 1) 32) ∷ [], answer 8 3 32 32)
+    ∷ (statement 2 Relinquish ∷ statement 1 Relinquish ∷ exit ∷ [], answer 8 3 0 0)
+    ∷ (statement 2 Relinquish ∷ statement 2 (Alloc (name 1) 32) ∷ exit ∷ [], answer 10 3 0 0)
+    ∷ (alloc 1 32 ∷ statement 0 Relinquish ∷ dealloc 1 32 ∷ exit ∷ [], answer 0 5 0 32)
+    -- the lowest number of a line: the warp before the size, the size before the permit
+    ∷ (alloc 1 32 ∷ statement 1 (Alloc (name 2) 96) ∷ [], answer 8 3 32 32)
+    ∷ (statement 0 Relinquish ∷ alloc 1 96 ∷ [], answer 9 3 0 0)
+    -- a dealloc of part, and of more; a name that is live, and one that is not
+    ∷ (alloc 1 64 ∷ dealloc 1 32 ∷ [], answer 9 3 64 64)
+    ∷ (alloc 1 64 ∷ dealloc 1 128 ∷ [], answer 9 3 64 64)
+    ∷ (alloc 1 64 ∷ alloc 1 32 ∷ [], answer 6 3 64 64)
+    ∷ (alloc 1 64 ∷ dealloc 2 64 ∷ [], answer 6 3 64 64)
+    -- a name is a value or an allocation
+    ∷ (alloc 1 64 ∷ statement 0 (Mov32 (name 1) 0) ∷ [], answer 6 3 64 64)
+    ∷ (statement 0 (Mov32 (name 1) 0) ∷ alloc 1 64 ∷ [], answer 6 3 0 0)
+    -- five requests and four places; the most held is answered
+    ∷ (alloc 1 32 ∷ alloc 2 32 ∷ alloc 3 32 ∷ alloc 4 32 ∷ dealloc 1 32 ∷ dealloc 2 32 ∷ dealloc 3 32 ∷ dealloc 4 32 ∷ exit ∷ [], answer 0 10 0 128)
+    ∷ (alloc 1 32 ∷ dealloc 1 32 ∷ alloc 2 64 ∷ dealloc 2 64 ∷ alloc 3 32 ∷ dealloc 3 32 ∷ alloc 4 32 ∷ dealloc 4 32 ∷ alloc 5 32 ∷ dealloc 5 32 ∷ exit ∷ [], answer 16 12 0 64)
+    -- no free run: the memory is full, or what is free is in parts
+    ∷ (alloc 1 512 ∷ alloc 2 32 ∷ [], answer 11 3 512 512)
+    ∷ (alloc 1 256 ∷ alloc 2 128 ∷ alloc 3 128 ∷ dealloc 2 128 ∷ alloc 4 256 ∷ [], answer 11 6 384 512)
+    ∷ []
+
+-- the reason of lines between an alloc of name 1 and its end
+abbrev pub reasonIn : ℕ → List Line → ℕ
+reasonIn columns lines = judged (alloc 1 columns ∷ (lines ++ dealloc 1 columns ∷ exit ∷ [])) .reason
+
+-- ---- requests of columns
+abbrev pub requestCases : List (ℕ × ℕ)
+requestCases = (0, 9) ∷ (16, 9) ∷ (31, 9) ∷ (32, 0) ∷ (33, 9) ∷ (64, 0) ∷ (96, 9) ∷ (128, 0) ∷ (256, 0) ∷ (384, 9) ∷ (512, 0) ∷ (513, 9) ∷ (1024, 9) ∷ []
+
+-- ---- accesses. Shape, NUM, registers and a column, by warp 0 in a holding of so many columns
+abbrev pub AtColumn : Type 0
+AtColumn = ℕ × Shape × Num × ℕ × ℕ
+
+abbrev pub columnReason : AtColumn → ℕ
+columnReason x =
+    reasonIn (x .0) (statement 0 (Load (record { shape = x .1; num = x .2; registers = x .3; address = at 1 0 (x .4) })) ∷ [])
+
+abbrev pub columnCases : List (AtColumn × ℕ)
+columnCases =
+    -- each shape at the last column of a holding of 32, and one past
+    ((32, S32x32, X1, 1, 31), 0)
+    ∷ ((32, S32x32, X1, 1, 32), 14)
+    ∷ ((32, S16x64, X1, 1, 30), 0)
+    ∷ ((32, S16x64, X1, 1, 31), 14)
+    ∷ ((32, S16x128, X1, 2, 28), 0)
+    ∷ ((32, S16x128, X1, 2, 29), 14)
+    ∷ ((32, S16x256, X1, 4, 24), 0)
+    ∷ ((32, S16x256, X1, 4, 25), 14)
+    -- each NUM
+    ∷ ((128, S32x32, X2, 2, 126), 0)
+    ∷ ((128, S32x32, X2, 2, 127), 14)
+    ∷ ((128, S32x32, X4, 4, 124), 0)
+    ∷ ((128, S32x32, X4, 4, 125), 14)
+    ∷ ((128, S32x32, X8, 8, 120), 0)
+    ∷ ((128, S32x32, X8, 8, 121), 14)
+    ∷ ((128, S32x32, X16, 16, 112), 0)
+    ∷ ((128, S32x32, X16, 16, 113), 14)
+    ∷ ((128, S32x32, X32, 32, 96), 0)
+    ∷ ((128, S32x32, X32, 32, 97), 14)
+    ∷ ((64, S32x32, X64, 64, 0), 0)
+    ∷ ((64, S32x32, X64, 64, 1), 14)
+    ∷ ((128, S32x32, X128, 128, 0), 0)
+    ∷ ((128, S32x32, X128, 128, 1), 14)
+    -- the largest NUM of each other shape, and the next
+    ∷ ((256, S16x64, X128, 128, 0), 0)
+    ∷ ((256, S16x64, X128, 128, 1), 14)
+    ∷ ((256, S16x128, X64, 128, 0), 0)
+    ∷ ((256, S16x128, X64, 128, 1), 14)
+    ∷ ((512, S16x128, X128, 256, 0), 5)
+    ∷ ((256, S16x256, X32, 128, 0), 0)
+    ∷ ((256, S16x256, X32, 128, 1), 14)
+    ∷ ((512, S16x256, X64, 256, 0), 5)
+    -- another count of registers
+    ∷ ((32, S32x32, X2, 1, 0), 5)
+    ∷ ((32, S32x32, X2, 3, 0), 5)
+    ∷ ((32, S16x128, X2, 2, 0), 5)
+    ∷ ((32, S16x256, X2, 4, 0), 5)
+    ∷ []
+
+-- a warp, a shape and a lane: a st of one column or more
+abbrev pub AtLane : Type 0
+AtLane = ℕ × Shape × ℕ × ℕ
+
+abbrev pub laneReason : AtLane → ℕ
+laneReason x = reasonIn 32 (statement (x .0) (Store (record { shape = x .1; num = X1; registers = x .2; address = at 1 (x .3) 0 })) ∷ [])
+
+abbrev pub laneCases : List (AtLane × ℕ)
+laneCases =
+    -- all 32 lanes of a warp are at 32w alone
+    ((0, S32x32, 1, 0), 0)
+    ∷ ((0, S32x32, 1, 16), 8)
+    ∷ ((0, S32x32, 1, 32), 8)
+    ∷ ((3, S32x32, 1, 96), 0)
+    ∷ ((3, S32x32, 1, 112), 8)
+    ∷ ((3, S32x32, 1, 0), 8)
+    -- 16 lanes are at 32w or 32w + 16
+    ∷ ((0, S16x64, 1, 0), 0)
+    ∷ ((0, S16x64, 1, 16), 0)
+    ∷ ((0, S16x64, 1, 15), 8)
+    ∷ ((0, S16x64, 1, 17), 8)
+    ∷ ((0, S16x64, 1, 32), 8)
+    ∷ ((1, S16x128, 2, 48), 0)
+    ∷ ((1, S16x128, 2, 16), 8)
+    ∷ ((1, S16x128, 2, 64), 8)
+    ∷ ((3, S16x256, 4, 112), 0)
+    ∷ ((3, S16x256, 4, 128), 8)
+    ∷ []
+
+-- ---- mma. Name 1 is d's holding, 2 the instruction descriptor, 3 and 4 shared memory descriptors
+abbrev pub shared : ℕ
+shared = 0x0000400800100000
+
+-- `.ws`, the holding of d, the word of idesc, and d, a and the metadata
+abbrev pub OfMma : Type 0
+OfMma = Bool × ℕ × ℕ × Address × Operand × Metadata
+
+abbrev pub mmaReason : OfMma → ℕ
+mmaReason x =
+    reasonIn (x .1)
+    (statement 3 (Mov32 (name 2) (x .2))
+    ∷ statement 2 (Mov64 (name 3) shared)
+    ∷ statement 1 (Mov64 (name 4) shared)
+    ∷ statement 1 (Multiply (record { ws = x .0; kind = F16; d = x .3; a = x .4; b = name 4; metadata = x .5; idesc = name 2; predicate = name 5 }))
+    ∷ [])
+
+-- M 128 and N 64; the same sparse; N 32, 256 and 264; M 32
+abbrev pub m128n64 : ℕ
+m128n64 = 0x08100010
+
+abbrev pub a3 : Operand
+a3 = operand.Descriptor (name 3)
+
+abbrev pub mmaCases : List (OfMma × ℕ)
+mmaCases =
+    -- d has N columns from its column on, at lane 0
+    ((false, 64, m128n64, at 1 0 0, a3, Dense), 0)
+    ∷ ((false, 64, m128n64, at 1 0 1, a3, Dense), 14)
+    ∷ ((false, 64, m128n64, at 1 1 0, a3, Dense), 14)
+    ∷ ((false, 32, m128n64, at 1 0 0, a3, Dense), 14)
+    ∷ ((false, 128, m128n64, at 1 0 64, a3, Dense), 0)
+    ∷ ((false, 128, m128n64, at 1 0 65, a3, Dense), 14)
+    ∷ ((false, 256, 0x08400010, at 1 0 0, a3, Dense), 0)
+    ∷ ((false, 256, 0x08400010, at 1 0 1, a3, Dense), 14)
+    -- [a] has 8 columns, at lane 0
+    ∷ ((false, 64, m128n64, at 1 0 0, operand.Address (at 1 0 56), Dense), 0)
+    ∷ ((false, 64, m128n64, at 1 0 0, operand.Address (at 1 0 57), Dense), 14)
+    ∷ ((false, 64, m128n64, at 1 0 0, operand.Address (at 1 16 0), Dense), 14)
+    -- the metadata 2
+    ∷ ((false, 64, m128n64 + 4, at 1 0 0, a3, Sparse (at 1 0 62)), 0)
+    ∷ ((false, 64, m128n64 + 4, at 1 0 0, a3, Sparse (at 1 0 63)), 14)
+    ∷ ((false, 64, m128n64 + 4, at 1 0 0, a3, Sparse (at 1 32 0)), 14)
+    -- sparse stands with `.sp` alone
+    ∷ ((false, 64, m128n64 + 4, at 1 0 0, a3, Dense), 12)
+    ∷ ((false, 64, m128n64, at 1 0 0, a3, Sparse (at 1 0 0)), 12)
+    -- names: d and [a] are allocations, a a 64-bit value, idesc a 32-bit one
+    ∷ ((false, 64, m128n64, at 6 0 0, a3, Dense), 6)
+    ∷ ((false, 64, m128n64, at 1 0 0, operand.Address (at 6 0 0), Dense), 6)
+    ∷ ((false, 64, m128n64, at 1 0 0, operand.Descriptor (name 1), Dense), 6)
+    ∷ ((false, 64, m128n64, at 1 0 0, operand.Descriptor (name 2), Dense), 6)
+    ∷ ((false, 64, m128n64, at 1 0 0, a3, Sparse (at 3 0 0)), 6)
+    -- N 32 is listed without `.ws` alone, M 32 with it alone; N 264 and M 192 never
+    ∷ ((true, 64, m128n64, at 1 0 0, a3, Dense), 0)
+    ∷ ((false, 64, 0x08080010, at 1 0 0, a3, Dense), 0)
+    ∷ ((true, 64, 0x08080010, at 1 0 0, a3, Dense), 13)
+    ∷ ((true, 64, 0x02100010, at 1 0 0, a3, Dense), 0)
+    ∷ ((false, 64, 0x02100010, at 1 0 0, a3, Dense), 13)
+    ∷ ((false, 512, 0x08420010, at 1 0 0, a3, Dense), 13)
+    ∷ ((false, 64, 0x0C100010, at 1 0 0, a3, Dense), 13)
+    -- the listing comes before the columns
+    ∷ ((false, 32, 0x02100010, at 1 0 0, a3, Dense), 13)
+    ∷ []
+
+-- ---- states too long for a sheet here
+-- that many value names from 1 on
+abbrev pub valueNames : ℕ → List Binding
+valueNames zero = []
+valueNames (suc n) = record { name = name (suc n); width = 32; number = 0 } ∷ valueNames n
+
+-- that many allocations of 32 columns, each so far from the one before
+abbrev pub holdings : ℕ → ℕ → List Allocation
+holdings apart zero = []
+holdings apart (suc n) = record { name = name (1000 + n); start = n * apart; columns = 32 } ∷ holdings apart n
+
+abbrev pub stateOf : List Allocation → List Binding → State
+stateOf live bound = record { live = live; values = bound; warp = none; relinquished = false; exited = false }
+
+-- the reason of a statement of warp 0 in a state, with those columns held
+abbrev pub InState : Type 0
+InState = List Allocation × List Binding × ℕ × Statement
+
+abbrev pub stateReason : InState → ℕ
+stateReason x = firstBroken (openRules lowest (stateOf (x .0) (x .1)) (x .2) 0 (x .3))
+
+abbrev pub stateCases : List (InState × ℕ)
+stateCases =
+    -- the 128th value name and the 129th, at either width; a name bound again takes no place
+    (([], valueNames 127, 0, Mov32 (name 200) 0), 0)
+    ∷ (([], valueNames 128, 0, Mov32 (name 200) 0), 7)
+    ∷ (([], valueNames 128, 0, Mov64 (name 200) 0), 7)
+    ∷ (([], valueNames 128, 0, Mov64 (name 128) 0), 0)
+    -- sixteen holdings of 32 leave nothing; with every other one given back 256 columns are free, but no run of 64
+    ∷ ((holdings 32 15, [], 480, Alloc (name 1) 32), 0)
+    ∷ ((holdings 32 15, [], 480, Alloc (name 1) 64), 11)
+    ∷ ((holdings 32 16, [], 512, Alloc (name 1) 32), 11)
+    ∷ ((holdings 64 8, [], 256, Alloc (name 1) 32), 0)
+    ∷ ((holdings 64 8, [], 256, Alloc (name 1) 64), 11)
+    -- exit by the columns held, whatever is stored
+    ∷ (([], [], 0, Exit), 0)
+    ∷ (([], [], 1, Exit), 15)
+    ∷ ((holdings 32 1, [], 32, Exit), 15)
+    ∷ ((holdings 32 1, [], 0, Exit), 0)
+    ∷ []
+
+-- ---- the claim
+pub record Worked : Type 0 where
+  -- a wrong line 1
+  pub header : answerOf (record { header = false; line = λ k. exit; count = 1 }) 0 ≡ answer 2 1 0 0
+  pub whole : Gives judged sheetCases
+  pub requests : Gives (λ columns. reasonIn columns []) requestCases
+  pub columns : Gives columnReason columnCases
+  pub lanes : Gives laneReason laneCases
+  pub mmas : Gives mmaReason mmaCases
+  pub states : Gives stateReason stateCases
