@@ -27,17 +27,15 @@ use Rattle.statement.specs.declared.Found.{Found}
 use Rattle.statement.specs.declared.Found.the-variants.{Is, Nothing}
 use Rattle.statement.specs.declared.Reading.{Reading}
 use Rattle.statement.specs.declared.Reading.the-variants.{Got, NoForm}
-use Rattle.statement.specs.declared.Address.{Address}
-use Rattle.statement.specs.declared.Metadata.the-variants.{Dense, Sparse}
-use Rattle.statement.specs.Forms.{name, number, address, operand, Values, Whole, plain}
+use Rattle.statement.specs.Forms.{name, number, Values, Whole, plain}
 use Rattle.statement.specs.Opcodes.{recognise}
-use Rattle.statement.specs.Reading.{moreC, counted, his, los, answerOf, addressC, moreRowC, rowC, operandsC, start, opcodeLen, wholeBy, wholeC, readOf, fine, registersOf, told}
+use Rattle.statement.specs.Reading.{moreC, counted, his, los, answerOf, moreRowC, rowC, operandsC, start, opcodeLen, wholeBy, wholeC, readOf, fine, registersOf, told}
 use Rattle.statement.proofs.Readings.{Unread}
 use Rattle.opcode.specs.declared.Head.{Head}
 use Rattle.opcode.specs.Heads.{headSeen, headBy, headOf}
 use Rattle.statement.proofs.Opcode.{the-type}
 use Rattle.reader.specs.Lists.{listC}
-use Rattle.reader.specs.Rows.{namedC, pairC, frontC, mmaC}
+use Rattle.reader.specs.Rows.{namedC, pairC, metadataC, mmaC}
 
 -- ---- numbers
 under-pick : (limit : ℕ) (b : Bool) (x y : Took ℕ) → (b ≡ true → x .value ≤ limit) → y .value ≤ limit → (pick b x y) .value ≤ limit
@@ -213,14 +211,8 @@ unfolding rowC moreRowC
 pair-row true limit r m e n v p q t u = rw (u, t, q, p)
 pair-row false limit r m e n v p q t u = rw (u, t, q, p)
 
-module _ (ws : Bool) (kind : Kind) (r : Rest) (t : Took (Values (address ∷ operand ∷ name ∷ []))) (front : t ≡ frontC r) where
-  -- with no metadata
-  pub mma-dense : mmaC ws kind (t .value .0) (t .value .1 .0) (t .value .1 .1 .0) Dense (t .next) ≡ operandsC (Multiply ws false kind) r
-  unfolding operandsC rowC moreRowC frontC mmaC
-  mma-dense = rw front
-
-  -- with the address a as metadata
-  pub mma-sparse : (m : Rest) (a : Took Address) → m ≡ markC 44 (t .next) → a ≡ addressC m
-      → mmaC ws kind (t .value .0) (t .value .1 .0) (t .value .1 .1 .0) (Sparse (a .value)) (a .next) ≡ operandsC (Multiply ws true kind) r
-  unfolding operandsC rowC moreRowC frontC mmaC
-  mma-sparse m a p q = rw (q, p, front)
+-- the two rows of an mma are one
+pub mma-row : (ws sp : Bool) (kind : Kind) (r : Rest) → operandsC (Multiply ws sp kind) r ≡ mmaC ws sp kind r
+unfolding operandsC rowC moreRowC metadataC mmaC
+mma-row ws true kind r = refl
+mma-row ws false kind r = refl

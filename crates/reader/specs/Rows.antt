@@ -1,19 +1,18 @@
--- Parts of rows that several forms share. Assumes nothing.
+-- Rows that several forms share. Assumes nothing.
 use Prim.Native.Nat.{ℕ}
 use mathlib.Core.List.{List, [], _∷_}
 use mathlib.Core.Bool.{Bool}
 use Rattle.instruction.specs.declared.Kind.{Kind}
 use Rattle.tokens.specs.declared.Name.{Name}
 use Rattle.tokens.specs.Bytes.{pick}
-use Rattle.tokens.specs.Cursors.{Rest, seen, Took, markC, nameC}
-use Rattle.statement.specs.declared.Address.{Address}
-use Rattle.statement.specs.declared.Operand.{Operand}
+use Rattle.tokens.specs.Cursors.{Rest, seen, Took, markC, endC, nameC}
 use Rattle.statement.specs.declared.Metadata.{Metadata}
+use Rattle.statement.specs.declared.Metadata.the-variants.{Dense, Sparse}
 use Rattle.statement.specs.declared.Statement.the-variants as s
-use Rattle.statement.specs.Forms.{Slot, name, number, inBrackets, address, operand, Values, Whole, plain}
-use Rattle.statement.specs.Reading.{inBracketsC, addressC, operandC, moreRowC, rowC}
+use Rattle.statement.specs.Forms.{name, number, inBrackets, Values, Whole, plain}
+use Rattle.statement.specs.Reading.{inBracketsC, addressC, operandC, rowC}
 use Rattle.reader.specs.declared.Pair.{Pair}
-use Rattle.reader.specs.declared.Front.{Front}
+use Rattle.reader.specs.declared.MetadataRead.{MetadataRead}
 
 -- a name, in brackets or not
 abbrev pub namedC : Bool → Rest → Took Name
@@ -26,22 +25,25 @@ pairC b limit r = pick b (rowC (inBrackets ∷ number limit ∷ []) r) (rowC (na
 abbrev pub pairSeen : List ℕ → (limit : ℕ) → Pair → Took (Values (name ∷ number limit ∷ []))
 pairSeen s limit p = record { value = (p .name, (p .number, tt)); next = seen s (p .next) }
 
--- d, a and b of an mma
-unfoldable pub frontC : Rest → Took (Values (address ∷ operand ∷ name ∷ []))
-frontC r =
+-- the metadata's address after a comma, for a sparse a alone
+unfoldable pub metadataC : Bool → Rest → Took Metadata
+metadataC sp r =
+    let a = addressC (markC 44 r) in
+    pick sp (record { value = Sparse (a .value); next = a .next }) (record { value = Dense; next = r })
+
+abbrev pub metadataSeen : List ℕ → MetadataRead → Took Metadata
+metadataSeen s m = record { value = m .value; next = seen s (m .next) }
+
+-- an mma, dense or sparse
+unfoldable pub mmaC : Bool → Bool → Kind → Rest → Took Whole
+mmaC ws sp kind r =
     let d = addressC r in
     let a = operandC (markC 44 (d .next)) in
     let b = nameC (markC 44 (a .next)) in
-    record { value = (d .value, (a .value, (b .value, tt))); next = b .next }
-
-abbrev pub frontSeen : List ℕ → Front → Took (Values (address ∷ operand ∷ name ∷ []))
-frontSeen s f = record { value = (f .d, (f .a, (f .b, tt))); next = seen s (f .next) }
-
--- an mma whose last two operands are read from r on
-unfoldable pub mmaC : Bool → Kind → Address → Operand → Name → Metadata → Rest → Took Whole
-mmaC ws kind d a b m r =
-    let v = moreRowC (name ∷ name ∷ []) r in
+    let m = metadataC sp (b .next) in
+    let i = nameC (markC 44 (m .next)) in
+    let p = nameC (markC 44 (i .next)) in
     record {
-      value = plain (s.Multiply (record { ws = ws; kind = kind; d = d; a = a; b = b; metadata = m; idesc = v .value .0; predicate = v .value .1 .0 }));
-      next = v .next;
+      value = plain (s.Multiply (record { ws = ws; kind = kind; d = d .value; a = a .value; b = b .value; metadata = m .value; idesc = i .value; predicate = p .value }));
+      next = endC (p .next);
     }

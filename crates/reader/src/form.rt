@@ -1,5 +1,5 @@
 // Forms: a straight line of operands, and one answer.
-use crate::Front;
+use crate::MetadataRead;
 use crate::Pair;
 use instruction::Kind;
 use statement::Access;
@@ -16,7 +16,7 @@ ghost use Prim.Native.Nat.{_≤_};
 ghost use Rattle.tokens.specs.Cursors.{seen, endC};
 ghost use Rattle.statement.specs.declared.Opcode.the-variants as opcode;
 ghost use Rattle.statement.specs.Reading.{answerOf, operandsC, told};
-ghost use Rattle.reader.specs.Rows.{pairC, pairSeen, frontC, frontSeen, mmaC};
+ghost use Rattle.reader.specs.Rows.{pairC, pairSeen, metadataC, metadataSeen};
 
 // No form where reading stopped, too large where a number was, else the statement.
 pub fn answer(s: &[u8], k: Cursor, t: Statement) -> Reading
@@ -143,38 +143,49 @@ pub fn store(s: &[u8], k: Cursor, shape: Shape, num: Num) -> Reading
     )
 }
 
-// d, a and b of an mma.
-fn front(s: &[u8], k: Cursor) -> Front
-    ensures { λ r. ⌜ frontSeen (now (s .entry)) r ≡ frontC (seen (now (s .entry)) k) ⌝ }
+// The metadata's address after a comma, for a sparse a alone.
+fn metadata(s: &[u8], k: Cursor, sp: bool) -> MetadataRead
+    ensures { λ r. ⌜ metadataSeen (now (s .entry)) r ≡ metadataC sp (seen (now (s .entry)) k) ⌝ }
 {
-    let x = crate::operand::address(s, k);
-    let k1 = x.next;
-    let k2 = lexer::cursor::mark(s, k1, b',');
-    let y = crate::operand::operand(s, k2);
-    let k3 = y.next;
-    let k4 = lexer::cursor::mark(s, k3, b',');
-    let z = lexer::cursor::name(s, k4);
-    let d = x.value;
-    let a = y.value;
-    let b = z.value;
-    let next = z.next;
-    Front { d, a, b, next }
+    if sp {
+        let a = crate::operand::address(s, lexer::cursor::mark(s, k, b','));
+        let value = a.value;
+        let next = a.next;
+        return MetadataRead {
+            value: Metadata::Sparse(value),
+            next,
+        };
+    }
+    MetadataRead {
+        value: Metadata::Dense,
+        next: k,
+    }
 }
 
-// The last two operands of an mma, and the answer.
-fn back(s: &[u8], k: Cursor, ws: bool, kind: Kind, f: Front, metadata: Metadata) -> Reading
-    ensures { λ r. ⌜ r ≡ told (now (s .entry)) (mmaC ws kind (f .d) (f .a) (f .b) metadata (seen (now (s .entry)) k)) ⌝ }
+pub fn multiply(s: &[u8], k: Cursor, ws: bool, sp: bool, kind: Kind) -> Reading
+    ensures { λ r. ⌜ r ≡ told (now (s .entry)) (operandsC (opcode.Multiply ws sp kind) (seen (now (s .entry)) k)) ⌝ }
 {
-    let k1 = lexer::cursor::mark(s, k, b',');
-    let i = lexer::cursor::name(s, k1);
-    let k2 = i.next;
-    let k3 = lexer::cursor::mark(s, k2, b',');
-    let p = lexer::cursor::name(s, k3);
-    let k4 = p.next;
-    let e = lexer::cursor::end(s, k4);
-    let d = f.d;
-    let a = f.a;
-    let b = f.b;
+    let d = crate::operand::address(s, k);
+    let k1 = d.next;
+    let k2 = lexer::cursor::mark(s, k1, b',');
+    let a = crate::operand::operand(s, k2);
+    let k3 = a.next;
+    let k4 = lexer::cursor::mark(s, k3, b',');
+    let b = lexer::cursor::name(s, k4);
+    let k5 = b.next;
+    let m = metadata(s, k5, sp);
+    let k6 = m.next;
+    let k7 = lexer::cursor::mark(s, k6, b',');
+    let i = lexer::cursor::name(s, k7);
+    let k8 = i.next;
+    let k9 = lexer::cursor::mark(s, k8, b',');
+    let p = lexer::cursor::name(s, k9);
+    let k10 = p.next;
+    let e = lexer::cursor::end(s, k10);
+    let da = d.value;
+    let ao = a.value;
+    let bn = b.value;
+    let me = m.value;
     let idesc = i.value;
     let predicate = p.value;
     answer(
@@ -183,27 +194,12 @@ fn back(s: &[u8], k: Cursor, ws: bool, kind: Kind, f: Front, metadata: Metadata)
         Statement::Multiply(Mma {
             ws,
             kind,
-            d,
-            a,
-            b,
-            metadata,
+            d: da,
+            a: ao,
+            b: bn,
+            metadata: me,
             idesc,
             predicate,
         }),
     )
-}
-
-pub fn multiply(s: &[u8], k: Cursor, ws: bool, sp: bool, kind: Kind) -> Reading
-    ensures { λ r. ⌜ r ≡ told (now (s .entry)) (operandsC (opcode.Multiply ws sp kind) (seen (now (s .entry)) k)) ⌝ }
-{
-    let f = front(s, k);
-    let k1 = f.next;
-    if sp {
-        let k2 = lexer::cursor::mark(s, k1, b',');
-        let m = crate::operand::address(s, k2);
-        let k3 = m.next;
-        let e = m.value;
-        return back(s, k3, ws, kind, f, Metadata::Sparse(e));
-    }
-    back(s, k1, ws, kind, f, Metadata::Dense)
 }

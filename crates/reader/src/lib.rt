@@ -2,10 +2,9 @@
 pub mod form;
 pub mod operand;
 
-use statement::Address;
 use statement::Found;
+use statement::Metadata;
 use statement::Opcode;
-use statement::Operand;
 use statement::Reading;
 use statement::Statement;
 use tokens::Cursor;
@@ -24,11 +23,9 @@ pub struct Pair {
     pub next: Cursor,
 }
 
-// d, a and b of an mma, and what follows them.
-pub struct Front {
-    pub d: Address,
-    pub a: Operand,
-    pub b: Name,
+// The metadata of an mma, and what follows it.
+pub struct MetadataRead {
+    pub value: Metadata,
     pub next: Cursor,
 }
 

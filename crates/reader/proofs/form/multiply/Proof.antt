@@ -1,55 +1,91 @@
--- `reader::form::multiply` meets its contract. The test on `.sp` picks the row, by the metadata. Assumes nothing.
-use mathlib.Core.Path.{ap, _∙_}
+-- `reader::form::multiply` meets its contract. Each operand's contract, from the first on, and the answer's are the row of both kinds of mma. Assumes nothing.
 use borrow.Author.Needs.{needs}
-use Rattle.tokens.specs.Cursors.{seen, Rest, Took}
-use Rattle.statement.specs.Forms.{Whole}
-use Rattle.statement.specs.Reading.{addressSeen, addressC, told}
-use Rattle.reader.specs.Rows.{frontSeen}
-use Rattle.reader.proofs.Laws.{mma-dense, mma-sparse}
+use Rattle.tokens.specs.Cursors.{seen}
+use Rattle.reader.specs.Rows.{mmaC}
+use Rattle.reader.proofs.Laws.{mma-row}
 use Rattle.reader.proofs.form.multiply.Statement.{statement}
 use Rattle.reader.proofs.form.multiply.Tie as tie
-
-front-requires : tie.Need-front-requires
-front-requires c κs = search needs
-
-mark-requires : tie.Need-mark-requires
-mark-requires c κs = search needs
 
 address-requires : tie.Need-address-requires
 address-requires c κs = search needs
 
-back-requires : tie.Need-back-requires
-back-requires c κs = search needs
+mark-requires : tie.Need-mark-requires
+mark-requires c κs = search needs
+
+operand-requires : tie.Need-operand-requires
+operand-requires c κs = search needs
+
+mark-requires-2 : tie.Need-mark-requires-2
+mark-requires-2 c κs = search needs
+
+name-requires : tie.Need-name-requires
+name-requires c κs = search needs
+
+metadata-requires : tie.Need-metadata-requires
+metadata-requires c κs = search needs
+
+mark-requires-3 : tie.Need-mark-requires-3
+mark-requires-3 c κs = search needs
+
+name-requires-2 : tie.Need-name-requires-2
+name-requires-2 c κs = search needs
+
+mark-requires-4 : tie.Need-mark-requires-4
+mark-requires-4 c κs = search needs
+
+name-requires-3 : tie.Need-name-requires-3
+name-requires-3 c κs = search needs
+
+end-requires : tie.Need-end-requires
+end-requires c κs = search needs
+
+answer-requires : tie.Need-answer-requires
+answer-requires c κs = search needs
 
 returns : tie.Need-returns
+unfolding mmaC
 returns c =
-    let a = c .before .before .before .before .before .before .before .before .before .args in
-    let s = a .s .now in
-    let f = c .before .before .before .before .before .before .before .front in
-    let m = c .before .before .before .before .mark in
-    let e = c .before .before .before .address in
-    let row = mma-sparse (a .ws) (a .kind) (seen s (a .k)) (frontSeen s (f .result)) (f .ensures) (seen s (m .result)) (addressSeen s (e .result)) (m .ensures) (e .ensures) in
-    rw (c .before .before .before .before .before .if1 .taken) (c .back .ensures ∙ ap (λ (t : Took Whole). told s t) row)
-
-back-requires-2 : tie.Need-back-requires-2
-back-requires-2 c κs = search needs
-
-returns-2 : tie.Need-returns-2
-returns-2 c =
-    let a = c .before .before .before .before .before .args in
-    let s = a .s .now in
-    let f = c .before .before .before .front in
-    let row = mma-dense (a .ws) (a .kind) (seen s (a .k)) (frontSeen s (f .result)) (f .ensures) in
-    rw (c .before .if1 .left) (c .back2 .ensures ∙ ap (λ (t : Took Whole). told s t) row)
+    let c₁ = c .before .before .before .before .before in
+    let c₂ = c₁ .before .before in
+    let c₃ = c₂ .before in
+    let c₄ = c₃ .before .before in
+    let c₅ = c₄ .before in
+    let c₆ = c₅ .before .before in
+    let c₇ = c₆ .before .before in
+    let c₈ = c₇ .before in
+    let c₉ = c₈ .before .before in
+    let c₁₀ = c₉ .before in
+    let c₁₁ = c₁₀ .before .before in
+    let a = c₁₁ .before .before .args in
+    rw (
+      mma-row (a .ws) (a .sp) (a .kind) (seen (a .s .now) (a .k)),
+      ← c₁₁ .address .ensures,
+      ← c₁₀ .mark .ensures,
+      ← c₉ .operand .ensures,
+      ← c₈ .mark2 .ensures,
+      ← c₇ .name .ensures,
+      ← c₆ .metadata .ensures,
+      ← c₅ .mark3 .ensures,
+      ← c₄ .name2 .ensures,
+      ← c₃ .mark4 .ensures,
+      ← c₂ .name3 .ensures,
+      ← c₁ .end .ensures,
+    ) (c .answer .ensures)
 
 pub multiply-spec : {M : Type 1} → statement M
 multiply-spec =
     tie.close
     (tie.spec
-    front-requires
-    mark-requires
     address-requires
-    back-requires
-    returns
-    back-requires-2
-    returns-2)
+    mark-requires
+    operand-requires
+    mark-requires-2
+    name-requires
+    metadata-requires
+    mark-requires-3
+    name-requires-2
+    mark-requires-4
+    name-requires-3
+    end-requires
+    answer-requires
+    returns)
