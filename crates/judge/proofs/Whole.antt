@@ -30,7 +30,8 @@ pub few-lines : (s : List ℕ) → oversize s ≡ false → lineCount s ≤ 4096
 unfolding oversize
 few-lines s e = ltb-false 4096 (lineCount s) (or-neither (ltb 65536 (length s)) (ltb 4096 (lineCount s)) e .1)
 
-never-1 : (P : Type 0) → Passing 1 → P
+-- reason 1 passes no sheet
+pub never-1 : (P : Type 0) → Passing 1 → P
 never-1 P (inl e) = absurd (omega (arith, e))
 never-1 P (inr e) = absurd (omega (arith, e))
 
@@ -47,8 +48,7 @@ module _ (s old : List ℕ) where
   pub too-large : oversize s ≡ true → (r : Judged) → (r .answer ≡ answer 1 0 0 0) × (r .starts ≡ 0) → Whole s old r old
   unfolding judgedOf startsAfter
   too-large o r e =
-      let q = e .0 ∙ sym (ap (λ (b : Bool). cond b (answer 1 0 0 0) (answerOf (sheetOf s) (length old))) o) in
-      (
+      let q = e .0 ∙ sym (ap (λ (b : Bool). cond b (answer 1 0 0 0) (answerOf (sheetOf s) (length old))) o) in (
         q,
         (
           counts r q (e .1 ∙ sym (ap (With s) (e .0))),

@@ -1,14 +1,14 @@
 -- The answer for any bytes: the bytes are a sheet of the rules, and reason 1 comes first. Assumes nothing.
 use Prim.Native.Nat.{ℕ, suc, _-_}
 use mathlib.Core.Path.{_≡_}
-use mathlib.Core.Bool.{cond}
+use mathlib.Core.Bool.{false, cond}
 use mathlib.Core.List.{List}
 use lib.Dec.{eqb}
 use lib.ListN.{length, take}
 use Rattle.lines.specs.Sheet.{contentAfter, lineCount, headed, oversize}
 use Rattle.rules.specs.declared.Answer.{Answer}
-use Rattle.rules.specs.Sheet.{Line, Sheet, answer, answerOf, startsOf, placesAfter}
-use Rattle.rules.specs.Claims.{Passing}
+use Rattle.rules.specs.Sheet.{Line, Sheet, ours, answer, answerOf, startsOf, placesAfter}
+use Rattle.rules.specs.Claims.{Passing, Passed}
 use Rattle.progress.specs.Going.{seen}
 use Rattle.run.specs.Run.{peakOf}
 use Rattle.run.specs.Demand3.{turnsOf, Demand3}
@@ -23,6 +23,10 @@ sheetOf s = record { header = headed s; line = linesOf s; count = lineCount s - 
 -- reason 1 first, then the answer of the rules
 unfoldable pub judgedOf : List ℕ → ℕ → Answer
 judgedOf s room = cond (oversize s) (answer 1 0 0 0) (answerOf (sheetOf s) room)
+
+-- the bytes are a passed sheet: not too large, the header is right, no rule is broken at any line, and exit is the last
+abbrev pub PassedBytes : List ℕ → Type 0
+PassedBytes s = (oversize s ≡ false) × Passed ours (sheetOf s)
 
 -- how many starts come with the answer: one for each alloc on a pass, else none
 unfoldable pub startCount : List ℕ → ℕ → ℕ

@@ -26,7 +26,8 @@ use Rattle.rules.specs.Claims.{AllKept, Passed, exits}
 use Rattle.rules.proofs.RuleLaws.{accepted}
 use Rattle.rules.proofs.RulesProved.{Clear, passing-clear, clear-passed, passed-figures}
 use Rattle.rules.proofs.FiguresProved.{figures-exact}
-use Rattle.judge.specs.Judged.{seen, linesOf, sheetOf, judgedOf, startsAfter}
+use Rattle.progress.specs.Going.{seen}
+use Rattle.judge.specs.Judged.{linesOf, sheetOf, judgedOf, startsAfter}
 use Rattle.report.specs.Report.{Reported, headText, rowsText, reportText, reportRoom}
 use Rattle.report.specs.Pieces.{fieldText}
 use Rattle.report.proofs.ReportLaws.{decimal-short, head-is}

@@ -2,6 +2,7 @@
 use Prim.Native.Nat.{ℕ, _+_, _-_, _<_, _≤_}
 use native.Mathlib.Omega.{arith}
 use native.Mathlib.Nat.{zero-add}
+use mathlib.Core.Logic.{inl, inr}
 use mathlib.Core.Path.{_≡_, sym, ap, _∙_}
 use mathlib.Core.List.{List, _++_}
 use mathlib.Core.Bool.{true, false}
@@ -12,6 +13,7 @@ use borrow.Author.Tests.{le-leb, lt-leb}
 use Rattle.lines.specs.Sheet.{lineCount}
 use Rattle.rules.specs.declared.Answer.{Answer}
 use Rattle.rules.specs.Sheet.{startsOf}
+use Rattle.rules.specs.Claims.{Passing}
 use Rattle.judge.specs.Judged.{linesOf, sheetOf, judgedOf, startsAfter}
 use Rattle.report.specs.Report.{Reported, headText, rowsText, putText, putEnd, reportRoom}
 use Rattle.report.proofs.ReportLaws.{sets-append, put-fits}
@@ -86,3 +88,8 @@ module _ (s room : List ℕ) (big : reportRoom ≤ length room) (n : ℕ) (c : n
         let w = rowsText (rowsUpTo (linesOf s) st (lineCount s - 1)) in
         let b : sets t at w ≡ sets room 0 (headOf s ++ w) = rw (head-there .1, head-there .0, ← sets-append room 0 (headOf s) w, zero-add) in
         all-put s room u (a .reason) m big reason-is (omega (arith, f, head-there .0, ap length whole, length-append (headOf s) w)) (g ∙ (b ∙ ap (sets room 0) (sym whole)))
+
+-- reason 19 passes no sheet
+pub none-19 : (P : Type 0) → Passing 19 → P
+none-19 P (inl e) = absurd (omega (arith, e))
+none-19 P (inr e) = absurd (omega (arith, e))

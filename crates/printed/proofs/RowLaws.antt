@@ -6,22 +6,28 @@ use native.Mathlib.Nat.{add-zero}
 use mathlib.Core.Path.{_≡_, refl, sym, ap, _∙_, subst}
 use mathlib.Core.List.{List, [], _∷_, _++_, append-assoc, append-nil}
 use mathlib.Core.Bool.{Bool, true, false, cond}
+use mathlib.Core.Option.{Option, none, some}
 use lib.ListN.{length, getD, take, drop, length-append}
 use lib.Seq.{sets, length-sets}
 use lib.Dec.{eqb, leb}
 use borrow.Author.Tests.{leb-true, leb-false}
+use types.Run.{OneOf, miss}
+use denote.Enum.Declared.{tagOf}
 use Rattle.tokens.specs.Bytes.{pick}
+use Rattle.statement.proofs.Statement.{the-type}
 use Rattle.statement.specs.Reading.{readOf}
 use Rattle.statement.specs.declared.Reading.{Reading}
 use Rattle.statement.specs.declared.Reading.the-variants.{Got, NoForm, TooLarge}
 use Rattle.statement.specs.declared.Statement.{Statement}
 use Rattle.statement.specs.declared.Statement.the-variants.{Mov32, Mov64, Alloc, Dealloc, Relinquish, Load, Store, WaitLoad, WaitStore, FenceBefore, FenceAfter, Multiply, Exit}
+use Rattle.statement.specs.Views.{Ask, requestOf, of}
 use Rattle.statement.proofs.Readings.{Unread}
-use Rattle.lines.specs.Sheet.{Content, laid, contentAfter, lineCount, lineAt, headed}
+use Rattle.lines.specs.Sheet.{Content, laid, contentAfter, lineCount, lineAt, headed, bodyAt, After}
 use Rattle.lines.specs.declared.Line as found
-use Rattle.lines.proofs.SheetTheorems.{After, after-header, one-more, all-done, step-laid, step-after}
+use Rattle.lines.proofs.SheetTheorems.{after-header, one-more, all-done, step-laid, step-after}
 use Rattle.rules.specs.Sheet.{Line, badLayout, noForm, tooLarge, statement, lineOf}
-use Rattle.judge.specs.Judged.{seen, linesOf}
+use Rattle.progress.specs.Going.{seen}
+use Rattle.judge.specs.Judged.{linesOf}
 use Rattle.report.specs.Report.{Reported, rowText, rowsText, putText, putEnd}
 use Rattle.report.proofs.ReportLaws.{sets-append, put-fits}
 use Rattle.printed.specs.declared.Asked.{Asked}
@@ -34,6 +40,26 @@ use Rattle.printed.specs.Printed.{rowOf, rowsUpTo}
 abbrev pub rowBy : Asked → ℕ → List Reported
 rowBy a start = pick (a .ok) (record { name = a .name; start = start; columns = a .columns } ∷ []) []
 
+-- every statement but an alloc asks for nothing
+abbrev pub others : List ℕ
+others = 0 ∷ 1 ∷ 3 ∷ 4 ∷ 5 ∷ 6 ∷ 7 ∷ 8 ∷ 9 ∷ 10 ∷ 11 ∷ 12 ∷ []
+
+pub alloc-other : (t : Statement) → OneOf others (tagOf the-type t) → noAlloc ≡ allocOf t
+unfolding allocOf
+alloc-other (Mov32 n v) h = refl
+alloc-other (Mov64 n v) h = refl
+alloc-other (Alloc n v) h = absurd (miss others 2 tt h)
+alloc-other (Dealloc n v) h = refl
+alloc-other Relinquish h = refl
+alloc-other (Load a) h = refl
+alloc-other (Store a) h = refl
+alloc-other WaitLoad h = refl
+alloc-other WaitStore h = refl
+alloc-other FenceBefore h = refl
+alloc-other FenceAfter h = refl
+alloc-other (Multiply m) h = refl
+alloc-other Exit h = refl
+
 no-form : (x : ℕ) → rowOf noForm x ≡ []
 unfolding rowOf
 no-form x = refl
@@ -42,21 +68,14 @@ too-large : (x : ℕ) → rowOf tooLarge x ≡ []
 unfolding rowOf
 too-large x = refl
 
+row-by : (o : Option Ask) (x : ℕ)
+    → of o (λ r. record { name = r .name; start = x; columns = r .columns } ∷ []) [] ≡ rowBy (of o (λ r. record { ok = true; name = r .name; columns = r .columns }) noAlloc) x
+row-by none x = refl
+row-by (some r) x = refl
+
 statement-row : (w : ℕ) (t : Statement) (x : ℕ) → rowOf (statement w t) x ≡ rowBy (allocOf t) x
 unfolding rowOf allocOf
-statement-row w (Mov32 n v) x = refl
-statement-row w (Mov64 n v) x = refl
-statement-row w (Alloc n v) x = refl
-statement-row w (Dealloc n v) x = refl
-statement-row w Relinquish x = refl
-statement-row w (Load a) x = refl
-statement-row w (Store a) x = refl
-statement-row w WaitLoad x = refl
-statement-row w WaitStore x = refl
-statement-row w FenceBefore x = refl
-statement-row w FenceAfter x = refl
-statement-row w (Multiply m) x = refl
-statement-row w Exit x = refl
+statement-row w t x = row-by (requestOf t) x
 
 -- a text that does not read asks for nothing
 pub alloc-unread : (r : Reading) → Unread r → noAlloc ≡ allocIn r
@@ -85,24 +104,16 @@ one-row : (a : Reported) → rowsText (a ∷ []) ≡ rowText (a .name) (a .start
 unfolding rowsText
 one-row a = append-nil (rowText (a .name) (a .start) (a .columns))
 
+few-by : (o : Option Ask) (x : ℕ) → length {A = Reported} (of o (λ r. record { name = r .name; start = x; columns = r .columns } ∷ []) []) ≤ 1
+few-by none x = omega arith
+few-by (some r) x = omega arith
+
 row-le : (x : Line) (v : ℕ) → length (rowOf x v) ≤ 1
 unfolding rowOf
 row-le badLayout v = omega arith
 row-le noForm v = omega arith
 row-le tooLarge v = omega arith
-row-le (statement w (Mov32 n c)) v = omega arith
-row-le (statement w (Mov64 n c)) v = omega arith
-row-le (statement w (Alloc n c)) v = omega arith
-row-le (statement w (Dealloc n c)) v = omega arith
-row-le (statement w Relinquish) v = omega arith
-row-le (statement w (Load a)) v = omega arith
-row-le (statement w (Store a)) v = omega arith
-row-le (statement w WaitLoad) v = omega arith
-row-le (statement w WaitStore) v = omega arith
-row-le (statement w FenceBefore) v = omega arith
-row-le (statement w FenceAfter) v = omega arith
-row-le (statement w (Multiply m)) v = omega arith
-row-le (statement w Exit) v = omega arith
+row-le (statement w t) v = few-by (requestOf t) v
 
 module _ (line : ℕ → Line) (starts : List ℕ) where
   abbrev upTo : ℕ → List Reported
@@ -154,7 +165,7 @@ pub record Upto (s starts old : List ℕ) (from at next k : ℕ) (room : List �
   pub ends : next ≡ from + length (rowsText (rowsUpTo (linesOf s) starts lines))
   pub holds : room ≡ sets old from (rowsText (rowsUpTo (linesOf s) starts lines))
 
-pub upto-first : (s starts old : List ℕ) (from : ℕ) → headed s ≡ true → Upto s starts old from 16 from 0 old
+pub upto-first : (s starts old : List ℕ) (from : ℕ) → headed s ≡ true → Upto s starts old from bodyAt from 0 old
 unfolding rowsUpTo rowsText
 upto-first s starts old from h = record { lines = 0; place = after-header s h; rows = refl; ends = sym (add-zero from); holds = refl }
 

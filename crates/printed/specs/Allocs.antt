@@ -3,7 +3,7 @@ use mathlib.Core.Bool.{true, false}
 use Rattle.statement.specs.declared.Reading.{Reading}
 use Rattle.statement.specs.declared.Reading.the-variants.{Got, NoForm, TooLarge}
 use Rattle.statement.specs.declared.Statement.{Statement}
-use Rattle.statement.specs.declared.Statement.the-variants.{Mov32, Mov64, Alloc, Dealloc, Relinquish, Load, Store, WaitLoad, WaitStore, FenceBefore, FenceAfter, Multiply, Exit}
+use Rattle.statement.specs.Views.{requestOf, of}
 use Rattle.printed.specs.declared.Asked.{Asked}
 
 -- no alloc
@@ -12,19 +12,7 @@ noAlloc = record { ok = false; name = record { hi = 0; lo = 0 }; columns = 0 }
 
 -- the name and the columns of an alloc
 unfoldable pub allocOf : Statement → Asked
-allocOf (Mov32 n v) = noAlloc
-allocOf (Mov64 n v) = noAlloc
-allocOf (Alloc n v) = record { ok = true; name = n; columns = v }
-allocOf (Dealloc n v) = noAlloc
-allocOf Relinquish = noAlloc
-allocOf (Load a) = noAlloc
-allocOf (Store a) = noAlloc
-allocOf WaitLoad = noAlloc
-allocOf WaitStore = noAlloc
-allocOf FenceBefore = noAlloc
-allocOf FenceAfter = noAlloc
-allocOf (Multiply m) = noAlloc
-allocOf Exit = noAlloc
+allocOf t = of (requestOf t) (λ r. record { ok = true; name = r .name; columns = r .columns }) noAlloc
 
 -- a text that does not read is no alloc
 abbrev pub allocIn : Reading → Asked

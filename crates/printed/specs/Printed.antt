@@ -1,4 +1,4 @@
--- What the program prints for a sheet (document 01, 'A sheet given whole'): the four numbers of the answer, and on a pass a row for each alloc.
+-- What the program prints for a sheet: the four numbers of the answer, and on a pass a row for each alloc.
 -- Assumes nothing.
 use Prim.Native.Nat.{ℕ, zero, suc, _-_}
 use mathlib.Core.List.{List, [], _∷_, _++_}
@@ -6,10 +6,12 @@ use lib.ListN.{length, getD}
 use lib.Seq.{sets}
 use lib.Dec.{leb}
 use Rattle.tokens.specs.Bytes.{pick}
-use Rattle.statement.specs.declared.Statement.the-variants.{Mov32, Mov64, Alloc, Dealloc, Relinquish, Load, Store, WaitLoad, WaitStore, FenceBefore, FenceAfter, Multiply, Exit}
+use Rattle.statement.specs.Views.{requestOf, of}
 use Rattle.lines.specs.Sheet.{lineCount}
 use Rattle.rules.specs.declared.Answer.{Answer}
 use Rattle.rules.specs.Sheet.{Line, badLayout, noForm, tooLarge, statement, startsOf}
+use Rattle.rules.specs.Claims.{Passing}
+use Rattle.run.specs.Demand3.{Demand3}
 use Rattle.judge.specs.Judged.{linesOf, sheetOf, judgedOf}
 use Rattle.report.specs.Report.{Reported, reportText, reportRoom}
 use Rattle.printed.specs.declared.Printed.{Printed}
@@ -19,19 +21,7 @@ unfoldable pub rowOf : Line → ℕ → List Reported
 rowOf badLayout start = []
 rowOf noForm start = []
 rowOf tooLarge start = []
-rowOf (statement w (Mov32 n v)) start = []
-rowOf (statement w (Mov64 n v)) start = []
-rowOf (statement w (Alloc n v)) start = record { name = n; start = start; columns = v } ∷ []
-rowOf (statement w (Dealloc n v)) start = []
-rowOf (statement w Relinquish) start = []
-rowOf (statement w (Load a)) start = []
-rowOf (statement w (Store a)) start = []
-rowOf (statement w WaitLoad) start = []
-rowOf (statement w WaitStore) start = []
-rowOf (statement w FenceBefore) start = []
-rowOf (statement w FenceAfter) start = []
-rowOf (statement w (Multiply m)) start = []
-rowOf (statement w Exit) start = []
+rowOf (statement w t) start = of (requestOf t) (λ r. record { name = r .name; start = start; columns = r .columns } ∷ []) []
 
 -- the rows of the first k lines after line 1, in order: each alloc takes the next start
 unfoldable pub rowsUpTo : (ℕ → Line) → List ℕ → ℕ → List Reported
@@ -59,3 +49,7 @@ printedOf s room = pick (leb reportRoom room) (record { reason = answered s .rea
 -- the room afterwards: the report over its first places; too small a room as it was
 unfoldable pub roomAfter : List ℕ → List ℕ → List ℕ
 roomAfter s old = pick (leb reportRoom (length old)) (sets old 0 (reportOf s)) old
+
+-- demand 3, of every sheet whose printed reason passes it
+abbrev pub RunPrinted : List ℕ → ℕ → Type 0
+RunPrinted s reason = Passing reason → Demand3 (sheetOf s)

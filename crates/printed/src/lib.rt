@@ -10,7 +10,7 @@ ghost use Rattle.statement.specs.Reading.{readOf};
 ghost use Rattle.lines.specs.Sheet.{lineCount};
 ghost use Rattle.report.specs.Report.{rowsText, reportRoom};
 ghost use Rattle.judge.specs.Judged.{linesOf, judgedOf};
-ghost use Rattle.printed.specs.Printed.{rowsUpTo, printedOf, roomAfter};
+ghost use Rattle.printed.specs.Printed.{rowsUpTo, printedOf, roomAfter, RunPrinted};
 ghost use Rattle.printed.specs.Allocs.{noAlloc, allocOf, allocIn};
 
 // The sheet's reason (0 passed), and how many bytes its report has. Where the room is too short: 19, and 0.
@@ -47,18 +47,7 @@ fn alloc_of(t: Statement) -> Asked
             name,
             columns,
         },
-        Statement::Mov32(_, _) => no_alloc(),
-        Statement::Mov64(_, _) => no_alloc(),
-        Statement::Dealloc(_, _) => no_alloc(),
-        Statement::Relinquish => no_alloc(),
-        Statement::Load(_) => no_alloc(),
-        Statement::Store(_) => no_alloc(),
-        Statement::WaitLoad => no_alloc(),
-        Statement::WaitStore => no_alloc(),
-        Statement::FenceBefore => no_alloc(),
-        Statement::FenceAfter => no_alloc(),
-        Statement::Multiply(_) => no_alloc(),
-        Statement::Exit => no_alloc(),
+        _ => no_alloc(),
     }
 }
 
@@ -120,19 +109,20 @@ pub fn print(sheet: &[u8], room: &mut [u8]) -> Printed
     ensures answer { λ r. ⌜ r ≡ printedOf (now (sheet .entry)) (length (now (room .entry))) ⌝ }
     ensures places { λ r. ⌜ now (room .exit) ≡ roomAfter (now (sheet .entry)) (now (room .entry)) ⌝ }
     ensures fits { λ r. ⌜ r .length ≤ reportRoom ⌝ }
+    ensures run { λ r. ⌜ RunPrinted (now (sheet .entry)) (r .reason) ⌝ }
 {
     if room.len() < 102391 {
         return Printed {
-            reason: 19,
+            reason: reasons::ROOM,
             length: 0,
         };
     }
     let mut starts = [0u16; 4096];
-    let a = judge::judge(sheet, &mut starts);
-    let reason = a.reason;
-    let line = a.line as u64;
-    let held = a.held;
-    let peak = a.peak;
+    let judged = judge::judge(sheet, &mut starts);
+    let reason = judged.answer.reason;
+    let line = judged.answer.line as u64;
+    let held = judged.answer.held;
+    let peak = judged.answer.peak;
     let at = report::head(&mut *room, 0, wider(reason), line, wider(held), wider(peak));
     if reason != 0 {
         return Printed { reason, length: at };

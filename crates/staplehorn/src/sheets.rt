@@ -3,7 +3,7 @@ use rules::Answer;
 ghost use mathlib.Core.Path.{_≡_};
 ghost use lib.ListN.{length};
 ghost use Rattle.judge.specs.Judged.{judgedOf, startsAfter, RunKept};
-ghost use Rattle.printed.specs.Printed.{printedOf, roomAfter};
+ghost use Rattle.printed.specs.Printed.{printedOf, roomAfter, RunPrinted};
 ghost use Rattle.staplehorn.specs.Sheets.{numbers, answerIn};
 
 // The answer for a sheet: its reason, and its four numbers; on a pass the first places of `starts` are those of the allocs.
@@ -14,11 +14,11 @@ pub extern "C" fn staplehorn_judge(sheet: &[u8], starts: &mut [u16], answer: &mu
     ensures places { λ r. ⌜ now (starts .exit) ≡ startsAfter (now (sheet .entry)) (now (starts .entry)) ⌝ }
     ensures run { λ r. ⌜ RunKept (now (sheet .entry)) (answerIn (now (answer .exit))) (now (starts .exit)) ⌝ }
 {
-    let a = judge::judge(sheet, starts);
-    let line = a.line as u32;
-    let reason = a.reason;
-    let held = a.held;
-    let peak = a.peak;
+    let judged = judge::judge(sheet, starts);
+    let line = judged.answer.line as u32;
+    let reason = judged.answer.reason;
+    let held = judged.answer.held;
+    let peak = judged.answer.peak;
     *answer = [reason, line, held, peak];
     reason
 }
@@ -29,6 +29,7 @@ pub extern "C" fn staplehorn_report(sheet: &[u8], room: &mut [u8], size: &mut us
     ensures reason { λ r. ⌜ r ≡ printedOf (now (sheet .entry)) (length (now (room .entry))) .reason ⌝ }
     ensures size { λ r. ⌜ now (size .exit) ≡ printedOf (now (sheet .entry)) (length (now (room .entry))) .length ⌝ }
     ensures room { λ r. ⌜ now (room .exit) ≡ roomAfter (now (sheet .entry)) (now (room .entry)) ⌝ }
+    ensures run { λ r. ⌜ RunPrinted (now (sheet .entry)) r ⌝ }
 {
     let p = printed::print(sheet, room);
     let n = p.length;

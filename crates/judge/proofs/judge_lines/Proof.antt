@@ -48,8 +48,7 @@ returns c =
     let t = c .before .before .before .before .before .before .before .before .before .before .before .before .before .loop-test .taken in
     let x = c .before .before .before .before .advance in
     let z = c .before .if1 .taken in
-    let r = c .refused in
-    (
+    let r = c .refused in (
       r .ensures .0 ∙ refuses (a .args .sheet .now) _ _ _ _ _ (l .inv) t _ _ _ (x .ensures .0) z (a .args .room) (a .pre .0),
       (
         refused-count (a .args .sheet .now) _ _ z (r .ensures .0) _ (r .ensures .1),
@@ -84,8 +83,7 @@ returns-2 c =
     let a = c .before .before .before .before .before .before .before .before .before .before .before .before .before .before in
     let l = c .before .before .loop in
     let t = c .before .loop-test .left in
-    let r = c .finish in
-    (
+    let r = c .finish in (
       r .ensures .0 ∙ ends (a .args .sheet .now) _ _ _ _ _ (l .inv) t (a .args .room) (a .pre .0),
       ends-counted (a .args .sheet .now) _ _ _ _ _ (l .inv) t (a .pre .1) (a .pre .2) (r .result .answer) (r .result .starts) (r .ensures .1),
     )

@@ -24,7 +24,7 @@ same-length c = search needs
 returns : tie.Need-returns
 returns c =
     let p = c .before .before .before .before .judge .ensures in
-    (ap (λ (x : Answer). x .reason) (p .0), (ap numbers (p .0), (p .1 .0, p .1 .1)))
+    (ap (λ (x : Answer). x .reason) (p .0), (ap numbers (p .0), (p .1 .1 .0, p .1 .1 .1)))
 
 pub staplehorn-judge-spec : {M : Type 1} → statement M
 staplehorn-judge-spec = tie.close (tie.spec judge-requires cast-line same-length returns)

@@ -14,7 +14,7 @@ same-length c = search needs
 returns : tie.Need-returns
 returns c =
     let p = c .before .before .print .ensures in
-    (ap (λ (x : Printed). x .reason) (p .0), (ap (λ (x : Printed). x .length) (p .0), p .1 .0))
+    (ap (λ (x : Printed). x .reason) (p .0), (ap (λ (x : Printed). x .length) (p .0), (p .1 .0, p .1 .1 .1)))
 
 pub staplehorn-report-spec : {M : Type 1} → statement M
 staplehorn-report-spec = tie.close (tie.spec print-requires same-length returns)
