@@ -4,12 +4,12 @@ use native.Mathlib.Omega.{arith}
 use native.Mathlib.Nat.{add-suc, suc-add, add-zero, pow-suc}
 use mathlib.Core.Path.{_≡_, refl, sym, ap, _∙_}
 use mathlib.Core.List.{List, [], _∷_, _++_, append-assoc, append-nil}
-use mathlib.Core.Bool.{Bool, true, false, _&&_, _||_, and-false}
+use mathlib.Core.Bool.{Bool, true, false, _&&_, _||_, and-false, cond}
 use lib.ListN.{length, take, drop, length-take, length-drop, length-append, take-append-drop}
 use lib.Dec.{ltb, leb, eqb}
 use borrow.Author.Tests.{eq-eqb, ne-eqb, eqb-true, leb-true, le-leb, lt-ltb}
 use Rattle.tokens.specs.declared.Name.{Name}
-use Rattle.tokens.specs.Bytes.{pick, between, letter, wordByte, all}
+use Rattle.tokens.specs.Bytes.{between, letter, wordByte, all}
 use Rattle.tokens.specs.Names.{sigil, isName, byteDigits, packed, lowBytes, strip, nameBytes, sameName, nameGiven}
 use Rattle.tokens.specs.Numbers.{digitOf, isDigit, positional, hexMark, someDigits, zeroLed, isNumber, valueOf, lowDigits, trimmed, decimal}
 use Rattle.laws.proofs.BoolLaws.{and-split, never}
@@ -166,7 +166,7 @@ record Trimmed (l d : List ℕ) : Type 0 where
   short : length d ≤ length l
   lead : zeroLed d ≡ false
 
-trim-by : (b : Bool) (x y : ℕ) (l : List ℕ) → eqb x 48 ≡ b → all (isDigit 10) (x ∷ (y ∷ l)) ≡ true → Trimmed (y ∷ l) (trimmed (y ∷ l)) → Trimmed (x ∷ (y ∷ l)) (pick b (trimmed (y ∷ l)) (x ∷ (y ∷ l)))
+trim-by : (b : Bool) (x y : ℕ) (l : List ℕ) → eqb x 48 ≡ b → all (isDigit 10) (x ∷ (y ∷ l)) ≡ true → Trimmed (y ∷ l) (trimmed (y ∷ l)) → Trimmed (x ∷ (y ∷ l)) (cond b (trimmed (y ∷ l)) (x ∷ (y ∷ l)))
 unfolding zeroLed digitOf
 trim-by true x y l e h i = record { value = i .value ∙ (rw (eqb-true x 48 e)); digits = i .digits; some = i .some; short = omega (arith, i .short); lead = i .lead }
 trim-by false x y l e h i = record { value = refl; digits = h; some = omega arith; short = omega arith; lead = rw e }

@@ -3,13 +3,13 @@ use Prim.Native.Nat.{ℕ, _-_, _≤_}
 use native.Mathlib.Omega.{arith}
 use mathlib.Core.Path.{_≡_, refl, sym, ap, _∙_, pathJ}
 use mathlib.Core.List.{List, [], _∷_, _++_}
-use mathlib.Core.Bool.{Bool, true, false, _&&_, not}
+use mathlib.Core.Bool.{Bool, true, false, _&&_, not, cond}
 use lib.ListN.{length, take, drop, take-append-drop}
 use lib.Seq.{take-append-seam, drop-append-seam}
 use lib.Dec.{leb}
 use borrow.Author.Tests.{le-leb, leb-true}
 use Rattle.tokens.specs.declared.Name.{Name}
-use Rattle.tokens.specs.Bytes.{pick, opcodeByte, runLen}
+use Rattle.tokens.specs.Bytes.{opcodeByte, runLen}
 use Rattle.tokens.specs.Cursors.{Rest, Took}
 use Rattle.statement.specs.declared.Address.{Address}
 use Rattle.statement.specs.declared.Operand.{Operand}
@@ -49,7 +49,7 @@ over-stays : (ks : List Slot) (vs : Values ks) → overRow ks vs true ≡ true
 over-stays [] vs = refl
 over-stays (k ∷ ks) vs = go (sizedSlot k (vs .0)) (over-stays ks (vs .1))
   where
-    go : (b : Bool) → overRow ks (vs .1) true ≡ true → overRow ks (vs .1) (pick b true true) ≡ true
+    go : (b : Bool) → overRow ks (vs .1) true ≡ true → overRow ks (vs .1) (cond b true true) ≡ true
     go true h = h
     go false h = h
 
@@ -57,7 +57,7 @@ over-stays (k ∷ ks) vs = go (sizedSlot k (vs .0)) (over-stays ks (vs .1))
 pub over-none : (k : Slot) (ks : List Slot) (vs : Values (k ∷ ks)) (o : Bool) → overRow (k ∷ ks) vs o ≡ false → (sizedSlot k (vs .0) ≡ true) × (overRow ks (vs .1) o ≡ false)
 over-none k ks vs o h = go (sizedSlot k (vs .0)) h
   where
-    go : (b : Bool) → overRow ks (vs .1) (pick b o true) ≡ false → (b ≡ true) × (overRow ks (vs .1) o ≡ false)
+    go : (b : Bool) → overRow ks (vs .1) (cond b o true) ≡ false → (b ≡ true) × (overRow ks (vs .1) o ≡ false)
     go true g = (refl, g)
     go false g = never (sym g ∙ over-stays ks (vs .1))
 
@@ -73,7 +73,7 @@ over-not : (ks : List Slot) (vs : Values ks) → overRow ks vs false ≡ not (si
 over-not [] vs = refl
 over-not (k ∷ ks) vs = go (sizedSlot k (vs .0)) (over-not ks (vs .1))
   where
-    go : (b : Bool) → overRow ks (vs .1) false ≡ not (sizedRow ks (vs .1)) → overRow ks (vs .1) (pick b false true) ≡ not (b && sizedRow ks (vs .1))
+    go : (b : Bool) → overRow ks (vs .1) false ≡ not (sizedRow ks (vs .1)) → overRow ks (vs .1) (cond b false true) ≡ not (b && sizedRow ks (vs .1))
     go true h = h
     go false h = over-stays ks (vs .1)
 
@@ -183,7 +183,7 @@ unfolding readOf answerOf
 none-three text h = go (leb (length text) 4096) (wholeC text .next .ok) refl refl
   where
     go : (b c : Bool) → leb (length text) 4096 ≡ b → wholeC text .next .ok ≡ c
-        → reasonOf (pick b (pick c (pick (wholeC text .next .over) (TooLarge (length text - length (wholeC text .next .far))) (Got (wholeC text .value .statement))) (NoForm (length text - length (wholeC text .next .rest)))) (NoForm 4096)) ≡ 3
+        → reasonOf (cond b (cond c (cond (wholeC text .next .over) (TooLarge (length text - length (wholeC text .next .far))) (Got (wholeC text .value .statement))) (NoForm (length text - length (wholeC text .next .rest)))) (NoForm 4096)) ≡ 3
     go true true p q = let s = read-spells text q in absurd (h (leb-true (length text) 4096 p) (s .0) (s .1))
     go true false p q = refl
     go false c p q = refl

@@ -3,13 +3,13 @@ use Prim.Native.Nat.{ℕ, zero, suc, _-_, _<_, _≤_}
 use native.Mathlib.Omega.{arith}
 use mathlib.Core.Path.{_≡_, refl, sym, ap, _∙_}
 use mathlib.Core.List.{List, [], _∷_, _++_}
-use mathlib.Core.Bool.{Bool, true, false, _&&_, _||_, not, true≢false, or-true}
+use mathlib.Core.Bool.{Bool, true, false, _&&_, _||_, not, true≢false, or-true, cond}
 use lib.ListN.{length, take, drop, take-append-drop}
 use lib.Seq.{take-append-seam, drop-append-seam}
 use lib.Dec.{eqb, leb, ltb}
 use borrow.Author.Tests.{eq-eqb, le-leb, eqb-true, eqb-false, leb-true, ltb-true}
 use Rattle.tokens.specs.declared.Name.{Name}
-use Rattle.tokens.specs.Bytes.{pick, between, letter, wordByte, blank, runLen, all, afterBlanks, tokenLen, tokenOf, afterToken}
+use Rattle.tokens.specs.Bytes.{between, letter, wordByte, blank, runLen, all, afterBlanks, tokenLen, tokenOf, afterToken}
 use Rattle.tokens.specs.Names.{sigil, isName, packed, noName}
 use Rattle.tokens.specs.Numbers.{digitOf, isDigit, hexMark, someDigits, zeroLed, isNumber, valueOf}
 use Rattle.tokens.specs.Cursors.{Rest, on, off, large, Took, markHere, markC, endC, nameHere, nameC, numberIs, numberHere, numberC}
@@ -25,7 +25,7 @@ blanks-parts [] = refl
 blanks-parts (x ∷ l) = go (eqb x 32) refl (blanks-parts l)
   where
     go : (b : Bool) → eqb x 32 ≡ b → l ≡ spaces (runLen blank l) ++ drop (runLen blank l) l
-        → x ∷ l ≡ spaces (pick b (suc (runLen blank l)) 0) ++ drop (pick b (suc (runLen blank l)) 0) (x ∷ l)
+        → x ∷ l ≡ spaces (cond b (suc (runLen blank l)) 0) ++ drop (cond b (suc (runLen blank l)) 0) (x ∷ l)
     go true e i = rw (eqb-true x 32 e) (ap (λ (w : List ℕ). 32 ∷ w) i)
     go false e i = refl
 
@@ -39,7 +39,7 @@ mark-here : (m : ℕ) (r : Rest) (l : List ℕ) → markHere m r l .ok ≡ true 
 mark-here m r [] h = never h
 mark-here m r (x ∷ l) h = go (eqb x m) refl h
   where
-    go : (b : Bool) → eqb x m ≡ b → pick b (on r l) (off r (x ∷ l)) .ok ≡ true → x ∷ l ≡ m ∷ pick b (on r l) (off r (x ∷ l)) .rest
+    go : (b : Bool) → eqb x m ≡ b → cond b (on r l) (off r (x ∷ l)) .ok ≡ true → x ∷ l ≡ m ∷ cond b (on r l) (off r (x ∷ l)) .rest
     go true e k = rw (eqb-true x m e)
     go false e k = never k
 
@@ -47,7 +47,7 @@ pub mark-sound : (m : ℕ) (r : Rest) → markC m r .ok ≡ true → (r .ok ≡ 
 unfolding markC
 mark-sound m r h = go (r .ok) refl h
   where
-    go : (b : Bool) → r .ok ≡ b → pick b (markHere m r (afterBlanks (r .rest))) r .ok ≡ true → (b ≡ true) × Mark m (r .rest) (pick b (markHere m r (afterBlanks (r .rest))) r .rest)
+    go : (b : Bool) → r .ok ≡ b → cond b (markHere m r (afterBlanks (r .rest))) r .ok ≡ true → (b ≡ true) × Mark m (r .rest) (cond b (markHere m r (afterBlanks (r .rest))) r .rest)
     go true e k = (
       refl,
       record {
@@ -142,7 +142,7 @@ word-at (x ∷ u) l r g k =
 head-starts : (l : List ℕ) → whole (tokenOf l) ≡ true → runLen wordByte (afterToken l) ≡ 0
 unfolding whole tokenOf afterToken tokenLen
 head-starts [] h = refl
-head-starts (x ∷ l) h = let p = and-split (starts x) (all wordByte (take (pick (starts x) (runLen wordByte l) 0) l)) h in rw (p .0) (run-ends wordByte l)
+head-starts (x ∷ l) h = let p = and-split (starts x) (all wordByte (take (cond (starts x) (runLen wordByte l) 0) l)) h in rw (p .0) (run-ends wordByte l)
 
 pub token-parts : (l : List ℕ) → l ≡ tokenOf l ++ afterToken l
 unfolding tokenOf afterToken
@@ -208,7 +208,7 @@ pub number-whole : (w : List ℕ) → isNumber w ≡ true → whole w ≡ true
 unfolding isNumber someDigits
 number-whole w h = go (hexMark w) refl h
   where
-    go : (b : Bool) → hexMark w ≡ b → pick b (someDigits 16 (drop 2 w)) (not (zeroLed w) && someDigits 10 w) ≡ true → whole w ≡ true
+    go : (b : Bool) → hexMark w ≡ b → cond b (someDigits 16 (drop 2 w)) (not (zeroLed w) && someDigits 10 w) ≡ true → whole w ≡ true
     go true e k = hex-whole w e k
     go false e k =
         let p = and-split (not (zeroLed w)) (someDigits 10 w) k in
@@ -220,7 +220,7 @@ name-here : (r : Rest) (l : List ℕ) → nameHere r (afterBlanks l) .next .ok �
 name-here r l h = go (isName (tokenOf (afterBlanks l))) refl h
   where
     took : Bool → Took Name
-    took b = pick b (record { value = packed (tokenOf (afterBlanks l)); next = on r (afterToken (afterBlanks l)) }) (record { value = noName; next = off r (afterBlanks l) })
+    took b = cond b (record { value = packed (tokenOf (afterBlanks l)); next = on r (afterToken (afterBlanks l)) }) (record { value = noName; next = off r (afterBlanks l) })
 
     go : (b : Bool) → isName (tokenOf (afterBlanks l)) ≡ b → took b .next .ok ≡ true → NameText (took b .value) l (took b .next .rest)
     go true e k = record { bytes = tokenOf (afterBlanks l); spelled = word-sound l (name-whole (tokenOf (afterBlanks l)) e); good = e; value = refl }
@@ -231,7 +231,7 @@ unfolding nameC
 name-sound r h = go (r .ok) refl h
   where
     took : Bool → Took Name
-    took b = pick b (nameHere r (afterBlanks (r .rest))) (record { value = noName; next = r })
+    took b = cond b (nameHere r (afterBlanks (r .rest))) (record { value = noName; next = r })
 
     go : (b : Bool) → r .ok ≡ b → took b .next .ok ≡ true → (b ≡ true) × NameText (took b .value) (r .rest) (took b .next .rest)
     go true e k = (refl, name-here r (r .rest) k)
@@ -247,7 +247,7 @@ name-complete n l r o f k =
 number-is : (limit : ℕ) (r : Rest) (l : List ℕ) (v : ℕ) → numberIs limit r l v .next .rest ≡ afterToken l
 number-is limit r l v = go (leb v limit)
   where
-    go : (b : Bool) → pick {A = Took ℕ} b (record { value = v; next = on r (afterToken l) }) (record { value = 0; next = large r l }) .next .rest ≡ afterToken l
+    go : (b : Bool) → cond {A = Took ℕ} b (record { value = v; next = on r (afterToken l) }) (record { value = 0; next = large r l }) .next .rest ≡ afterToken l
     go true = refl
     go false = refl
 
@@ -255,7 +255,7 @@ number-here : (limit : ℕ) (r : Rest) (l : List ℕ) → numberHere limit r (af
 number-here limit r l h = go (isNumber (tokenOf (afterBlanks l))) refl h
   where
     took : Bool → Took ℕ
-    took b = pick b (numberIs limit r (afterBlanks l) (valueOf (tokenOf (afterBlanks l)))) (record { value = 0; next = off r (afterBlanks l) })
+    took b = cond b (numberIs limit r (afterBlanks l) (valueOf (tokenOf (afterBlanks l)))) (record { value = 0; next = off r (afterBlanks l) })
 
     go : (b : Bool) → isNumber (tokenOf (afterBlanks l)) ≡ b → took b .next .ok ≡ true → (v : ℕ) × NumberText v l (took b .next .rest)
     go true e k = (
@@ -270,7 +270,7 @@ unfolding numberC
 number-sound limit r h = go (r .ok) refl h
   where
     took : Bool → Took ℕ
-    took b = pick b (numberHere limit r (afterBlanks (r .rest))) (record { value = 0; next = r })
+    took b = cond b (numberHere limit r (afterBlanks (r .rest))) (record { value = 0; next = r })
 
     go : (b : Bool) → r .ok ≡ b → took b .next .ok ≡ true → (b ≡ true) × (v : ℕ) × NumberText v (r .rest) (took b .next .rest)
     go true e k = let p = number-here limit r (r .rest) k in (refl, p .0, p .1)
@@ -283,18 +283,18 @@ pub record Reads {A : Type 0} (t : Took A) (v : A) (l : List ℕ) (o : Bool) : T
 
 -- the number as it is read, 0 for one over the limit
 abbrev pub cut : ℕ → ℕ → ℕ
-cut limit v = pick (leb v limit) v 0
+cut limit v = cond (leb v limit) v 0
 
 -- whether a number so far was too large
 abbrev pub overBy : Bool → Bool → Bool
-overBy fits o = pick fits o true
+overBy fits o = cond fits o true
 
 number-cut : (limit v : ℕ) (r : List ℕ) (o : Bool) (f b : List ℕ) → afterToken b ≡ r → Reads (numberIs limit (at [] o f) b v) (cut limit v) r (overBy (leb v limit) o)
 number-cut limit v r o f b p = go (leb v limit)
   where
-    go : (c : Bool) → Reads (pick c (record { value = v; next = on (at [] o f) (afterToken b) }) (record { value = 0; next = large (at [] o f) b })) (pick c v 0) r (overBy c o)
+    go : (c : Bool) → Reads (cond c (record { value = v; next = on (at [] o f) (afterToken b) }) (record { value = 0; next = large (at [] o f) b })) (cond c v 0) r (overBy c o)
     go true = record { far = f; is = rw p }
-    go false = record { far = pick o f b; is = rw p }
+    go false = record { far = cond o f b; is = rw p }
 
 pub number-complete : (limit v : ℕ) (l r : List ℕ) (o : Bool) (f : List ℕ) → NumberText v l r → Reads (numberC limit (at l o f)) (cut limit v) r (overBy (leb v limit) o)
 unfolding numberC

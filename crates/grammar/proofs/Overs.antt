@@ -2,11 +2,11 @@
 use Prim.Native.Nat.{ℕ, zero, suc}
 use mathlib.Core.Path.{_≡_, refl}
 use mathlib.Core.List.{List, [], _∷_}
-use mathlib.Core.Bool.{Bool, true, false}
+use mathlib.Core.Bool.{Bool, true, false, cond}
 use lib.ListN.{take, drop}
 use lib.Dec.{leb, eqb}
 use Rattle.tokens.specs.declared.Name.{Name}
-use Rattle.tokens.specs.Bytes.{pick, afterBlanks, tokenOf, afterToken}
+use Rattle.tokens.specs.Bytes.{afterBlanks, tokenOf, afterToken}
 use Rattle.tokens.specs.Names.{isName, packed, noName}
 use Rattle.tokens.specs.Numbers.{isNumber, valueOf}
 use Rattle.tokens.specs.Cursors.{Rest, on, off, large, Took, markHere, markC, endC, nameC, numberC}
@@ -22,21 +22,21 @@ use Rattle.laws.proofs.BoolLaws.{never}
 abbrev Far : Rest → Type 0
 Far r = r .over ≡ true → isNumber (tokenOf (r .far)) ≡ true
 
-far-pick : (b : Bool) (p q : Rest) → Far p → Far q → Far (pick b p q)
-far-pick true p q h k = h
-far-pick false p q h k = k
+far-cond : (b : Bool) (p q : Rest) → Far p → Far q → Far (cond b p q)
+far-cond true p q h k = h
+far-cond false p q h k = k
 
-far-next : {A : Type 0} (b : Bool) (p q : Took A) → Far (p .next) → Far (q .next) → Far (pick b p q .next)
+far-next : {A : Type 0} (b : Bool) (p q : Took A) → Far (p .next) → Far (q .next) → Far (cond b p q .next)
 far-next true p q h k = h
 far-next false p q h k = k
 
 mark-far : (m : ℕ) (r : Rest) → Far r → Far (markC m r)
 unfolding markC
-mark-far m r h = far-pick (r .ok) (markHere m r (afterBlanks (r .rest))) r (go (afterBlanks (r .rest))) h
+mark-far m r h = far-cond (r .ok) (markHere m r (afterBlanks (r .rest))) r (go (afterBlanks (r .rest))) h
   where
     go : (b : List ℕ) → Far (markHere m r b)
     go [] = h
-    go (x ∷ l) = far-pick (eqb x m) (on r l) (off r (x ∷ l)) h h
+    go (x ∷ l) = far-cond (eqb x m) (on r l) (off r (x ∷ l)) h h
 
 end-far : (r : Rest) → Far r → Far (endC r)
 unfolding endC
@@ -44,7 +44,7 @@ end-far r h = mark-far 59 r h
 
 name-far : (r : Rest) → Far r → Far (nameC r .next)
 unfolding nameC
-name-far r h = far-next (r .ok) (pick (isName (tokenOf b)) good bad) none (far-next (isName (tokenOf b)) good bad h h) h
+name-far r h = far-next (r .ok) (cond (isName (tokenOf b)) good bad) none (far-next (isName (tokenOf b)) good bad h h) h
   where
     b : List ℕ
     b = afterBlanks (r .rest)
@@ -58,7 +58,7 @@ name-far r h = far-next (r .ok) (pick (isName (tokenOf b)) good bad) none (far-n
     none : Took Name
     none = record { value = noName; next = r }
 
-large-far : (o : Bool) (r : Rest) (b : List ℕ) → r .over ≡ o → Far r → isNumber (tokenOf b) ≡ true → isNumber (tokenOf (pick o (r .far) b)) ≡ true
+large-far : (o : Bool) (r : Rest) (b : List ℕ) → r .over ≡ o → Far r → isNumber (tokenOf b) ≡ true → isNumber (tokenOf (cond o (r .far) b)) ≡ true
 large-far true r b e h k = h e
 large-far false r b e h k = k
 
@@ -82,7 +82,7 @@ number-far limit r h = far-next (r .ok) (took (isNumber (tokenOf b))) none (go (
     over = record { value = 0; next = large r b }
 
     took : Bool → Took ℕ
-    took n = pick n (pick (leb v limit) fits over) (record { value = 0; next = off r b })
+    took n = cond n (cond (leb v limit) fits over) (record { value = 0; next = off r b })
 
     go : (n : Bool) → isNumber (tokenOf b) ≡ n → Far (took n .next)
     go true e = far-next (leb v limit) fits over h (λ k. large-far (r .over) r b refl h e)

@@ -3,13 +3,13 @@ use Prim.Native.Nat.{ℕ, zero, suc, _-_, _≤_, _<_}
 use native.Mathlib.Omega.{arith}
 use mathlib.Core.Path.{_≡_, refl, sym, ap, _∙_}
 use mathlib.Core.List.{List, [], _∷_, _++_, append-assoc}
-use mathlib.Core.Bool.{Bool, true, false, _&&_, true≢false}
+use mathlib.Core.Bool.{Bool, true, false, _&&_, true≢false, cond}
 use lib.ListN.{length, getD, take, drop, length-append, length-drop, take-append-drop}
 use lib.Seq.{take-append-seam, drop-append-seam, take-at}
 use lib.Dec.{leb, eqb}
 use borrow.Author.Tests.{eq-eqb, eqb-true, le-leb, not-false}
 use Rattle.tokens.specs.declared.Name.{Name}
-use Rattle.tokens.specs.Bytes.{pick, letter, wordByte, opcodeByte, blank, runLen, afterBlanks, tokenLen, tokenOf, afterToken}
+use Rattle.tokens.specs.Bytes.{letter, wordByte, opcodeByte, blank, runLen, afterBlanks, tokenLen, tokenOf, afterToken}
 use Rattle.tokens.specs.Names.{isName, packed, noName}
 use Rattle.tokens.specs.Numbers.{digitOf, isDigit, hexMark, zeroLed, someDigits, isNumber, valueOf}
 use Rattle.tokens.specs.Cursors.{Rest, on, off, Took, markHere, markC, endC, nameC, numberC}
@@ -37,15 +37,15 @@ abbrev stand : Rest → Stand
 stand r = record { rest = r .rest; ok = r .ok }
 
 abbrev first : Kind → List ℕ → Stand
-first f b = pick (f .test (tokenOf b)) (good (afterToken b)) (bad b)
+first f b = cond (f .test (tokenOf b)) (good (afterToken b)) (bad b)
 
 abbrev sticky : Kind → Stand → Stand
-sticky f r = pick (r .ok) (first f (afterBlanks (r .rest))) r
+sticky f r = cond (r .ok) (first f (afterBlanks (r .rest))) r
 
 abbrev run : Row → Stand → Stand
-run g r = pick (r .ok) (reads g (r .rest)) r
+run g r = cond (r .ok) (reads g (r .rest)) r
 
-fold-by : (g : Row) (v : Bool) (x y : List ℕ) → run g (pick v (good x) (bad y)) ≡ pick v (reads g x) (bad y)
+fold-by : (g : Row) (v : Bool) (x y : List ℕ) → run g (cond v (good x) (bad y)) ≡ cond v (reads g x) (bad y)
 fold-by g true x y = refl
 fold-by g false x y = refl
 
@@ -59,8 +59,8 @@ taken-at : (f : Kind) (g h : Row) (l : List ℕ) (b : Bool) → (b ≡ true → 
 unfolding reads
 taken-at f g h l true e = go (f .test (tokenOf (afterBlanks l))) (e refl)
   where
-    go : (v : Bool) → pick v (good (afterToken (afterBlanks l))) (bad (afterBlanks l)) .ok ≡ true
-        → pick v (reads g (afterToken (afterBlanks l))) (bad (afterBlanks l)) ≡ pick v (reads g (afterToken (afterBlanks l))) (reads h l)
+    go : (v : Bool) → cond v (good (afterToken (afterBlanks l))) (bad (afterBlanks l)) .ok ≡ true
+        → cond v (reads g (afterToken (afterBlanks l))) (bad (afterBlanks l)) ≡ cond v (reads g (afterToken (afterBlanks l))) (reads h l)
     go true k = refl
     go false k = never k
 taken-at f g h l false e = refl
@@ -69,7 +69,7 @@ passed-at : (f : Kind) (g h : Row) (l : List ℕ) (b : Bool) → (b ≡ true →
 unfolding reads
 passed-at f g h l true e = go (f .test (tokenOf (afterBlanks l))) (e refl)
   where
-    go : (v : Bool) → pick v (good (afterToken (afterBlanks l))) (bad (afterBlanks l)) .ok ≡ false → reads h l ≡ pick v (reads g (afterToken (afterBlanks l))) (reads h l)
+    go : (v : Bool) → cond v (good (afterToken (afterBlanks l))) (bad (afterBlanks l)) .ok ≡ false → reads h l ≡ cond v (reads g (afterToken (afterBlanks l))) (reads h l)
     go true k = never (sym k)
     go false k = refl
 passed-at f g h l false e = refl
@@ -90,7 +90,7 @@ module _ (m : ℕ) (z : eqb 0 m ≡ false) (d : blank m ≡ false) (n : starts m
   mark-first r [] = rw z
   mark-first r (x ∷ l) = go (eqb x m) refl
     where
-      go : (v : Bool) → eqb x m ≡ v → stand (pick v (on r l) (off r (x ∷ l))) ≡ pick v (good (drop (pick (starts x) (runLen wordByte l) 0) l)) (bad (x ∷ l))
+      go : (v : Bool) → eqb x m ≡ v → stand (cond v (on r l) (off r (x ∷ l))) ≡ cond v (good (drop (cond (starts x) (runLen wordByte l) 0) l)) (bad (x ∷ l))
       go true e = let q : starts x ≡ false = ap starts (eqb-true x m e) ∙ n in rw q
       go false e = refl
 
@@ -98,7 +98,7 @@ module _ (m : ℕ) (z : eqb 0 m ≡ false) (d : blank m ≡ false) (n : starts m
   unfolding markC
   mark-token r = go (r .ok) refl
     where
-      go : (v : Bool) → r .ok ≡ v → stand (pick v (markHere m r (afterBlanks (r .rest))) r) ≡ pick v (first markKind (afterBlanks (r .rest))) (stand r)
+      go : (v : Bool) → r .ok ≡ v → stand (cond v (markHere m r (afterBlanks (r .rest))) r) ≡ cond v (first markKind (afterBlanks (r .rest))) (stand r)
       go true e = mark-first r (afterBlanks (r .rest))
       go false e = refl
 
@@ -107,11 +107,11 @@ mark-kept : (m : ℕ) (r : Rest) → (markC m r .over ≡ r .over) × (markC m r
 unfolding markC
 mark-kept m r = go (r .ok) (afterBlanks (r .rest))
   where
-    by-head : (v : Bool) (x : ℕ) (l : List ℕ) → (pick v (on r l) (off r (x ∷ l)) .over ≡ r .over) × (pick v (on r l) (off r (x ∷ l)) .far ≡ r .far)
+    by-head : (v : Bool) (x : ℕ) (l : List ℕ) → (cond v (on r l) (off r (x ∷ l)) .over ≡ r .over) × (cond v (on r l) (off r (x ∷ l)) .far ≡ r .far)
     by-head true x l = (refl, refl)
     by-head false x l = (refl, refl)
 
-    go : (v : Bool) (b : List ℕ) → (pick v (markHere m r b) r .over ≡ r .over) × (pick v (markHere m r b) r .far ≡ r .far)
+    go : (v : Bool) (b : List ℕ) → (cond v (markHere m r b) r .over ≡ r .over) × (cond v (markHere m r b) r .far ≡ r .far)
     go true [] = (refl, refl)
     go true (x ∷ l) = by-head (eqb x m) x l
     go false b = (refl, refl)
@@ -193,10 +193,10 @@ name-plain =
   where
     took : Bool → Bool → Rest → Took Name
     took v k r =
-        pick k (pick v (record { value = packed (tokenOf (afterBlanks (r .rest))); next = on r (afterToken (afterBlanks (r .rest))) }) (record { value = noName; next = off r (afterBlanks (r .rest)) }))
+        cond k (cond v (record { value = packed (tokenOf (afterBlanks (r .rest))); next = on r (afterToken (afterBlanks (r .rest))) }) (record { value = noName; next = off r (afterBlanks (r .rest)) }))
         (record { value = noName; next = r })
 
-    token-by : (v k : Bool) (r : Rest) → stand (took v k r .next) ≡ pick k (pick v (good (afterToken (afterBlanks (r .rest)))) (bad (afterBlanks (r .rest)))) (stand r)
+    token-by : (v k : Bool) (r : Rest) → stand (took v k r .next) ≡ cond k (cond v (good (afterToken (afterBlanks (r .rest)))) (bad (afterBlanks (r .rest)))) (stand r)
     token-by true true r = refl
     token-by false true r = refl
     token-by v false r = refl
@@ -213,11 +213,11 @@ name-plain =
 
 -- ---- with numbers of any size, or, strict, as if reading had stopped at the first number that is too large
 numberTest : Bool → ℕ → List ℕ → Bool
-numberTest strict limit w = pick (isNumber w) (pick strict (leb (valueOf w) limit) true) false
+numberTest strict limit w = cond (isNumber w) (cond strict (leb (valueOf w) limit) true) false
 
 module _ (strict : Bool) where
   abbrev view : Rest → Stand
-  view r = pick (strict && r .over) (bad (r .far)) (stand r)
+  view r = cond (strict && r .over) (bad (r .far)) (stand r)
 
   -- a reader and then g reads as h does
   abbrev As : (Rest → Rest) → Row → Row → Type 0
@@ -230,9 +230,9 @@ module _ (strict : Bool) where
   by f x law g r = ap (run g) (law r) ∙ fold-at f g (view r .rest) (view r .ok)
 
   plain-token : (f : Kind) (x : Rest → Rest) → Plain x f → Token x f
-  plain-token f x p r = ap (λ (o : Bool). pick (strict && o) (bad (x r .far)) (stand (x r))) (p .over r) ∙ go (strict && r .over)
+  plain-token f x p r = ap (λ (o : Bool). cond (strict && o) (bad (x r .far)) (stand (x r))) (p .over r) ∙ go (strict && r .over)
     where
-      go : (c : Bool) → pick c (bad (x r .far)) (stand (x r)) ≡ sticky f (pick c (bad (r .far)) (stand r))
+      go : (c : Bool) → cond c (bad (x r .far)) (stand (x r)) ≡ sticky f (cond c (bad (r .far)) (stand r))
       go true = ap bad (p .far r)
       go false = p .token r
 
@@ -243,15 +243,15 @@ module _ (strict : Bool) where
   told : (f : Kind) (m : Rest → Rest) → Plain m f → (r : Rest) (b : Bool) → m r .ok ≡ b → view r .ok ≡ true → sticky f (view r) .ok ≡ b
   told f m p r b e h = go (strict && r .over) refl h
     where
-      go : (c : Bool) → (strict && r .over) ≡ c → pick c (bad (r .far)) (stand r) .ok ≡ true → sticky f (pick c (bad (r .far)) (stand r)) .ok ≡ b
+      go : (c : Bool) → (strict && r .over) ≡ c → cond c (bad (r .far)) (stand r) .ok ≡ true → sticky f (cond c (bad (r .far)) (stand r)) .ok ≡ b
       go true q k = never k
       go false q k = sym (ap (λ (s : Stand). s .ok) (p .token r)) ∙ e
 
-  either-at : (f : Kind) (m x y : Rest → Rest) (g h k : Row) → Plain m f → As x k g → As y k h → (r : Rest) (b : Bool) → m r .ok ≡ b → run k (view (pick b (x (m r)) (y r))) ≡ run (branch f g h) (view r)
+  either-at : (f : Kind) (m x y : Rest → Rest) (g h k : Row) → Plain m f → As x k g → As y k h → (r : Rest) (b : Bool) → m r .ok ≡ b → run k (view (cond b (x (m r)) (y r))) ≡ run (branch f g h) (view r)
   either-at f m x y g h k l p q r true e = p (m r) ∙ (simple f m l g r ∙ taken-at f g h (view r .rest) (view r .ok) (told f m l r true e))
   either-at f m x y g h k l p q r false e = q r ∙ passed-at f g h (view r .rest) (view r .ok) (told f m l r false e)
 
-  either : (f : Kind) (m x y : Rest → Rest) (g h k : Row) → Plain m f → As x k g → As y k h → As (λ r. pick (m r .ok) (x (m r)) (y r)) k (branch f g h)
+  either : (f : Kind) (m x y : Rest → Rest) (g h k : Row) → Plain m f → As x k g → As y k h → As (λ r. cond (m r .ok) (x (m r)) (y r)) k (branch f g h)
   either f m x y g h k l p q r = either-at f m x y g h k l p q r (m r .ok) refl
 
   -- ---- numbers
@@ -259,7 +259,7 @@ module _ (strict : Bool) where
   unfolding numberTest isNumber hexMark zeroLed someDigits isDigit digitOf valueOf
   number-fits limit = go strict
     where
-      go : (s : Bool) → pick s (leb 0 limit) true ≡ true
+      go : (s : Bool) → cond s (leb 0 limit) true ≡ true
       go true = le-leb 0 limit (omega arith)
       go false = refl
 
@@ -286,14 +286,14 @@ number-at true true false true false limit l f p q = rw (p, q)
 abbrev numberNext : ℕ → Rest → Rest
 numberNext limit r = numberC limit r .next
 
-end-by : (l : List ℕ) (b c : Bool) → _≡_ {A = Stand} (record { rest = l; ok = b && c }) (pick b (pick c (good l) (bad l)) (record { rest = l; ok = b }))
+end-by : (l : List ℕ) (b c : Bool) → _≡_ {A = Stand} (record { rest = l; ok = b && c }) (cond b (cond c (good l) (bad l)) (record { rest = l; ok = b }))
 end-by l true true = refl
 end-by l true false = refl
 end-by l false c = refl
 
-next-pick : {A : Type 0} (b : Bool) (p q : Took A) → pick b p q .next ≡ pick b (p .next) (q .next)
-next-pick true p q = refl
-next-pick false p q = refl
+next-cond : {A : Type 0} (b : Bool) (p q : Took A) → cond b p q .next ≡ cond b (p .next) (q .next)
+next-cond true p q = refl
+next-cond false p q = refl
 
 module _ (s : Bool) where
   number-row : (limit : ℕ) (g : Row) → As s (numberNext limit) g (one (numberKind s limit) g)
@@ -312,7 +312,7 @@ module _ (s : Bool) where
       d : Rest
       d = markC 59 r
 
-      go : (c : Bool) → pick c (bad (d .far)) (record { rest = d .rest; ok = d .ok && eqb (length (d .rest)) 0 }) ≡ run end (pick c (bad (d .far)) (stand d))
+      go : (c : Bool) → cond c (bad (d .far)) (record { rest = d .rest; ok = d .ok && eqb (length (d .rest)) 0 }) ≡ run end (cond c (bad (d .far)) (stand d))
       go true = refl
       go false = end-by (d .rest) (d .ok) (eqb (length (d .rest)) 0)
 
@@ -332,7 +332,7 @@ module _ (s : Bool) where
   offset-row : (g : Row) → As s (λ r. offsetC r .next) g (offsetRow g)
   unfolding offsetC
   offset-row g r =
-      ap (λ (x : Rest). run g (view s x)) (next-pick (markC 43 r .ok) (numberC max32 (markC 43 r)) (record { value = 0; next = r }))
+      ap (λ (x : Rest). run g (view s x)) (next-cond (markC 43 r .ok) (numberC max32 (markC 43 r)) (record { value = 0; next = r }))
       ∙ either s plus (markC 43) (numberNext max32) (λ x. x) (one (numberKind s max32) g) g g plus-plain (number-row max32 g) (λ x. refl) r
 
   abbrev insideRow : Row → Row
@@ -355,7 +355,7 @@ module _ (s : Bool) where
   operand-row : (g : Row) → As s (λ r. operandC r .next) g (operandRow g)
   unfolding operandC
   operand-row g r =
-      ap (λ (x : Rest). run g (view s x)) (next-pick (markC 91 r .ok) (record { value = operand.Address (insideC (markC 91 r) .value); next = insideC (markC 91 r) .next }) (record { value = operand.Descriptor (nameC r .value); next = nameNext r }))
+      ap (λ (x : Rest). run g (view s x)) (next-cond (markC 91 r .ok) (record { value = operand.Address (insideC (markC 91 r) .value); next = insideC (markC 91 r) .next }) (record { value = operand.Descriptor (nameC r .value); next = nameNext r }))
       ∙ either s opening (markC 91) (λ x. insideC x .next) nameNext (insideRow g) (one nameKind g) g opening-plain (inside-row g) (name-row g) r
 
   abbrev moreNamesRow : ℕ → Row → Row
@@ -367,7 +367,7 @@ module _ (s : Bool) where
   more-names-row zero g r = simple s unbrace (markC 125) unbrace-plain g r
   more-names-row (suc k) g r =
       let n = nameC (markC 44 r) in
-      ap (λ (x : Rest). run g (view s x)) (next-pick (markC 44 r .ok) (record { value = n .value ∷ moreC k (n .next) .value; next = moreC k (n .next) .next }) (record { value = []; next = markC 125 r }))
+      ap (λ (x : Rest). run g (view s x)) (next-cond (markC 44 r .ok) (record { value = n .value ∷ moreC k (n .next) .value; next = moreC k (n .next) .next }) (record { value = []; next = markC 125 r }))
       ∙ either s comma (markC 44) (λ x. moreC k (nameNext x) .next) (markC 125) (one nameKind (moreNamesRow k g)) (one unbrace g) g comma-plain
       (λ x. more-names-row k g (nameNext x) ∙ name-row (moreNamesRow k g) x) (simple s unbrace (markC 125) unbrace-plain g) r
 
@@ -462,7 +462,7 @@ reads-as false o l = token-row false (row o) (start l)
 view-ok : (s : Bool) (r : Rest) → view s r .ok ≡ true → (r .ok ≡ true) × ((s && r .over) ≡ false)
 view-ok s r h = go (s && r .over) h
   where
-    go : (c : Bool) → pick c (bad (r .far)) (stand r) .ok ≡ true → (r .ok ≡ true) × (c ≡ false)
+    go : (c : Bool) → cond c (bad (r .far)) (stand r) .ok ≡ true → (r .ok ≡ true) × (c ≡ false)
     go true k = never k
     go false k = (k, refl)
 
@@ -532,7 +532,7 @@ later-place s text o l e k =
     stops-at s text o l e (stop (tokenRow s (row o)) rest l (token-good s (row o)) b)
 
 -- ---- reason 3
-three-by : (b o : Bool) (k q p : ℕ) (t : Statement) → pick b (pick o (TooLarge k) (Got t)) (NoForm q) ≡ NoForm p → (b ≡ false) × (p ≡ q)
+three-by : (b o : Bool) (k q p : ℕ) (t : Statement) → cond b (cond o (TooLarge k) (Got t)) (NoForm q) ≡ NoForm p → (b ≡ false) × (p ≡ q)
 three-by true true k q p t h = absurd (let z : _≡_ {A = ℕ} 0 1 = cc in omega arith)
 three-by true false k q p t h = absurd (let z : _≡_ {A = ℕ} 0 1 = cc in omega arith)
 three-by false o k q p t h = (refl, cc)
@@ -562,7 +562,7 @@ places text p n h =
     }
 
 -- ---- reason 4
-four-by : (a b o : Bool) (k q p : ℕ) (t : Statement) → pick a (pick b (pick o (TooLarge k) (Got t)) (NoForm q)) (NoForm 4096) ≡ TooLarge p → (b ≡ true) × (o ≡ true) × (p ≡ k)
+four-by : (a b o : Bool) (k q p : ℕ) (t : Statement) → cond a (cond b (cond o (TooLarge k) (Got t)) (NoForm q)) (NoForm 4096) ≡ TooLarge p → (b ≡ true) × (o ≡ true) × (p ≡ k)
 four-by true true true k q p t h = (refl, refl, cc)
 four-by true true false k q p t h = absurd (let z : _≡_ {A = ℕ} 0 1 = cc in omega arith)
 four-by true false o k q p t h = absurd (let z : _≡_ {A = ℕ} 0 1 = cc in omega arith)
@@ -613,7 +613,7 @@ unfolding wordByte letter
 no-word [] h = refl
 no-word (x ∷ y) h = go (wordByte x) h
   where
-    go : (b : Bool) → pick b (suc (runLen wordByte y)) 0 ≡ 0 → b ≡ false
+    go : (b : Bool) → cond b (suc (runLen wordByte y)) 0 ≡ 0 → b ≡ false
     go true k = absurd (omega arith)
     go false k = refl
 

@@ -3,12 +3,12 @@ use Prim.Native.Nat.{ℕ, zero, suc, _≤_}
 use native.Mathlib.Omega.{arith}
 use mathlib.Core.Path.{_≡_, refl, sym, ap, _∙_}
 use mathlib.Core.List.{List, [], _∷_, _++_}
-use mathlib.Core.Bool.{Bool, true, false}
+use mathlib.Core.Bool.{Bool, true, false, cond}
 use lib.ListN.{length}
 use lib.Dec.{leb, eqb}
 use borrow.Author.Tests.{eqb-false}
 use Rattle.tokens.specs.declared.Name.{Name}
-use Rattle.tokens.specs.Bytes.{pick, letter, wordByte, blank, afterBlanks}
+use Rattle.tokens.specs.Bytes.{letter, wordByte, blank, afterBlanks}
 use Rattle.tokens.specs.Cursors.{Rest, Took, markC, nameC, numberC}
 use Rattle.statement.specs.declared.Address.{Address}
 use Rattle.statement.specs.declared.Operand.{Operand}
@@ -34,7 +34,7 @@ unfolding offsetC
 offset-sound r h = go (markC 43 r .ok) refl h
   where
     took : Bool → Took ℕ
-    took b = pick b (numberC max32 (markC 43 r)) (record { value = 0; next = r })
+    took b = cond b (numberC max32 (markC 43 r)) (record { value = 0; next = r })
 
     go : (b : Bool) → markC 43 r .ok ≡ b → took b .next .ok ≡ true → (r .ok ≡ true) × (v : ℕ) × OffsetText v (r .rest) (took b .next .rest)
     go true e k =
@@ -76,7 +76,7 @@ unfolding operandC
 operand-sound r h = go (markC 91 r .ok) refl h
   where
     took : Bool → Took Operand
-    took b = pick b (record { value = operand.Address (insideC (markC 91 r) .value); next = insideC (markC 91 r) .next }) (record { value = operand.Descriptor (nameC r .value); next = nameC r .next })
+    took b = cond b (record { value = operand.Address (insideC (markC 91 r) .value); next = insideC (markC 91 r) .next }) (record { value = operand.Descriptor (nameC r .value); next = nameC r .next })
 
     go : (b : Bool) → markC 91 r .ok ≡ b → took b .next .ok ≡ true → (r .ok ≡ true) × (v : Operand) × OperandText v (r .rest) (took b .next .rest)
     go true e k =
@@ -99,7 +99,7 @@ more-sound (suc k) r h = go (markC 44 r .ok) refl h (more-sound k (nameC (markC 
     m = moreC k (nameC (markC 44 r) .next)
 
     took : Bool → Took (List Name)
-    took b = pick b (record { value = nameC (markC 44 r) .value ∷ m .value; next = m .next }) (record { value = []; next = markC 125 r })
+    took b = cond b (record { value = nameC (markC 44 r) .value ∷ m .value; next = m .next }) (record { value = []; next = markC 125 r })
 
     go : (b : Bool) → markC 44 r .ok ≡ b → took b .next .ok ≡ true
         → (m .next .ok ≡ true → (nameC (markC 44 r) .next .ok ≡ true) × Names k (nameC (markC 44 r) .next .rest) (m .next .rest))

@@ -3,12 +3,12 @@ use Prim.Native.Nat.{ℕ, suc, _≤_, _<_}
 use native.Mathlib.Omega.{arith}
 use mathlib.Core.Path.{_≡_, refl, sym, ap, _∙_}
 use mathlib.Core.List.{List, [], _∷_, _++_, append-assoc}
-use mathlib.Core.Bool.{Bool, true, false}
+use mathlib.Core.Bool.{Bool, true, false, cond}
 use lib.ListN.{length, getD, take, drop, take-append-drop}
 use lib.Seq.{take-at, drop-at, length-take-le}
 use lib.Dec.{eqb}
 use borrow.Author.Tests.{ne-eqb, eqb-true}
-use Rattle.tokens.specs.Bytes.{pick, letter, wordByte, blank, runLen, afterBlanks, tokenLen, tokenOf, afterToken}
+use Rattle.tokens.specs.Bytes.{letter, wordByte, blank, runLen, afterBlanks, tokenLen, tokenOf, afterToken}
 use Rattle.grammar.specs.Claims.{After, here, past}
 use Rattle.laws.proofs.BoolLaws.{never}
 use Rattle.tokens.proofs.Runs.{run-le}
@@ -42,9 +42,9 @@ pub data Row : Type 0 where
 
 -- the tokens of a row, which spaces may precede, and nothing after the last
 unfoldable pub reads : Row → List ℕ → Stand
-reads end l = pick (eqb (length l) 0) (good l) (bad l)
-reads (one f g) l = pick (f .test (tokenOf (afterBlanks l))) (reads g (afterToken (afterBlanks l))) (bad (afterBlanks l))
-reads (branch f g h) l = pick (f .test (tokenOf (afterBlanks l))) (reads g (afterToken (afterBlanks l))) (reads h l)
+reads end l = cond (eqb (length l) 0) (good l) (bad l)
+reads (one f g) l = cond (f .test (tokenOf (afterBlanks l))) (reads g (afterToken (afterBlanks l))) (bad (afterBlanks l))
+reads (branch f g h) l = cond (f .test (tokenOf (afterBlanks l))) (reads g (afterToken (afterBlanks l))) (reads h l)
 
 -- ---- runs
 pub head-none : (f : ℕ → Bool) (y : List ℕ) → f (getD y 0 0) ≡ false → runLen f y ≡ 0
@@ -55,7 +55,7 @@ run-replay : (f : ℕ → Bool) (z y : List ℕ) → f (getD y 0 0) ≡ false �
 run-replay f [] y h = head-none f y h
 run-replay f (x ∷ z) y h = go (f x) refl (run-replay f z y h)
   where
-    go : (b : Bool) → f x ≡ b → runLen f (take (runLen f z) z ++ y) ≡ runLen f z → runLen f (take (pick b (suc (runLen f z)) 0) (x ∷ z) ++ y) ≡ pick b (suc (runLen f z)) 0
+    go : (b : Bool) → f x ≡ b → runLen f (take (runLen f z) z ++ y) ≡ runLen f z → runLen f (take (cond b (suc (runLen f z)) 0) (x ∷ z) ++ y) ≡ cond b (suc (runLen f z)) 0
     go true e i = rw (e, i)
     go false e i = head-none f y h
 
@@ -63,7 +63,7 @@ pub run-stops : (f : ℕ → Bool) (z : List ℕ) → f 0 ≡ false → f (getD 
 run-stops f [] h = h
 run-stops f (x ∷ z) h = go (f x) refl (run-stops f z h)
   where
-    go : (b : Bool) → f x ≡ b → f (getD (drop (runLen f z) z) 0 0) ≡ false → f (getD (drop (pick b (suc (runLen f z)) 0) (x ∷ z)) 0 0) ≡ false
+    go : (b : Bool) → f x ≡ b → f (getD (drop (runLen f z) z) 0 0) ≡ false → f (getD (drop (cond b (suc (runLen f z)) 0) (x ∷ z)) 0 0) ≡ false
     go true e i = i
     go false e i = e
 
@@ -77,7 +77,7 @@ blanks-skip [] x = refl
 blanks-skip (c ∷ l) x = go (blank c) refl (blanks-skip l x)
   where
     go : (b : Bool) → blank c ≡ b → drop (runLen blank (take (runLen blank l) l ++ x)) (take (runLen blank l) l ++ x) ≡ drop (runLen blank x) x
-        → drop (runLen blank (take (pick b (suc (runLen blank l)) 0) (c ∷ l) ++ x)) (take (pick b (suc (runLen blank l)) 0) (c ∷ l) ++ x) ≡ drop (runLen blank x) x
+        → drop (runLen blank (take (cond b (suc (runLen blank l)) 0) (c ∷ l) ++ x)) (take (cond b (suc (runLen blank l)) 0) (c ∷ l) ++ x) ≡ drop (runLen blank x) x
     go true e i = rw e i
     go false e i = refl
 
@@ -124,7 +124,7 @@ unfolding tokenLen
 token-le [] = omega arith
 token-le (x ∷ l) = go (starts x)
   where
-    go : (b : Bool) → suc (pick b (runLen wordByte l) 0) ≤ suc (length l)
+    go : (b : Bool) → suc (cond b (runLen wordByte l) 0) ≤ suc (length l)
     go true = omega (arith, run-le wordByte l)
     go false = omega arith
 
@@ -133,7 +133,7 @@ unfolding tokenOf tokenLen
 len-replay [] y n h = absurd (omega arith)
 len-replay (x ∷ z) y n h = go (starts x) refl
   where
-    go : (w : Bool) → starts x ≡ w → suc (pick w (runLen wordByte (take (pick w (runLen wordByte z) 0) z ++ y)) 0) ≡ suc (pick w (runLen wordByte z) 0)
+    go : (w : Bool) → starts x ≡ w → suc (cond w (runLen wordByte (take (cond w (runLen wordByte z) 0) z ++ y)) 0) ≡ suc (cond w (runLen wordByte z) 0)
     go true e = rw (run-replay wordByte z y (h e))
     go false e = refl
 
@@ -156,7 +156,7 @@ unfolding afterBlanks
 after-blanks [] l a = a
 after-blanks (x ∷ s) l a = go (blank x) refl a (after-blanks s l)
   where
-    go : (b : Bool) → blank x ≡ b → After (drop (pick b (suc (runLen blank s)) 0) (x ∷ s)) l → (After (drop (runLen blank s) s) l → After s l) → After (x ∷ s) l
+    go : (b : Bool) → blank x ≡ b → After (drop (cond b (suc (runLen blank s)) 0) (x ∷ s)) l → (After (drop (runLen blank s) s) l → After s l) → After (x ∷ s) l
     go true e k i = let z : After (afterToken (x ∷ s)) l = rw (blank-past x s e) (i k) in past z
     go false e k i = k
 
@@ -201,9 +201,9 @@ easy-light end f a b = b
 easy-light (one f g) k a b = a
 easy-light (branch f g h) k a b = easy-light h k a b
 
-pick-same : (b : Bool) (n : ℕ) → pick b n n ≡ n
-pick-same true n = refl
-pick-same false n = refl
+cond-same : (b : Bool) (n : ℕ) → cond b n n ≡ n
+cond-same true n = refl
+cond-same false n = refl
 
 abbrev Past : Kind → Row → Row → Type 0
 Past f g r = (x : List ℕ) → f .test (tokenOf (afterBlanks x)) ≡ true → reads r x ≡ reads g (afterToken (afterBlanks x))
@@ -232,7 +232,7 @@ takes g l = reads g l .ok
 
 easy-first : (f : Kind) (g : Row) → tokenLen (f .wit ∷ easy g) ≡ 1
 unfolding tokenLen
-easy-first f g = rw (head-none wordByte (easy g) (light-word (easy g) (easy-light g)), pick-same)
+easy-first f g = rw (head-none wordByte (easy g) (light-word (easy g) (easy-light g)), cond-same)
 
 easy-blank : (f : Kind) (y : List ℕ) → afterBlanks (32 ∷ f .wit ∷ y) ≡ f .wit ∷ y
 unfolding afterBlanks blank
@@ -296,7 +296,7 @@ stays s y n =
 
 one-skip : (f : Kind) (g : Row) (x y : List ℕ) → afterBlanks x ≡ afterBlanks y → reads (one f g) x ≡ reads (one f g) y
 unfolding reads
-one-skip f g x y p = ap (λ (b : List ℕ). pick (f .test (tokenOf b)) (reads g (afterToken b)) (bad b)) p
+one-skip f g x y p = ap (λ (b : List ℕ). cond (f .test (tokenOf b)) (reads g (afterToken b)) (bad b)) p
 
 here-stops : (f : Kind) (g : Row) (s l : List ℕ) → Good g → f .test (tokenOf (afterBlanks s)) ≡ false → reads (one f g) s ≡ bad l → Stop (one f g) s l
 here-stops f g s l k e h =

@@ -3,12 +3,12 @@ use Prim.Native.Nat.{ℕ, suc, _^_, _<_, _≤_}
 use native.Mathlib.Omega.{arith}
 use mathlib.Core.Path.{_≡_, refl, sym, ap, _∙_}
 use mathlib.Core.List.{List, [], _∷_, _++_, append-assoc}
-use mathlib.Core.Bool.{Bool, true, false, _&&_, not}
+use mathlib.Core.Bool.{Bool, true, false, _&&_, not, cond}
 use lib.ListN.{length}
 use lib.Dec.{ltb, leb, eqb}
 use borrow.Author.Tests.{eq-eqb, eqb-true, leb-true, le-leb, lt-ltb, not-false}
 use Rattle.tokens.specs.declared.Name.{Name}
-use Rattle.tokens.specs.Bytes.{pick, letter, wordByte, opcodeByte, runLen}
+use Rattle.tokens.specs.Bytes.{letter, wordByte, opcodeByte, runLen}
 use Rattle.tokens.specs.Names.{isName, packed, nameBytes, sameName, nameGiven}
 use Rattle.tokens.specs.Numbers.{decimal}
 use Rattle.statement.specs.declared.Address.{Address}
@@ -81,7 +81,7 @@ offset-spelled : (v : ℕ) (r : List ℕ) → v ≤ max32 → OffsetText v (offs
 unfolding wordByte letter
 offset-spelled v r h = go (eqb v 0) refl
   where
-    go : (b : Bool) → eqb v 0 ≡ b → OffsetText v (pick b [] (43 ∷ decimal v) ++ (93 ∷ r)) (93 ∷ r)
+    go : (b : Bool) → eqb v 0 ≡ b → OffsetText v (cond b [] (43 ∷ decimal v) ++ (93 ∷ r)) (93 ∷ r)
     go true e = rw (eqb-true v 0 e) bare
     go false e = plus (mark-spelled 0 43 (decimal v ++ (93 ∷ r))) (number-spelled 0 v (93 ∷ r) (omega arith) refl)
 
@@ -89,7 +89,7 @@ offset-ends : (v : ℕ) (r : List ℕ) → runLen wordByte (offsetText v ++ (93 
 unfolding wordByte letter
 offset-ends v r = go (eqb v 0)
   where
-    go : (b : Bool) → runLen wordByte (pick b [] (43 ∷ decimal v) ++ (93 ∷ r)) ≡ 0
+    go : (b : Bool) → runLen wordByte (cond b [] (43 ∷ decimal v) ++ (93 ∷ r)) ≡ 0
     go true = refl
     go false = refl
 

@@ -29,13 +29,13 @@ use Rattle.ledger.proofs.BookingLaws.{legal-range}
 use Rattle.ledger.proofs.SlotLaws.{live-slot, columns-slot, place-slot, place-empty, slots-none, slots-alloc, slots-release}
 
 -- ---- what is booked, by its reason
-pick-reason : (l next : Ledger) (reason start : ℕ) (t : Bool) → eqb reason 0 ≡ t
+cond-reason : (l next : Ledger) (reason start : ℕ) (t : Bool) → eqb reason 0 ≡ t
     → cond {A = Booked} t (record { next = next; reason = 0; start = start }) (record { next = l; reason = reason; start = 0 }) .reason ≡ reason
-pick-reason l next reason start true e = sym (eqb-true reason 0 e)
-pick-reason l next reason start false e = refl
+cond-reason l next reason start true e = sym (eqb-true reason 0 e)
+cond-reason l next reason start false e = refl
 
 booked-reason : (l next : Ledger) (reason start : ℕ) → booked l reason start next .reason ≡ reason
-booked-reason l next reason start = pick-reason l next reason start (eqb reason 0) refl
+booked-reason l next reason start = cond-reason l next reason start (eqb reason 0) refl
 
 booked-next : (l next : Ledger) (reason start : ℕ) → reason ≡ 0 → booked l reason start next ≡ record { next = next; reason = 0; start = start }
 booked-next l next reason start e = rw e

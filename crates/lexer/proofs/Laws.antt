@@ -5,12 +5,12 @@ use native.Mathlib.Omega.{arith}
 use native.Mathlib.Decide.{decLe}
 use mathlib.Core.Path.{_≡_, refl, _∙_, sym}
 use mathlib.Core.List.{List, [], _∷_}
-use mathlib.Core.Bool.{true≢false, Bool, true, false, _&&_, _||_}
+use mathlib.Core.Bool.{true≢false, Bool, true, false, _&&_, _||_, cond}
 use lib.ListN.{length, getD, drop, drop-of-length-le}
 use lib.Seq.{drop-cons, drop-drop}
 use lib.Dec.{leb, eqb}
 use borrow.Author.Tests.{eq-eqb, ne-eqb, le-leb, lt-leb}
-use Rattle.tokens.specs.Bytes.{pick, letter, wordByte, opcodeByte, blank, runLen, tokenLen, afterToken, afterBlanks}
+use Rattle.tokens.specs.Bytes.{letter, wordByte, opcodeByte, blank, runLen, tokenLen, afterToken, afterBlanks}
 use Rattle.tokens.specs.Numbers.{digitOf}
 
 -- ---- classes
@@ -132,6 +132,6 @@ pub after-law : (s : List ℕ) (i e : ℕ) → e ≡ i + tokenLen (drop i s) →
 unfolding afterToken
 after-law s i e t = rw (t, ← drop-drop)
 
-pub far-law : (s : List ℕ) (b : Bool) (a i : ℕ) → drop (pick b a i) s ≡ pick b (drop a s) (drop i s)
+pub far-law : (s : List ℕ) (b : Bool) (a i : ℕ) → drop (cond b a i) s ≡ cond b (drop a s) (drop i s)
 far-law s true a i = refl
 far-law s false a i = refl

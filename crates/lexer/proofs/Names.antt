@@ -6,14 +6,14 @@ use native.Mathlib.Omega.{arith}
 use native.Mathlib.Decide.{decLe}
 use mathlib.Core.Path.{_≡_, refl, sym, ap, _∙_}
 use mathlib.Core.List.{List, [], _∷_}
-use mathlib.Core.Bool.{Bool, true, false, _&&_, _||_, true≢false}
+use mathlib.Core.Bool.{Bool, true, false, _&&_, _||_, true≢false, cond}
 use lib.ListN.{length, getD, take, drop, drop-of-length-le, length-take}
 use lib.Seq.{drop-cons, drop-drop, take-all, take-take, length-take-le, getD-drop}
 use lib.Pow.{pow-add, pow-mono}
 use lib.Dec.{ltb, leb, eqb}
 use borrow.Author.Tests.{lt-ltb, le-leb, lt-leb, leb-true}
 use Rattle.tokens.specs.declared.Name.{Name}
-use Rattle.tokens.specs.Bytes.{pick, between, letter, wordByte, runLen, all, tokenLen, tokenOf, afterToken}
+use Rattle.tokens.specs.Bytes.{between, letter, wordByte, runLen, all, tokenLen, tokenOf, afterToken}
 use Rattle.tokens.specs.Names.{sigil, isName, byteDigits, packed, noName}
 use Rattle.tokens.specs.Cursors.{Rest, Took, on, off, nameHere}
 use Rattle.lexer.specs.Runs.{wordsLen, thereBy, nameThere}
@@ -82,7 +82,7 @@ all-run : (f : ℕ → Bool) (l : List ℕ) → all f (take (runLen f l) l) ≡ 
 all-run f [] = refl
 all-run f (x ∷ l) = by (f x) refl (all-run f l)
   where
-    by : (b : Bool) → f x ≡ b → all f (take (runLen f l) l) ≡ true → all f (take (pick b (suc (runLen f l)) 0) (x ∷ l)) ≡ true
+    by : (b : Bool) → f x ≡ b → all f (take (runLen f l) l) ≡ true → all f (take (cond b (suc (runLen f l)) 0) (x ∷ l)) ≡ true
     by true e h = rw e h
     by false e h = refl
 
@@ -90,7 +90,7 @@ run-next : (f : ℕ → Bool) → f 0 ≡ false → (l : List ℕ) → f (getD l
 run-next f z [] = z
 run-next f z (x ∷ l) = by (f x) refl (run-next f z l)
   where
-    by : (b : Bool) → f x ≡ b → f (getD l (runLen f l) 0) ≡ false → f (getD (x ∷ l) (pick b (suc (runLen f l)) 0) 0) ≡ false
+    by : (b : Bool) → f x ≡ b → f (getD l (runLen f l) 0) ≡ false → f (getD (x ∷ l) (cond b (suc (runLen f l)) 0) 0) ≡ false
     by true e h = h
     by false e h = e
 
@@ -98,12 +98,12 @@ run-in : (f : ℕ → Bool) (l : List ℕ) (k : ℕ) → k < runLen f l → f (g
 run-in f [] k h = absurd (omega arith)
 run-in f (x ∷ l) zero h = by (f x) refl h
   where
-    by : (b : Bool) → f x ≡ b → 0 < pick b (suc (runLen f l)) 0 → f x ≡ true
+    by : (b : Bool) → f x ≡ b → 0 < cond b (suc (runLen f l)) 0 → f x ≡ true
     by true e h = e
     by false e h = absurd (omega arith)
 run-in f (x ∷ l) (suc k) h = by (f x) (run-in f l k) h
   where
-    by : (b : Bool) → (k < runLen f l → f (getD l k 0) ≡ true) → suc k < pick b (suc (runLen f l)) 0 → f (getD l k 0) ≡ true
+    by : (b : Bool) → (k < runLen f l → f (getD l k 0) ≡ true) → suc k < cond b (suc (runLen f l)) 0 → f (getD l k 0) ≡ true
     by true r h = r (omega arith)
     by false r h = absurd (omega arith)
 
@@ -112,7 +112,7 @@ run-split f zero l h = omega arith
 run-split f (suc k) [] h = absurd (omega arith)
 run-split f (suc k) (x ∷ l) h = by (f x) (run-split f k l) h
   where
-    by : (b : Bool) → (k ≤ runLen f l → runLen f l ≡ k + runLen f (drop k l)) → suc k ≤ pick b (suc (runLen f l)) 0 → pick b (suc (runLen f l)) 0 ≡ suc k + runLen f (drop k l)
+    by : (b : Bool) → (k ≤ runLen f l → runLen f l ≡ k + runLen f (drop k l)) → suc k ≤ cond b (suc (runLen f l)) 0 → cond b (suc (runLen f l)) 0 ≡ suc k + runLen f (drop k l)
     by true r h = omega (arith, r (omega arith))
     by false r h = absurd (omega arith)
 
@@ -135,7 +135,7 @@ abbrev pub shape : ℕ → ℕ → Bool
 shape x n = (letter x || sigil x && ltb 0 n) && leb n 15
 
 there-by : (x : ℕ) (m : List ℕ) → (letter x || sigil x) ≡ true
-    → nameThere (x ∷ m) ≡ pick (shape x (runLen wordByte m)) (record { ok = true; value = packed (x ∷ take (runLen wordByte m) m); rest = drop (runLen wordByte m) m }) (record { ok = false; value = noName; rest = x ∷ m })
+    → nameThere (x ∷ m) ≡ cond (shape x (runLen wordByte m)) (record { ok = true; value = packed (x ∷ take (runLen wordByte m) m); rest = drop (runLen wordByte m) m }) (record { ok = false; value = noName; rest = x ∷ m })
 unfolding nameThere tokenOf tokenLen afterToken isName
 there-by x m h = rw (start-word x h, length-take-le (runLen wordByte m) m (run-le wordByte m), all-run wordByte m, and-true (leb (runLen wordByte m) 15))
 
@@ -154,7 +154,7 @@ module _ (s : List ℕ) (at : ℕ) where
     name-not g = rw (drop-cons s at 0 h) (sym (there-not (getD s at 0) (drop (suc at) s) g))
 
     module _ (start : (letter (getD s at 0) || sigil (getD s at 0)) ≡ true) where
-      there : nameThere (drop at s) ≡ pick (shape (getD s at 0) (runLen wordByte (drop (at + 1) s))) (record { ok = true; value = packed (getD s at 0 ∷ take (runLen wordByte (drop (at + 1) s)) (drop (at + 1) s)); rest = drop (runLen wordByte (drop (at + 1) s)) (drop (at + 1) s) }) (record { ok = false; value = noName; rest = drop at s })
+      there : nameThere (drop at s) ≡ cond (shape (getD s at 0) (runLen wordByte (drop (at + 1) s))) (record { ok = true; value = packed (getD s at 0 ∷ take (runLen wordByte (drop (at + 1) s)) (drop (at + 1) s)); rest = drop (runLen wordByte (drop (at + 1) s)) (drop (at + 1) s) }) (record { ok = false; value = noName; rest = drop at s })
       there = rw (add-one at, drop-cons s at 0 h) (there-by (getD s at 0) (drop (suc at) s) start)
 
       -- the run ends within the first word
@@ -224,6 +224,6 @@ here-law r l = by (isName (tokenOf l))
   where
     by : (b : Bool) → _≡_ {A = Took Name}
         (record { value = thereBy b l .value; next = record { rest = thereBy b l .rest; ok = thereBy b l .ok; over = r .over; far = r .far } })
-        (pick b (record { value = packed (tokenOf l); next = on r (afterToken l) }) (record { value = noName; next = off r l }))
+        (cond b (record { value = packed (tokenOf l); next = on r (afterToken l) }) (record { value = noName; next = off r l }))
     by true = refl
     by false = refl

@@ -6,13 +6,13 @@ use native.Mathlib.Omega.{arith}
 use native.Mathlib.Decide.{decLe}
 use mathlib.Core.Path.{_≡_, refl, sym, ap, _∙_}
 use mathlib.Core.List.{List, [], _∷_}
-use mathlib.Core.Bool.{Bool, true, false, _&&_, _||_, not, true≢false}
+use mathlib.Core.Bool.{Bool, true, false, _&&_, _||_, not, true≢false, cond}
 use lib.ListN.{length, getD, take, drop, drop-of-length-le}
 use lib.Seq.{drop-cons, drop-drop, length-take-le, getD-drop}
 use lib.Dec.{ltb, leb, eqb}
 use borrow.Author.Tests.{eq-eqb, ne-eqb, le-leb, lt-leb, lt-ltb, le-ltb, ltb-true, ltb-false, leb-true, eqb-true, not-true}
 use Rattle.tokens.specs.declared.Numeral.{Numeral}
-use Rattle.tokens.specs.Bytes.{pick, between, wordByte, runLen, all, tokenLen, tokenOf, afterToken}
+use Rattle.tokens.specs.Bytes.{between, wordByte, runLen, all, tokenLen, tokenOf, afterToken}
 use Rattle.tokens.specs.Numbers.{digitOf, isDigit, hexMark, zeroLed, someDigits, isNumber, valueOf, numeralOf, fitted, noNumeral, positional}
 use Rattle.tokens.specs.Cursors.{Rest, on, off, numberHere}
 use Rattle.lexer.specs.Runs.{baseOf, digitsLen, digitsAfter, wholeRun, runNumeral}
@@ -94,7 +94,7 @@ module _ (base : ℕ) (small : base ≤ 16) where
   run-all (x ∷ m) = go (isDigit base x) (wordByte x) refl refl (run-all m)
     where
       go : (d w : Bool) → isDigit base x ≡ d → wordByte x ≡ w → all (isDigit base) (take (runLen wordByte m) m) ≡ not (wordByte (getD m (digitsLen base m) 0))
-          → all (isDigit base) (take (pick w (suc (runLen wordByte m)) 0) (x ∷ m)) ≡ not (wordByte (getD (x ∷ m) (pick d (suc (digitsLen base m)) 0) 0))
+          → all (isDigit base) (take (cond w (suc (runLen wordByte m)) 0) (x ∷ m)) ≡ not (wordByte (getD (x ∷ m) (cond d (suc (digitsLen base m)) 0) 0))
       go true true p q k = rw p k
       go true false p q k = absurd (true≢false (sym (digit-word base x small p) ∙ q))
       go false true p q k = rw (p, q)
@@ -105,7 +105,7 @@ module _ (base : ℕ) (small : base ≤ 16) where
   run-len (x ∷ m) h = go (isDigit base x) (wordByte x) refl refl (run-len m) h
     where
       go : (d w : Bool) → isDigit base x ≡ d → wordByte x ≡ w → (wordByte (getD m (digitsLen base m) 0) ≡ false → runLen wordByte m ≡ digitsLen base m)
-          → wordByte (getD (x ∷ m) (pick d (suc (digitsLen base m)) 0) 0) ≡ false → pick w (suc (runLen wordByte m)) 0 ≡ pick d (suc (digitsLen base m)) 0
+          → wordByte (getD (x ∷ m) (cond d (suc (digitsLen base m)) 0) 0) ≡ false → cond w (suc (runLen wordByte m)) 0 ≡ cond d (suc (digitsLen base m)) 0
       go true true p q k h = ap suc (k h)
       go true false p q k h = absurd (true≢false (sym (digit-word base x small p) ∙ q))
       go false true p q k h = absurd (true≢false (sym q ∙ h))
@@ -113,13 +113,13 @@ module _ (base : ℕ) (small : base ≤ 16) where
 
   -- the run of word bytes as digits, where it is the run of digits, and else none
   run-numeral : (m : List ℕ)
-      → runNumeral base m ≡ pick (someDigits base (take (runLen wordByte m) m)) (fitted (positional base 0 (take (runLen wordByte m) m))) noNumeral
+      → runNumeral base m ≡ cond (someDigits base (take (runLen wordByte m) m)) (fitted (positional base 0 (take (runLen wordByte m) m))) noNumeral
   unfolding runNumeral wholeRun someDigits
   run-numeral m = go (wordByte (getD m (digitsLen base m) 0)) refl
     where
       go : (w : Bool) → wordByte (getD m (digitsLen base m) 0) ≡ w
-          → pick (ltb 0 (digitsLen base m) && not (wordByte (getD m (digitsLen base m) 0))) (fitted (digitsAfter base 0 m)) noNumeral
-          ≡ pick (ltb 0 (length (take (runLen wordByte m) m)) && all (isDigit base) (take (runLen wordByte m) m)) (fitted (positional base 0 (take (runLen wordByte m) m))) noNumeral
+          → cond (ltb 0 (digitsLen base m) && not (wordByte (getD m (digitsLen base m) 0))) (fitted (digitsAfter base 0 m)) noNumeral
+          ≡ cond (ltb 0 (length (take (runLen wordByte m) m)) && all (isDigit base) (take (runLen wordByte m) m)) (fitted (positional base 0 (take (runLen wordByte m) m))) noNumeral
       go true e = rw (run-all m, e, and-false (ltb 0 (digitsLen base m)), and-false (ltb 0 (length (take (runLen wordByte m) m))))
       go false e = rw (run-all m, e, run-len m e, length-take-le (digitsLen base m) m (run-le (isDigit base) m))
 
@@ -127,7 +127,7 @@ module _ (base : ℕ) (small : base ≤ 16) where
   unfolding runNumeral wholeRun
   run-end m h = go (ltb 0 (digitsLen base m)) (wordByte (getD m (digitsLen base m) 0)) refl h
     where
-      go : (a w : Bool) → wordByte (getD m (digitsLen base m) 0) ≡ w → pick (a && not w) (fitted (digitsAfter base 0 m)) noNumeral .ok ≡ true → runLen wordByte m ≡ digitsLen base m
+      go : (a w : Bool) → wordByte (getD m (digitsLen base m) 0) ≡ w → cond (a && not w) (fitted (digitsAfter base 0 m)) noNumeral .ok ≡ true → runLen wordByte m ≡ digitsLen base m
       go true true e h = absurd (true≢false (sym h))
       go true false e h = run-len m e
       go false w e h = absurd (true≢false (sym h))
@@ -183,18 +183,18 @@ unfolding runNumeral wholeRun
 run-none base x m e = rw e
 
 -- a token that does not start with 0
-other-numeral : (x : ℕ) (u : List ℕ) → eqb x 48 ≡ false → numeralOf (x ∷ u) ≡ pick (someDigits 10 (x ∷ u)) (fitted (positional 10 0 (x ∷ u))) noNumeral
+other-numeral : (x : ℕ) (u : List ℕ) → eqb x 48 ≡ false → numeralOf (x ∷ u) ≡ cond (someDigits 10 (x ∷ u)) (fitted (positional 10 0 (x ∷ u))) noNumeral
 unfolding numeralOf isNumber valueOf hexMark zeroLed
 other-numeral x u e = rw e
 
-other-none : (x : ℕ) (u : List ℕ) (n : Numeral) → isDigit 10 x ≡ false → pick (someDigits 10 (x ∷ u)) n noNumeral ≡ noNumeral
+other-none : (x : ℕ) (u : List ℕ) (n : Numeral) → isDigit 10 x ≡ false → cond (someDigits 10 (x ∷ u)) n noNumeral ≡ noNumeral
 unfolding someDigits
 other-none x u n e = rw (e, and-false (ltb 0 (suc (length u))))
 
 other-token : (x : ℕ) (m : List ℕ) → eqb x 48 ≡ false → isDigit 10 x ≡ false → numeralOf (tokenOf (x ∷ m)) ≡ noNumeral
 unfolding tokenOf tokenLen
 other-token x m e d =
-    let u = take (pick (wordByte x || eqb x 37) (runLen wordByte m) 0) m in
+    let u = take (cond (wordByte x || eqb x 37) (runLen wordByte m) 0) m in
     other-numeral x u e ∙ other-none x u (fitted (positional 10 0 (x ∷ u))) d
 
 head-decimal : (x : ℕ) (m : List ℕ) → eqb x 48 ≡ false → runNumeral 10 (x ∷ m) ≡ numeralOf (tokenOf (x ∷ m))
@@ -215,7 +215,7 @@ head-decimal-end x m h = go (wordByte x) refl
 word-48 : wordByte 48 ≡ true
 word-48 = figure-word 48 refl
 
-hex-numeral : (y : ℕ) (w : List ℕ) → (eqb y 120 || eqb y 88) ≡ true → numeralOf (48 ∷ (y ∷ w)) ≡ pick (someDigits 16 w) (fitted (positional 16 0 w)) noNumeral
+hex-numeral : (y : ℕ) (w : List ℕ) → (eqb y 120 || eqb y 88) ≡ true → numeralOf (48 ∷ (y ∷ w)) ≡ cond (someDigits 16 w) (fitted (positional 16 0 w)) noNumeral
 unfolding numeralOf isNumber valueOf hexMark
 hex-numeral y w h = rw h
 
@@ -291,7 +291,7 @@ numeral-past s at h = rw (drop-of-length-le s h)
 
 -- what a numeral tells of a value and a limit
 abbrev numeralBy : Bool → Bool → ℕ → Numeral
-numeralBy b c v = pick b (pick c (record { ok = true; over = false; value = v }) (record { ok = true; over = true; value = 0 })) noNumeral
+numeralBy b c v = cond b (cond c (record { ok = true; over = false; value = v }) (record { ok = true; over = true; value = 0 })) noNumeral
 
 none-by : (b c : Bool) (v : ℕ) (n : Numeral) → n ≡ numeralBy b c v → n .ok ≡ false → b ≡ false
 none-by true true v n e o = absurd (true≢false (sym (ap (λ (m : Numeral). m .ok) e) ∙ o))
@@ -320,7 +320,7 @@ module _ (limit : ℕ) (small : limit < 2 ^ 64) (l : List ℕ) (r : Rest) (n : N
       rw (none-by (isNumber w) (ltb (valueOf w) (2 ^ 64)) (valueOf w) n p o)
 
   pub number-big : (e : List ℕ) → e ≡ afterToken l → n .ok ≡ true → (n .over || ltb limit (n .value)) ≡ true
-      → numberHere limit r l ≡ record { value = 0; next = record { rest = e; ok = true; over = true; far = pick (r .over) (r .far) l } }
+      → numberHere limit r l ≡ record { value = 0; next = record { rest = e; ok = true; over = true; far = cond (r .over) (r .far) l } }
   unfolding numeralOf fitted
   number-big e t o v =
       let w = tokenOf l in

@@ -1,12 +1,12 @@
 -- Runs of digits and of word bytes at the head of a list of bytes. Assumes nothing.
 use Prim.Native.Nat.{ℕ, min}
 use mathlib.Core.List.{List}
-use mathlib.Core.Bool.{Bool, true, false, _&&_, not}
+use mathlib.Core.Bool.{Bool, true, false, _&&_, not, cond}
 use lib.ListN.{getD, take, drop}
 use lib.Dec.{ltb}
 use Rattle.tokens.specs.declared.Name.{Name}
 use Rattle.tokens.specs.declared.Numeral.{Numeral}
-use Rattle.tokens.specs.Bytes.{pick, wordByte, runLen, tokenOf, afterToken}
+use Rattle.tokens.specs.Bytes.{wordByte, runLen, tokenOf, afterToken}
 use Rattle.tokens.specs.Names.{isName, packed, noName}
 use Rattle.tokens.specs.Numbers.{isDigit, positional, fitted, noNumeral}
 use Rattle.lexer.specs.declared.number.Digits.{Digits}
@@ -16,7 +16,7 @@ abbrev pub numeralIn : Digits → Numeral
 numeralIn r = record { ok = r .ok; over = r .over; value = r .value }
 
 abbrev pub baseOf : Bool → ℕ
-baseOf hex = pick hex 16 10
+baseOf hex = cond hex 16 10
 
 -- how many digits there are
 abbrev pub digitsLen : ℕ → List ℕ → ℕ
@@ -31,7 +31,7 @@ unfoldable pub wholeRun : ℕ → List ℕ → Bool
 wholeRun base l = ltb 0 (digitsLen base l) && not (wordByte (getD l (digitsLen base l) 0))
 
 unfoldable pub runNumeral : ℕ → List ℕ → Numeral
-runNumeral base l = pick (wholeRun base l) (fitted (digitsAfter base 0 l)) noNumeral
+runNumeral base l = cond (wholeRun base l) (fitted (digitsAfter base 0 l)) noNumeral
 
 -- how many word bytes there are, but no more than there is room for
 abbrev pub wordsLen : ℕ → List ℕ → ℕ
@@ -44,7 +44,7 @@ pub record NameThere : Type 0 where
   pub rest : List ℕ
 
 abbrev pub thereBy : Bool → List ℕ → NameThere
-thereBy is l = pick is (record { ok = true; value = packed (tokenOf l); rest = afterToken l }) (record { ok = false; value = noName; rest = l })
+thereBy is l = cond is (record { ok = true; value = packed (tokenOf l); rest = afterToken l }) (record { ok = false; value = noName; rest = l })
 
 unfoldable pub nameThere : List ℕ → NameThere
 nameThere l = thereBy (isName (tokenOf l)) l

@@ -5,9 +5,8 @@ use tokens::NameRead;
 use tokens::NumberRead;
 ghost use mathlib.Core.Path.{_≡_};
 ghost use Prim.Native.Nat.{_-_};
-ghost use mathlib.Core.Bool.{true};
+ghost use mathlib.Core.Bool.{true, cond};
 ghost use lib.ListN.{length, drop};
-ghost use Rattle.tokens.specs.Bytes.{pick};
 ghost use Rattle.tokens.specs.Cursors.{seen, markC, endC, nameSeen, nameC, numberSeen, numberC};
 
 // Past the byte m, which blanks may precede.
@@ -71,7 +70,7 @@ fn moved(k: Cursor, at: usize, ok: bool) -> Cursor
 
 // The cursor past a number that starts at i, ends at e and is too large.
 fn past(k: Cursor, i: usize, e: usize) -> Cursor
-    ensures { λ r. ⌜ r ≡ record { at = e; ok = true; over = true; far = pick (k .over) (k .far) i } ⌝ }
+    ensures { λ r. ⌜ r ≡ record { at = e; ok = true; over = true; far = cond (k .over) (k .far) i } ⌝ }
 {
     if k.over {
         return Cursor {

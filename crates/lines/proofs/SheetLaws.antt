@@ -6,13 +6,13 @@ use native.Mathlib.Numerals.{add-one}
 use native.Mathlib.Nat.{add-zero, zero-add}
 use mathlib.Core.Path.{_≡_, refl, sym, ap, _∙_, subst}
 use mathlib.Core.List.{List, [], _∷_, _++_}
-use mathlib.Core.Bool.{Bool, true, false, _&&_, _||_}
+use mathlib.Core.Bool.{Bool, true, false, _&&_, _||_, cond}
 use lib.ListN.{length, getD, take, drop, drop-of-length-le, length-drop}
 use lib.Seq.{drop-cons, drop-drop, length-take-le, getD-drop, getD-take, take-all, take-nil}
 use lib.Dec.{ltb, leb, eqb}
 use borrow.Author.Tests.{lt-ltb, le-ltb, eq-eqb, ne-eqb, ltb-true, ltb-false, eqb-true, leb-true}
 use Rattle.laws.proofs.BoolLaws.{never, and-split, and-swap}
-use Rattle.tokens.specs.Bytes.{pick, all, runLen}
+use Rattle.tokens.specs.Bytes.{all, runLen}
 use Rattle.lines.specs.declared.Line.{Line}
 use Rattle.lines.specs.Sheet.{upto, textOf, endedOf, rest, after, bit, countFrom, lineCount, lfs, header, bodyAt, sameBytes, headed, warpByte, warpOf, plain, laidOut, contentOf, noLine, lineAt, contentSeen}
 
@@ -67,7 +67,7 @@ unfolding upto
 upto-le [] = omega arith
 upto-le (x ∷ l) = upto-by (eqb x 10) (upto l) (length l) (upto-le l)
   where
-    upto-by : (b : Bool) (n m : ℕ) → n ≤ m → pick b 0 (suc n) ≤ suc m
+    upto-by : (b : Bool) (n m : ℕ) → n ≤ m → cond b 0 (suc n) ≤ suc m
     upto-by true n m h = omega arith
     upto-by false n m h = omega arith
 
@@ -93,7 +93,7 @@ unfolding countFrom
 count-past [] b h = refl
 count-past (x ∷ l) b h = absurd (omega arith)
 
-inside-by : (b : Bool) (l : List ℕ) → countFrom false l ≡ countFrom true (drop (suc (upto l)) l) → 0 + countFrom b l ≡ countFrom true (drop (pick b 0 (suc (upto l))) l)
+inside-by : (b : Bool) (l : List ℕ) → countFrom false l ≡ countFrom true (drop (suc (upto l)) l) → 0 + countFrom b l ≡ countFrom true (drop (cond b 0 (suc (upto l))) l)
 inside-by true l h = omega arith
 inside-by false l h = omega arith
 
@@ -107,7 +107,7 @@ count-inside (x ∷ l) = inside-by (eqb x 10) l (count-inside l)
 pub count-line : (l : List ℕ) → 0 < length l → lineCount l ≡ suc (lineCount (rest l))
 unfolding lineCount countFrom upto rest
 count-line [] h = absurd (omega arith)
-count-line (x ∷ l) h = let e : 0 + countFrom (eqb x 10) l ≡ countFrom true (drop (pick (eqb x 10) 0 (suc (upto l))) l) = inside-by (eqb x 10) l (count-inside l) in omega arith
+count-line (x ∷ l) h = let e : 0 + countFrom (eqb x 10) l ≡ countFrom true (drop (cond (eqb x 10) 0 (suc (upto l))) l) = inside-by (eqb x 10) l (count-inside l) in omega arith
 
 -- no line, no byte
 pub count-none : (l : List ℕ) → length l ≡ 0 → lineCount l ≡ 0
@@ -302,16 +302,16 @@ module _ (l : List ℕ) (e : ℕ) (z : e ≡ 2 + runLen plain (drop 2 l)) where
   is-end : e ≡ endOf l
   is-end = omega arith
 
-  pub measured : pick (laidOut l) (upto l) 0 ≡ pick (tested l e) e 0
+  pub measured : cond (laidOut l) (upto l) 0 ≡ cond (tested l e) e 0
   measured = rw (is-end, laid-tested l) (measured-by (tested l (endOf l)) refl)
     where
-      measured-by : (b : Bool) → tested l (endOf l) ≡ b → pick b (upto l) 0 ≡ pick b (endOf l) 0
+      measured-by : (b : Bool) → tested l (endOf l) ≡ b → cond b (upto l) 0 ≡ cond b (endOf l) 0
       measured-by true h = end-by l (split l (endOf l) h)
       measured-by false h = refl
 
   pub measured-as : (w b : Bool) (x y z : ℕ) → x ≡ getD l 0 0 → y ≡ getD l 1 0 → z ≡ getD l e 0 → w ≡ warpByte x
-      → (w && eqb y 9 && eqb z 10 && leb e 2048) ≡ b → pick b e 0 ≡ pick (laidOut l) (upto l) 0
-  measured-as w b x y z p q r v t = let k : tested l e ≡ b = rw (← p, ← q, ← r, ← v) t in sym (measured ∙ ap (λ (u : Bool). pick u e 0) k)
+      → (w && eqb y 9 && eqb z 10 && leb e 2048) ≡ b → cond b e 0 ≡ cond (laidOut l) (upto l) 0
+  measured-as w b x y z p q r v t = let k : tested l e ≡ b = rw (← p, ← q, ← r, ← v) t in sym (measured ∙ ap (λ (u : Bool). cond u e 0) k)
 
 -- a line that is laid out has its warp byte and its tab
 pub laid-warp : (l : List ℕ) → laidOut l ≡ true → (warpByte (getD l 0 0) ≡ true) × (eqb (getD l 1 0) 9 ≡ true)
@@ -398,11 +398,11 @@ module _ (s : List ℕ) (at : ℕ) where
   unfolding lineAt laidOut textOf upto warpByte
   find-past h = rw (drop-of-length-le s h)
 
-  module _ (m : List ℕ) (n : ℕ) (d : m ≡ drop at s) (e : n ≡ pick (laidOut m) (upto m) 0) where
-    measured-here : n ≡ pick (laidOut (drop at s)) (upto (drop at s)) 0
-    measured-here = e ∙ ap (λ (x : List ℕ). pick (laidOut x) (upto x) 0) d
+  module _ (m : List ℕ) (n : ℕ) (d : m ≡ drop at s) (e : n ≡ cond (laidOut m) (upto m) 0) where
+    measured-here : n ≡ cond (laidOut (drop at s)) (upto (drop at s)) 0
+    measured-here = e ∙ ap (λ (x : List ℕ). cond (laidOut x) (upto x) 0) d
 
-    none-by : (b : Bool) → laidOut (drop at s) ≡ b → n ≡ pick b (upto (drop at s)) 0 → n ≡ 0 → b ≡ false
+    none-by : (b : Bool) → laidOut (drop at s) ≡ b → n ≡ cond b (upto (drop at s)) 0 → n ≡ 0 → b ≡ false
     none-by true h k z = absurd (omega (arith, laid-two (drop at s) h))
     none-by false h k z = refl
 
@@ -410,7 +410,7 @@ module _ (s : List ℕ) (at : ℕ) where
     unfolding lineAt
     find-none z = rw (none-by (laidOut (drop at s)) refl measured-here z)
 
-    some-by : (b : Bool) → n ≡ pick b (upto (drop at s)) 0 → (n ≡ 0 → ⊥) → (b ≡ true) × (n ≡ upto (drop at s))
+    some-by : (b : Bool) → n ≡ cond b (upto (drop at s)) 0 → (n ≡ 0 → ⊥) → (b ≡ true) × (n ≡ upto (drop at s))
     some-by true k z = (refl, k)
     some-by false k z = absurd (z k)
 
@@ -440,7 +440,7 @@ module _ (s : List ℕ) (at : ℕ) where
   unfolding lineAt
   line-ok = ok-by (laidOut (drop at s))
     where
-      ok-by : (b : Bool) → pick b (record { ok = true; warp = warpOf (getD (drop at s) 0 0); start = at + 2; end = at + upto (drop at s); next = at + upto (drop at s) + 1 }) noLine .ok ≡ b
+      ok-by : (b : Bool) → cond b (record { ok = true; warp = warpOf (getD (drop at s) 0 0); start = at + 2; end = at + upto (drop at s); next = at + upto (drop at s) + 1 }) noLine .ok ≡ b
       ok-by true = refl
       ok-by false = refl
 

@@ -4,12 +4,12 @@ use native.Mathlib.Numerals.{add-one}
 use native.Mathlib.Omega.{arith}
 use mathlib.Core.Path.{_≡_, refl, sym, ap, _∙_, subst}
 use mathlib.Core.List.{List, [], _∷_}
-use mathlib.Core.Bool.{Bool, true, false, _&&_, _||_}
+use mathlib.Core.Bool.{Bool, true, false, _&&_, _||_, cond}
 use lib.ListN.{length, getD, take, drop, length-drop}
 use lib.Dec.{leb, eqb}
 use borrow.Author.Tests.{eqb-true, leb-true, le-leb}
 use Rattle.laws.proofs.BoolLaws.{never, and-split}
-use Rattle.tokens.specs.Bytes.{pick, all}
+use Rattle.tokens.specs.Bytes.{all}
 use Rattle.lines.specs.Sheet.{textOf, endedOf, rest, after, countFrom, lineCount, warpByte, warpOf, plain, laidOut, Content, fault, laid, contentOf, contentAfter, headed, bodyAt, lineAt, After, contentSeen}
 use Rattle.lines.specs.declared.Line.{Line}
 use Rattle.lines.specs.Written.{Written}
@@ -47,7 +47,7 @@ laid-written l h =
     record { mark = getD t 0 0; line = text-by t (e .0) (e .1); marks = e .0; names = refl; shown = d .1; ended = b .1; short = leb-true (length t) 2048 (a .1) }
 
 written-by : (l : List ℕ) (b : Bool) (w : ℕ) (t : List ℕ) → laidOut l ≡ b
-    → pick b (laid (warpOf (getD (textOf l) 0 0)) (drop 2 (textOf l))) fault ≡ laid w t → Written l w t
+    → cond b (laid (warpOf (getD (textOf l) 0 0)) (drop 2 (textOf l))) fault ≡ laid w t → Written l w t
 written-by l true w t h e =
     let p : warpOf (getD (textOf l) 0 0) ≡ w = ap warpIn e in
     let q : drop 2 (textOf l) ≡ t = ap statementIn e in
@@ -66,7 +66,7 @@ written-read l w t k =
     let e : leb (suc (suc (length t))) 2048 ≡ true = le-leb (suc (suc (length t))) 2048 (omega (arith, ap length (k .line), k .short)) in
     rw (k .line, k .marks, k .shown, k .ended, e, k .names)
 
-below-by : (x : ℕ) (a b d : Bool) → leb x 51 ≡ b → eqb x 42 ≡ d → (a && b || d) ≡ true → pick d 0 (x - 48) ≤ 3
+below-by : (x : ℕ) (a b d : Bool) → leb x 51 ≡ b → eqb x 42 ≡ d → (a && b || d) ≡ true → cond d 0 (x - 48) ≤ 3
 below-by x a b true p q h = omega arith
 below-by x true true false p q h = omega (arith, leb-true x 51 p)
 below-by x true false false p q h = never h
@@ -118,7 +118,7 @@ module _ (s : List ℕ) (k at : ℕ) (p : After s k at) (r : Line) (e : r ≡ li
   -- a line that is not ok is a layout fault
   pub step-fault : r .ok ≡ false → contentAfter k s ≡ fault
   unfolding contentSeen
-  step-fault h = let z : pick (r .ok) (laid (r .warp) (take (r .end - r .start) (drop (r .start) s))) fault ≡ contentAfter k s = content-seen in sym (rw h at z)
+  step-fault h = let z : cond (r .ok) (laid (r .warp) (take (r .end - r .start) (drop (r .start) s))) fault ≡ contentAfter k s = content-seen in sym (rw h at z)
 
   module _ (h : r .ok ≡ true) where
     ok-there : lineAt s at .ok ≡ true
@@ -127,7 +127,7 @@ module _ (s : List ℕ) (k at : ℕ) (p : After s k at) (r : Line) (e : r ≡ li
     -- a line that is ok is its warp and the bytes of its statement
     pub step-laid : contentAfter k s ≡ laid (r .warp) (take (r .end - r .start) (drop (r .start) s))
     unfolding contentSeen
-    step-laid = let z : pick (r .ok) (laid (r .warp) (take (r .end - r .start) (drop (r .start) s))) fault ≡ contentAfter k s = content-seen in sym (rw h at z)
+    step-laid = let z : cond (r .ok) (laid (r .warp) (take (r .end - r .start) (drop (r .start) s))) fault ≡ contentAfter k s = content-seen in sym (rw h at z)
 
     pub step-warp : r .warp ≤ 3
     step-warp =

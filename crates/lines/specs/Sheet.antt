@@ -2,10 +2,10 @@
 use Prim.Native.Nat.{ℕ, zero, suc, _+_, _-_, _≤_}
 use mathlib.Core.Path.{_≡_}
 use mathlib.Core.List.{List, [], _∷_}
-use mathlib.Core.Bool.{Bool, true, false, _&&_, _||_}
+use mathlib.Core.Bool.{Bool, true, false, _&&_, _||_, cond}
 use lib.ListN.{length, getD, take, drop}
 use lib.Dec.{ltb, leb, eqb}
-use Rattle.tokens.specs.Bytes.{pick, between, all}
+use Rattle.tokens.specs.Bytes.{between, all}
 use Rattle.lines.specs.declared.Line.{Line}
 
 -- ---- lines end in LF
@@ -13,7 +13,7 @@ use Rattle.lines.specs.declared.Line.{Line}
 -- how many bytes stand before the first LF, or before the end
 unfoldable pub upto : List ℕ → ℕ
 upto [] = 0
-upto (x ∷ l) = pick (eqb x 10) 0 (suc (upto l))
+upto (x ∷ l) = cond (eqb x 10) 0 (suc (upto l))
 
 -- the first line, without its LF
 unfoldable pub textOf : List ℕ → List ℕ
@@ -78,7 +78,7 @@ warpByte x = between 48 51 x || eqb x 42
 
 -- * is warp 0
 unfoldable pub warpOf : ℕ → ℕ
-warpOf x = pick (eqb x 42) 0 (x - 48)
+warpOf x = cond (eqb x 42) 0 (x - 48)
 
 -- a byte of a statement
 unfoldable pub plain : ℕ → Bool
@@ -99,7 +99,7 @@ pub data Content : Type 0 where
   laid : (warp : ℕ) → (statement : List ℕ) → Content
 
 unfoldable pub contentOf : List ℕ → Content
-contentOf l = pick (laidOut l) (laid (warpOf (getD (textOf l) 0 0)) (drop 2 (textOf l))) fault
+contentOf l = cond (laidOut l) (laid (warpOf (getD (textOf l) 0 0)) (drop 2 (textOf l))) fault
 
 -- the line numbered k + 1 of a sheet
 abbrev pub contentAfter : ℕ → List ℕ → Content
@@ -120,7 +120,7 @@ noLine = record { ok = false; warp = 0; start = 0; end = 0; next = 0 }
 unfoldable pub lineAt : List ℕ → ℕ → Line
 lineAt s at =
     let l = drop at s in
-    pick (laidOut l) (record { ok = true; warp = warpOf (getD l 0 0); start = at + 2; end = at + upto l; next = at + upto l + 1 }) noLine
+    cond (laidOut l) (record { ok = true; warp = warpOf (getD l 0 0); start = at + 2; end = at + upto l; next = at + upto l + 1 }) noLine
 
 -- where a reader stands after k lines from a place on: each line says where the next one starts
 unfoldable pub placeAfter : List ℕ → ℕ → ℕ → ℕ
@@ -129,7 +129,7 @@ placeAfter s at (suc k) = lineAt s (placeAfter s at k) .next
 
 -- what a line found by places is
 unfoldable pub contentSeen : List ℕ → Line → Content
-contentSeen s r = pick (r .ok) (laid (r .warp) (take (r .end - r .start) (drop (r .start) s))) fault
+contentSeen s r = cond (r .ok) (laid (r .warp) (take (r .end - r .start) (drop (r .start) s))) fault
 
 -- a place stands after k lines of a sheet
 pub record After (s : List ℕ) (k at : ℕ) : Type 0 where

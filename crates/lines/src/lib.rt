@@ -1,9 +1,9 @@
 // Lines of a sheet: whether a sheet is too large, whether it begins with its header, and the line at a place.
 ghost use mathlib.Core.Path.{_≡_};
-ghost use mathlib.Core.Bool.{true};
+ghost use mathlib.Core.Bool.{true, cond};
 ghost use Prim.Native.Nat.{_+_, _<_, _≤_, _^_};
 ghost use lib.ListN.{length, getD, take, drop};
-ghost use Rattle.tokens.specs.Bytes.{pick, all, runLen};
+ghost use Rattle.tokens.specs.Bytes.{all, runLen};
 ghost use Rattle.lines.specs.Sheet.{bit, upto, lfs, lineCount, oversize, headed, warpByte, warpOf, plain, laidOut, lineAt};
 
 // The bytes of line 1, its LF among them: where line 2 starts.
@@ -183,7 +183,7 @@ fn plain_end(s: &[u8], at: usize) -> usize
 // How many bytes the first line has before its LF if it is laid out, else 0. Between the tab and the LF each byte is
 // looked at once, in the last block of 16 at most twice.
 fn laid_length(l: &[u8]) -> usize
-    ensures { λ r. ⌜ r ≡ pick (laidOut (now (l .entry))) (upto (now (l .entry))) 0 ⌝ }
+    ensures { λ r. ⌜ r ≡ cond (laidOut (now (l .entry))) (upto (now (l .entry))) 0 ⌝ }
 {
     let end = plain_end(l, 2);
     let first = byte_at(l, 0);

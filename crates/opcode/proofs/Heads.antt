@@ -5,13 +5,13 @@ use native.Mathlib.Nat.{add-zero}
 use native.Mathlib.Omega.{arith}
 use mathlib.Core.Path.{_≡_, refl, sym, ap, subst, _∙_}
 use mathlib.Core.List.{List, [], _∷_, _++_}
-use mathlib.Core.Bool.{Bool, true, false, _&&_, not}
+use mathlib.Core.Bool.{Bool, true, false, _&&_, not, cond}
 use lib.ListN.{length, take, drop, take-append-drop}
 use lib.Seq.{take-append-seam, drop-append-seam, length-take-le}
 use lib.Dec.{eqb}
 use borrow.Author.Tests.{eq-eqb, eqb-true, not-true, not-false}
 use Rattle.laws.proofs.BoolLaws.{and-split}
-use Rattle.tokens.specs.Bytes.{pick, opcodeByte, runLen, all}
+use Rattle.tokens.specs.Bytes.{opcodeByte, runLen, all}
 use Rattle.tokens.proofs.Runs.{run-le, run-ends, run-all}
 use Rattle.statement.specs.declared.Opcode.{Opcode}
 use Rattle.statement.specs.declared.Found.{Found}

@@ -1,12 +1,12 @@
 -- The opcode at the head of a text. A few bytes, at places counted from the start, tell the one that it can be. Assumes nothing.
 use Prim.Native.Nat.{ℕ, _+_}
 use mathlib.Core.List.{List, [], _∷_}
-use mathlib.Core.Bool.{Bool, true, false, _&&_, not}
+use mathlib.Core.Bool.{Bool, true, false, _&&_, not, cond}
 use lib.ListN.{length, getD, take, drop}
 use lib.Dec.{eqb}
 use Rattle.instruction.specs.declared.Kind.{Kind}
 use Rattle.instruction.specs.declared.Kind.the-variants.{F16, Tf32, F8f6f4, I8}
-use Rattle.tokens.specs.Bytes.{pick, opcodeByte}
+use Rattle.tokens.specs.Bytes.{opcodeByte}
 use Rattle.statement.specs.declared.Shape.{Shape}
 use Rattle.statement.specs.declared.Shape.the-variants.{S32x32, S16x64, S16x128, S16x256}
 use Rattle.statement.specs.declared.Num.{Num}
@@ -22,7 +22,7 @@ use Rattle.opcode.specs.declared.Head.{Head}
 -- ---- the candidate
 -- by the byte at 27: .32x32b, .16x64b, .16x128b, .16x256b
 unfoldable pub shapeBy : ℕ → Shape
-shapeBy x = pick (eqb x 51) S32x32 (pick (eqb x 54) S16x64 (pick (eqb x 49) S16x128 S16x256))
+shapeBy x = cond (eqb x 51) S32x32 (cond (eqb x 54) S16x64 (cond (eqb x 49) S16x128 S16x256))
 
 unfoldable pub shapeOf : List ℕ → Shape
 shapeOf s = shapeBy (getD s 27 0)
@@ -37,8 +37,8 @@ numPlace S16x256 = 33
 -- by the first two bytes of N and what follows it
 unfoldable pub numAt : ℕ → ℕ → Num
 numAt x y =
-    pick (eqb x 49) (pick (eqb y 54) X16 (pick (eqb y 50) X128 X1))
-    (pick (eqb x 50) X2 (pick (eqb x 51) X32 (pick (eqb x 52) X4 (pick (eqb x 54) X64 X8))))
+    cond (eqb x 49) (cond (eqb y 54) X16 (cond (eqb y 50) X128 X1))
+    (cond (eqb x 50) X2 (cond (eqb x 51) X32 (cond (eqb x 52) X4 (cond (eqb x 54) X64 X8))))
 
 unfoldable pub numIn : List ℕ → Num
 numIn s = let p = numPlace (shapeOf s) in numAt (getD s p 0) (getD s (p + 1) 0)
@@ -52,32 +52,32 @@ kindPlace true true = 37
 
 -- by the first two bytes: f16, tf32, f8f6f4, i8
 unfoldable pub kindAt : ℕ → ℕ → Kind
-kindAt x y = pick (eqb x 116) Tf32 (pick (eqb x 105) I8 (pick (eqb y 49) F16 F8f6f4))
+kindAt x y = cond (eqb x 116) Tf32 (cond (eqb x 105) I8 (cond (eqb y 49) F16 F8f6f4))
 
 unfoldable pub mmaOf : Bool → Bool → List ℕ → Opcode
 mmaOf ws sp s = let p = kindPlace ws sp in Multiply ws sp (kindAt (getD s p 0) (getD s (p + 1) 0))
 
 -- .ws by the byte at 12, .sp by it or, after .ws, by the byte at 15
 unfoldable pub mmaIn : List ℕ → Opcode
-mmaIn s = pick (eqb (getD s 12 0) 119) (mmaOf true (eqb (getD s 15 0) 115) s) (mmaOf false (eqb (getD s 12 0) 115) s)
+mmaIn s = cond (eqb (getD s 12 0) 119) (mmaOf true (eqb (getD s 15 0) 115) s) (mmaOf false (eqb (getD s 12 0) 115) s)
 
 -- by the byte at 8, the first after tcgen05.
 unfoldable pub tcgen05In : ℕ → List ℕ → Opcode
 tcgen05In x s =
-    pick (eqb x 108) (Load (shapeOf s) (numIn s))
-    (pick (eqb x 115) (Store (shapeOf s) (numIn s))
-    (pick (eqb x 109) (mmaIn s)
-    (pick (eqb x 97) (Alloc (eqb (getD s 40 0) 115))
-    (pick (eqb x 100) Dealloc
-    (pick (eqb x 119) (pick (eqb (getD s 14 0) 108) WaitLoad WaitStore)
-    (pick (eqb x 102) (pick (eqb (getD s 15 0) 98) FenceBefore FenceAfter)
+    cond (eqb x 108) (Load (shapeOf s) (numIn s))
+    (cond (eqb x 115) (Store (shapeOf s) (numIn s))
+    (cond (eqb x 109) (mmaIn s)
+    (cond (eqb x 97) (Alloc (eqb (getD s 40 0) 115))
+    (cond (eqb x 100) Dealloc
+    (cond (eqb x 119) (cond (eqb (getD s 14 0) 108) WaitLoad WaitStore)
+    (cond (eqb x 102) (cond (eqb (getD s 15 0) 98) FenceBefore FenceAfter)
     Relinquish))))))
 
 -- the one opcode that a text can start with
 unfoldable pub candidateIn : List ℕ → Opcode
 candidateIn s =
-    pick (eqb (getD s 0 0) 109) (pick (eqb (getD s 5 0) 51) Mov32 Mov64)
-    (pick (eqb (getD s 0 0) 116) (tcgen05In (getD s 8 0) s)
+    cond (eqb (getD s 0 0) 109) (cond (eqb (getD s 5 0) 51) Mov32 Mov64)
+    (cond (eqb (getD s 0 0) 116) (tcgen05In (getD s 8 0) s)
     Exit)
 
 -- ---- the head

@@ -13,7 +13,6 @@ use lib.Count.{ones}
 use lib.Dec.{eqb, leb, ltb}
 use borrow.Author.Tests.{leb-true, ltb-true, ltb-false, eqb-true, eq-eqb, ne-eqb}
 use Rattle.laws.proofs.TestLaws.{never, each}
-use Rattle.tokens.specs.Bytes.{pick}
 use Rattle.tokens.specs.Numbers.{decimal}
 use Rattle.request.specs.Request.{legal}
 use Rattle.statement.specs.declared.Statement.the-variants.{Mov32, Mov64, Alloc, Dealloc, Relinquish, Load, Store, WaitLoad, WaitStore, FenceBefore, FenceAfter, Multiply, Exit}
@@ -263,12 +262,12 @@ headOf s = headText (answered s .reason) (answered s .line) (answered s .held) (
 pub report-refused : (s : List ℕ) → (answered s .reason ≡ 0 → ⊥) → reportOf s ≡ headText (answered s .reason) (answered s .line) (answered s .held) (answered s .peak)
 unfolding reportOf reportText
 report-refused s h =
-    ap (λ (b : Bool). headOf s ++ pick b (rowsText (rowsOf s)) []) (ne-eqb (answered s .reason) 0 h) ∙ append-nil (headOf s)
+    ap (λ (b : Bool). headOf s ++ cond b (rowsText (rowsOf s)) []) (ne-eqb (answered s .reason) 0 h) ∙ append-nil (headOf s)
 
 -- that of a sheet that passes has the rows after it
 pub report-passed : (s : List ℕ) → answered s .reason ≡ 0 → reportOf s ≡ headText (answered s .reason) (answered s .line) (answered s .held) (answered s .peak) ++ rowsText (rowsOf s)
 unfolding reportOf reportText
-report-passed s h = ap (λ (b : Bool). headOf s ++ pick b (rowsText (rowsOf s)) []) (eq-eqb (answered s .reason) 0 h)
+report-passed s h = ap (λ (b : Bool). headOf s ++ cond b (rowsText (rowsOf s)) []) (eq-eqb (answered s .reason) 0 h)
 
 rows-most : (s : List ℕ) → answered s .reason ≡ 0 → length (rowsText (rowsOf s)) ≤ 102350
 rows-most s h =

@@ -13,7 +13,6 @@ use lib.Dec.{eqb, leb}
 use borrow.Author.Tests.{leb-true, leb-false}
 use types.Run.{OneOf, miss}
 use denote.Enum.Declared.{tagOf}
-use Rattle.tokens.specs.Bytes.{pick}
 use Rattle.statement.proofs.Statement.{the-type}
 use Rattle.statement.specs.Reading.{readOf}
 use Rattle.statement.specs.declared.Reading.{Reading}
@@ -38,7 +37,7 @@ use Rattle.printed.specs.Printed.{rowOf, rowsUpTo}
 
 -- the row of what an alloc asks for
 abbrev pub rowBy : Asked → ℕ → List Reported
-rowBy a start = pick (a .ok) (record { name = a .name; start = start; columns = a .columns } ∷ []) []
+rowBy a start = cond (a .ok) (record { name = a .name; start = start; columns = a .columns } ∷ []) []
 
 -- every statement but an alloc asks for nothing
 abbrev pub others : List ℕ
@@ -153,7 +152,7 @@ module _ (line : ℕ → Line) (starts : List ℕ) where
   unfolding rowsUpTo
   upto-row k a e h =
       let v = getD starts (length (upTo k)) 0 in
-      ap (λ (r : List Reported). upTo k ++ r) (e v ∙ ap (λ (b : Bool). pick b (record { name = a .name; start = v; columns = a .columns } ∷ []) []) h)
+      ap (λ (r : List Reported). upTo k ++ r) (e v ∙ ap (λ (b : Bool). cond b (record { name = a .name; start = v; columns = a .columns } ∷ []) []) h)
 
 -- ---- the loop over the lines
 
@@ -199,7 +198,7 @@ module _ (s starts old room : List ℕ) (from at next k : ℕ) (u : Upto s start
     -- no alloc: nothing is put
     pub upto-other : a .ok ≡ false → Upto s starts old from (r .next) next k room
     upto-other h =
-        let none : (x : ℕ) → rowOf (linesOf s (u .lines)) x ≡ [] = λ x. here x ∙ ap (λ (b : Bool). pick b (record { name = a .name; start = x; columns = a .columns } ∷ []) []) h in
+        let none : (x : ℕ) → rowOf (linesOf s (u .lines)) x ≡ [] = λ x. here x ∙ ap (λ (b : Bool). cond b (record { name = a .name; start = x; columns = a .columns } ∷ []) []) h in
         let z = upto-skip (linesOf s) starts (u .lines) none in
         record {
           lines = suc (u .lines);

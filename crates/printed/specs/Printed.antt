@@ -1,11 +1,11 @@
 -- What the program prints for a sheet: the four numbers of the answer, and on a pass a row for each alloc.
 -- Assumes nothing.
+use mathlib.Core.Bool.{cond}
 use Prim.Native.Nat.{ℕ, zero, suc, _-_}
 use mathlib.Core.List.{List, [], _∷_, _++_}
 use lib.ListN.{length, getD}
 use lib.Seq.{sets}
 use lib.Dec.{leb}
-use Rattle.tokens.specs.Bytes.{pick}
 use Rattle.statement.specs.Views.{requestOf, of}
 use Rattle.lines.specs.Sheet.{lineCount}
 use Rattle.rules.specs.declared.Answer.{Answer}
@@ -44,11 +44,11 @@ reportOf s = reportText (answered s .reason) (answered s .line) (answered s .hel
 
 -- the answer in a room of so many bytes: fewer than the largest report needs are too few (19)
 unfoldable pub printedOf : List ℕ → ℕ → Printed
-printedOf s room = pick (leb reportRoom room) (record { reason = answered s .reason; length = length (reportOf s) }) (record { reason = 19; length = 0 })
+printedOf s room = cond (leb reportRoom room) (record { reason = answered s .reason; length = length (reportOf s) }) (record { reason = 19; length = 0 })
 
 -- the room afterwards: the report over its first places; too small a room as it was
 unfoldable pub roomAfter : List ℕ → List ℕ → List ℕ
-roomAfter s old = pick (leb reportRoom (length old)) (sets old 0 (reportOf s)) old
+roomAfter s old = cond (leb reportRoom (length old)) (sets old 0 (reportOf s)) old
 
 -- demand 3, of every sheet whose printed reason passes it
 abbrev pub RunPrinted : List ℕ → ℕ → Type 0

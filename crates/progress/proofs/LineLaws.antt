@@ -9,7 +9,6 @@ use native.Mathlib.Omega.{arith}
 use lib.Dec.{ltb, eqb}
 use lib.ListN.{length, take, drop, length-append}
 use borrow.Author.Tests.{ltb-true}
-use Rattle.tokens.specs.Bytes.{pick}
 use Rattle.lines.specs.declared.Line as lines
 use Rattle.lines.specs.Sheet.{fault, laid, contentSeen}
 use Rattle.request.specs.Request.{legal}
@@ -24,11 +23,11 @@ use Rattle.rules.proofs.RuleLaws.{accepted}
 -- a line found by places: a layout fault, or its warp and the bytes of its statement
 pub fault-seen : (s : List ℕ) (l : lines.Line) → l .ok ≡ false → contentSeen s l ≡ fault
 unfolding contentSeen
-fault-seen s l h = ap (λ (b : Bool). pick b (laid (l .warp) (take (l .end - l .start) (drop (l .start) s))) fault) h
+fault-seen s l h = ap (λ (b : Bool). cond b (laid (l .warp) (take (l .end - l .start) (drop (l .start) s))) fault) h
 
 pub laid-seen : (s : List ℕ) (l : lines.Line) → l .ok ≡ true → contentSeen s l ≡ laid (l .warp) (take (l .end - l .start) (drop (l .start) s))
 unfolding contentSeen
-laid-seen s l h = ap (λ (b : Bool). pick b (laid (l .warp) (take (l .end - l .start) (drop (l .start) s))) fault) h
+laid-seen s l h = ap (λ (b : Bool). cond b (laid (l .warp) (take (l .end - l .start) (drop (l .start) s))) fault) h
 
 -- ---- what is asked for
 asked-by : (s : State) (o p : Option Ask) → holds (for o (λ r. legal (r .columns)) ∷ for p (λ r. eqb (columnsOf (r .name) (s .live)) (r .columns)) ∷ []) ≡ true → of o (λ r. r .columns) 0 ≤ 512

@@ -7,7 +7,6 @@ use native.Mathlib.Omega.{arith}
 use lib.Dec.{ltb, eqb}
 use lib.ListN.{length, take, drop}
 use borrow.Author.Tests.{lt-ltb}
-use Rattle.tokens.specs.Bytes.{pick}
 use Rattle.lines.specs.declared.Line as lines
 use Rattle.lines.specs.Sheet.{Content, fault, laid, contentOf, contentSeen, lineAt}
 use Rattle.lines.proofs.SheetLaws.{line-seen, line-inside, line-next}

@@ -5,7 +5,7 @@ use native.Mathlib.Nat.{sub-self}
 use native.Mathlib.Omega.{arith}
 use mathlib.Core.Path.{_≡_, refl, sym, ap, _∙_}
 use mathlib.Core.List.{List, [], _∷_}
-use mathlib.Core.Bool.{Bool, true, false, _&&_}
+use mathlib.Core.Bool.{Bool, true, false, _&&_, cond}
 use lib.ListN.{length, set, take, drop}
 use lib.Seq.{sets}
 use lib.Dec.{leb}
@@ -15,7 +15,7 @@ use borrow.Author.Tests.{leb-true, le-leb, lt-leb}
 use Rattle.tokens.specs.declared.Name.{Name}
 use Rattle.tokens.specs.declared.Cursor.{Cursor}
 use Rattle.tokens.specs.declared.NameRead.{NameRead}
-use Rattle.tokens.specs.Bytes.{pick, afterBlanks, tokenOf}
+use Rattle.tokens.specs.Bytes.{afterBlanks, tokenOf}
 use Rattle.tokens.specs.Numbers.{isNumber, valueOf}
 use Rattle.tokens.specs.Cursors.{Rest, seen, off, Took, markC, endC, nameC, nameSeen, numberC}
 use Rattle.instruction.specs.declared.Kind.{Kind}
@@ -38,9 +38,9 @@ use Rattle.reader.specs.Lists.{listC}
 use Rattle.reader.specs.Rows.{namedC, pairC, metadataC, mmaC}
 
 -- ---- numbers
-under-pick : (limit : ℕ) (b : Bool) (x y : Took ℕ) → (b ≡ true → x .value ≤ limit) → y .value ≤ limit → (pick b x y) .value ≤ limit
-under-pick limit true x y f h = f refl
-under-pick limit false x y f h = h
+under-cond : (limit : ℕ) (b : Bool) (x y : Took ℕ) → (b ≡ true → x .value ≤ limit) → y .value ≤ limit → (cond b x y) .value ≤ limit
+under-cond limit true x y f h = f refl
+under-cond limit false x y f h = h
 
 -- a number that was read is in range
 pub number-under : (limit : ℕ) (r : Rest) → numberC limit r .value ≤ limit
@@ -48,7 +48,7 @@ unfolding numberC
 number-under limit r =
     let l = afterBlanks (r .rest) in
     let v = valueOf (tokenOf l) in
-    under-pick limit (r .ok) _ _ (λ _. under-pick limit (isNumber (tokenOf l)) _ _ (λ _. under-pick limit (leb v limit) _ _ (λ e. leb-true v limit e) (omega arith)) (omega arith))
+    under-cond limit (r .ok) _ _ (λ _. under-cond limit (isNumber (tokenOf l)) _ _ (λ _. under-cond limit (leb v limit) _ _ (λ e. leb-true v limit e) (omega arith)) (omega arith))
     (omega arith)
 
 -- ---- lists of names

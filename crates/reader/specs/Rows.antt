@@ -1,10 +1,9 @@
 -- Rows that several forms share. Assumes nothing.
 use Prim.Native.Nat.{ℕ}
 use mathlib.Core.List.{List, [], _∷_}
-use mathlib.Core.Bool.{Bool}
+use mathlib.Core.Bool.{Bool, cond}
 use Rattle.instruction.specs.declared.Kind.{Kind}
 use Rattle.tokens.specs.declared.Name.{Name}
-use Rattle.tokens.specs.Bytes.{pick}
 use Rattle.tokens.specs.Cursors.{Rest, seen, Took, markC, endC, nameC}
 use Rattle.statement.specs.declared.Metadata.{Metadata}
 use Rattle.statement.specs.declared.Metadata.the-variants.{Dense, Sparse}
@@ -16,11 +15,11 @@ use Rattle.reader.specs.declared.MetadataRead.{MetadataRead}
 
 -- a name, in brackets or not
 abbrev pub namedC : Bool → Rest → Took Name
-namedC b r = pick b (inBracketsC r) (nameC r)
+namedC b r = cond b (inBracketsC r) (nameC r)
 
 -- a name, in brackets or not, a number up to a limit, and the end
 abbrev pub pairC : Bool → (limit : ℕ) → Rest → Took (Values (name ∷ number limit ∷ []))
-pairC b limit r = pick b (rowC (inBrackets ∷ number limit ∷ []) r) (rowC (name ∷ number limit ∷ []) r)
+pairC b limit r = cond b (rowC (inBrackets ∷ number limit ∷ []) r) (rowC (name ∷ number limit ∷ []) r)
 
 abbrev pub pairSeen : List ℕ → (limit : ℕ) → Pair → Took (Values (name ∷ number limit ∷ []))
 pairSeen s limit p = record { value = (p .name, (p .number, tt)); next = seen s (p .next) }
@@ -29,7 +28,7 @@ pairSeen s limit p = record { value = (p .name, (p .number, tt)); next = seen s 
 unfoldable pub metadataC : Bool → Rest → Took Metadata
 metadataC sp r =
     let a = addressC (markC 44 r) in
-    pick sp (record { value = Sparse (a .value); next = a .next }) (record { value = Dense; next = r })
+    cond sp (record { value = Sparse (a .value); next = a .next }) (record { value = Dense; next = r })
 
 abbrev pub metadataSeen : List ℕ → MetadataRead → Took Metadata
 metadataSeen s m = record { value = m .value; next = seen s (m .next) }

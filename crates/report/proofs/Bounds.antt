@@ -4,14 +4,13 @@ use Prim.Native.Nat.{ℕ, zero, suc, _+_, _*_, _/_, _%_, _<_, _≤_}
 use native.Mathlib.Omega.{arith}
 use mathlib.Core.Path.{_≡_, refl, ap}
 use mathlib.Core.List.{List, [], _∷_, _++_}
-use mathlib.Core.Bool.{Bool, true, false}
+use mathlib.Core.Bool.{Bool, true, false, cond}
 use lib.ListN.{length, length-append}
 use lib.Dec.{eqb, leb}
 use borrow.Author.Tests.{leb-true, leb-false}
 use Rattle.tokens.specs.declared.Name.{Name}
 use Rattle.tokens.specs.Names.{nameBytes}
 use Rattle.tokens.specs.Numbers.{lowDigits, trimmed, decimal}
-use Rattle.tokens.specs.Bytes.{pick}
 use Rattle.report.specs.Report.{numbersText, headText, rowText, Reported, rowsText, reportText, reportRoom}
 use Rattle.report.proofs.ReportLaws.{length-digits, trimmed-le, name-short}
 
@@ -91,7 +90,7 @@ unfolding rowsText
 rows-short [] h = omega arith
 rows-short (a ∷ l) h = omega (arith, length-append (rowText (a .name) (a .start) (a .columns)) (rowsText l), row-short (a .name) (a .start) (a .columns) (h .0 .0) (h .0 .1), rows-short l (h .1))
 
-chosen-short : (b : Bool) (l : List Reported) → Small l → length (pick b (rowsText l) []) ≤ 25 * length l
+chosen-short : (b : Bool) (l : List Reported) → Small l → length (cond b (rowsText l) []) ≤ 25 * length l
 chosen-short true l h = rows-short l h
 chosen-short false l h = omega arith
 
@@ -99,4 +98,4 @@ chosen-short false l h = omega arith
 pub report-short : (r l h p : ℕ) (a : List Reported) → r < 100 → l < 10000 → h < 1000 → p < 1000 → length a ≤ 4095 → Small a → length (reportText r l h p a) ≤ reportRoom
 unfolding reportText
 report-short r l h p a i j k m n s =
-    omega (arith, length-append (headText r l h p) (pick (eqb r 0) (rowsText a) []), head-short r l h p i j k m, chosen-short (eqb r 0) a s)
+    omega (arith, length-append (headText r l h p) (cond (eqb r 0) (rowsText a) []), head-short r l h p i j k m, chosen-short (eqb r 0) a s)

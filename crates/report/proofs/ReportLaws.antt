@@ -5,12 +5,11 @@ use native.Mathlib.Omega.{arith}
 use native.Mathlib.Nat.{add-suc, add-zero, suc-add, zero-add}
 use mathlib.Core.Path.{_≡_, refl, sym, ap, _∙_}
 use mathlib.Core.List.{List, [], _∷_, _++_, append-assoc}
-use mathlib.Core.Bool.{Bool, true, false}
+use mathlib.Core.Bool.{Bool, true, false, cond}
 use lib.ListN.{length, getD, take, drop, set, drop-of-length-le, length-set, length-append, length-drop, take-append-drop}
 use lib.Seq.{drop-cons, getD-set-same, drop-set-lt, sets, sets-eq, length-sets, take-all, take-at, take-take, take-set-le}
 use lib.Dec.{eqb, leb}
 use borrow.Author.Tests.{eq-eqb, ne-eqb, le-leb, lt-leb}
-use Rattle.tokens.specs.Bytes.{pick}
 use Rattle.tokens.specs.declared.Name.{Name}
 use Rattle.tokens.specs.Names.{lowBytes, strip, nameBytes}
 use Rattle.tokens.specs.Numbers.{lowDigits, trimmed, decimal}
@@ -148,7 +147,7 @@ trimmed-le [] = omega arith
 trimmed-le (x ∷ []) = omega arith
 trimmed-le (x ∷ (y ∷ l)) = trim-by (eqb x 48) (trimmed-le (y ∷ l))
   where
-    trim-by : (b : Bool) → length (trimmed (y ∷ l)) ≤ length (y ∷ l) → length (pick b (trimmed (y ∷ l)) (x ∷ (y ∷ l))) ≤ length (x ∷ (y ∷ l))
+    trim-by : (b : Bool) → length (trimmed (y ∷ l)) ≤ length (y ∷ l) → length (cond b (trimmed (y ∷ l)) (x ∷ (y ∷ l))) ≤ length (x ∷ (y ∷ l))
     trim-by true h = omega arith
     trim-by false h = omega arith
 
@@ -174,7 +173,7 @@ unfolding strip
 strip-le [] = omega arith
 strip-le (x ∷ l) = strip-by (eqb x 0) (strip-le l)
   where
-    strip-by : (b : Bool) → length (strip l) ≤ length l → length (pick b (strip l) (x ∷ l)) ≤ length (x ∷ l)
+    strip-by : (b : Bool) → length (strip l) ≤ length l → length (cond b (strip l) (x ∷ l)) ≤ length (x ∷ l)
     strip-by true h = omega arith
     strip-by false h = omega arith
 

@@ -1,11 +1,11 @@
 -- The printed report: a first line of four numbers, then a row for each alloc. Assumes nothing.
+use mathlib.Core.Bool.{cond}
 use Prim.Native.Nat.{ℕ, _+_}
 use mathlib.Core.List.{List, [], _∷_, _++_}
 use lib.ListN.{length}
 use lib.Seq.{sets}
 use lib.Dec.{leb, eqb}
 use Rattle.tokens.specs.declared.Name.{Name}
-use Rattle.tokens.specs.Bytes.{pick}
 use Rattle.tokens.specs.Names.{nameBytes}
 use Rattle.tokens.specs.Numbers.{decimal}
 
@@ -41,15 +41,15 @@ rowsText (a ∷ l) = rowText (a .name) (a .start) (a .columns) ++ rowsText l
 
 -- the whole report: the first line, and on a pass a row for each alloc in order
 unfoldable pub reportText : ℕ → ℕ → ℕ → ℕ → List Reported → List ℕ
-reportText reason line held peak allocs = headText reason line held peak ++ pick (eqb reason 0) (rowsText allocs) []
+reportText reason line held peak allocs = headText reason line held peak ++ cond (eqb reason 0) (rowsText allocs) []
 
 -- a buffer after a text was put from a place on: unchanged where there is no room for all of it
 unfoldable pub putText : List ℕ → ℕ → List ℕ → List ℕ
-putText room at text = pick (leb (at + length text) (length room)) (sets room at text) room
+putText room at text = cond (leb (at + length text) (length room)) (sets room at text) room
 
 -- the place after the text, in a buffer of n bytes: the same place where there is no room
 unfoldable pub putEnd : ℕ → ℕ → List ℕ → ℕ
-putEnd n at text = pick (leb (at + length text) n) (at + length text) at
+putEnd n at text = cond (leb (at + length text) n) (at + length text) at
 
 -- room for the report of any sheet (`report-fits` of crate printed): a first line of at most 84 bytes; on a pass at most 30, and at most 4,094 rows of 25
 abbrev pub reportRoom : ℕ

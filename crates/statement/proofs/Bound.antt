@@ -3,7 +3,7 @@ use Prim.Native.Nat.{ℕ, zero, suc, _+_, _*_, _/_, _%_, _≤_}
 use native.Mathlib.Omega.{arith}
 use mathlib.Core.Path.{_≡_, refl}
 use mathlib.Core.List.{List, [], _∷_, _++_}
-use mathlib.Core.Bool.{Bool, true, false, _&&_}
+use mathlib.Core.Bool.{Bool, true, false, _&&_, cond}
 use lib.ListN.{length, length-append}
 use lib.Dec.{ltb, leb, eqb}
 use borrow.Author.Tests.{leb-true}
@@ -11,10 +11,9 @@ use Rattle.laws.proofs.BoolLaws.{and-l, and-r}
 use Rattle.instruction.specs.declared.Kind.{Kind}
 use Rattle.instruction.specs.declared.Kind.the-variants.{F16, Tf32, F8f6f4, I8}
 use Rattle.tokens.specs.declared.Name.{Name}
-use Rattle.tokens.specs.Bytes.{pick}
 use Rattle.tokens.specs.Names.{nameBytes}
 use Rattle.tokens.specs.Numbers.{decimal}
-use Rattle.tokens.proofs.Lengths.{pick-le, name-short, decimal-short}
+use Rattle.tokens.proofs.Lengths.{cond-le, name-short, decimal-short}
 use Rattle.statement.specs.declared.Shape.{Shape}
 use Rattle.statement.specs.declared.Shape.the-variants.{S32x32, S16x64, S16x128, S16x256}
 use Rattle.statement.specs.declared.Num.{Num}
@@ -31,7 +30,7 @@ use Rattle.statement.specs.declared.Operand.the-variants as o
 
 -- ---- operands
 offset-short : (v : ℕ) → length (offsetText v) ≤ 21
-offset-short v = pick-le (eqb v 0) [] (43 ∷ decimal v) 21 (omega arith) (omega (arith, decimal-short v))
+offset-short v = cond-le (eqb v 0) [] (43 ∷ decimal v) 21 (omega arith) (omega (arith, decimal-short v))
 
 address-short : (a : Address) → length (addressText a) ≤ 39
 unfolding addressText

@@ -1,12 +1,11 @@
 -- The canonical text of a statement: from the same rows, one space after the opcode and after each comma, decimals, no +0. Assumes nothing.
 use Prim.Native.Nat.{ℕ, zero, suc}
 use mathlib.Core.List.{List, [], _∷_, _++_}
-use mathlib.Core.Bool.{Bool, true, false, _&&_}
+use mathlib.Core.Bool.{Bool, true, false, _&&_, cond}
 use lib.ListN.{length}
 use lib.Dec.{ltb, leb, eqb}
 use Rattle.instruction.specs.declared.Kind.{Kind}
 use Rattle.tokens.specs.declared.Name.{Name}
-use Rattle.tokens.specs.Bytes.{pick}
 use Rattle.tokens.specs.Names.{nameBytes, nameGiven}
 use Rattle.tokens.specs.Numbers.{decimal}
 use Rattle.statement.specs.declared.Address.{Address}
@@ -63,7 +62,7 @@ valuesOf s.Exit regs = tt
 
 -- ---- texts
 abbrev pub offsetText : ℕ → List ℕ
-offsetText v = pick (eqb v 0) [] (43 ∷ decimal v)
+offsetText v = cond (eqb v 0) [] (43 ∷ decimal v)
 
 unfoldable pub addressText : Address → List ℕ
 addressText a = 91 ∷ (nameBytes (a .base) ++ (offsetText (a .offset) ++ 93 ∷ []))

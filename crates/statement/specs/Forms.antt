@@ -1,12 +1,11 @@
 -- The table of forms: each opcode's word, its operands, and the statement that they make. Assumes nothing.
 use Prim.Native.Nat.{ℕ}
 use mathlib.Core.List.{List, [], _∷_, _++_}
-use mathlib.Core.Bool.{Bool, true, false}
+use mathlib.Core.Bool.{Bool, true, false, cond}
 use lib.ListN.{length}
 use Rattle.instruction.specs.declared.Kind.{Kind}
 use Rattle.instruction.specs.declared.Kind.the-variants.{F16, Tf32, F8f6f4, I8}
 use Rattle.tokens.specs.declared.Name.{Name}
-use Rattle.tokens.specs.Bytes.{pick}
 use Rattle.statement.specs.declared.Shape.{Shape}
 use Rattle.statement.specs.declared.Shape.the-variants.{S32x32, S16x64, S16x128, S16x256}
 use Rattle.statement.specs.declared.Num.{Num}
@@ -48,7 +47,7 @@ kindText I8 = bytes "i8"
 
 -- a part that may be left out
 abbrev pub option : Bool → List ℕ → List ℕ
-option b w = pick b w []
+option b w = cond b w []
 
 -- the word of an opcode
 unfoldable pub word : Opcode → List ℕ

@@ -1,11 +1,11 @@
 -- How a statement is read: the opcode, its row of operands, the answer. Assumes nothing.
 use Prim.Native.Nat.{ℕ, zero, suc, _-_}
 use mathlib.Core.List.{List, [], _∷_}
-use mathlib.Core.Bool.{Bool, true, false, _&&_}
+use mathlib.Core.Bool.{Bool, true, false, _&&_, cond}
 use lib.ListN.{length, take, drop}
 use lib.Dec.{leb, eqb}
 use Rattle.tokens.specs.declared.Name.{Name}
-use Rattle.tokens.specs.Bytes.{pick, opcodeByte, runLen}
+use Rattle.tokens.specs.Bytes.{opcodeByte, runLen}
 use Rattle.tokens.specs.Cursors.{Rest, seen, on, off, Took, markC, endC, nameC, numberC}
 use Rattle.statement.specs.declared.Address.{Address}
 use Rattle.statement.specs.declared.Operand.{Operand}
@@ -31,7 +31,7 @@ inBracketsC r = let n = nameC (markC 91 r) in record { value = n .value; next = 
 
 -- + number, or nothing, which is 0
 unfoldable pub offsetC : Rest → Took ℕ
-offsetC r = let d = markC 43 r in pick (d .ok) (numberC max32 d) (record { value = 0; next = r })
+offsetC r = let d = markC 43 r in cond (d .ok) (numberC max32 d) (record { value = 0; next = r })
 
 -- name ] or name + number ]
 unfoldable pub insideC : Rest → Took Address
@@ -49,7 +49,7 @@ operandC r =
     let d = markC 91 r in
     let a = insideC d in
     let n = nameC r in
-    pick (d .ok) (record { value = operand.Address (a .value); next = a .next }) (record { value = operand.Descriptor (n .value); next = n .next })
+    cond (d .ok) (record { value = operand.Address (a .value); next = a .next }) (record { value = operand.Descriptor (n .value); next = n .next })
 
 -- after a name: a comma and a name, up to k times, and the brace
 unfoldable pub moreC : ℕ → Rest → Took (List Name)
@@ -58,7 +58,7 @@ moreC (suc k) r =
     let d = markC 44 r in
     let n = nameC d in
     let m = moreC k (n .next) in
-    pick (d .ok) (record { value = n .value ∷ m .value; next = m .next }) (record { value = []; next = markC 125 r })
+    cond (d .ok) (record { value = n .value ∷ m .value; next = m .next }) (record { value = []; next = markC 125 r })
 
 -- { 1 to 128 names }
 unfoldable pub namesC : Rest → Took (List Name)
@@ -95,7 +95,7 @@ rowC (k ∷ ks) r =
 -- no form before too large, each with its position in text
 unfoldable pub answerOf : List ℕ → Rest → Statement → Reading
 answerOf text r t =
-    pick (r .ok) (pick (r .over) (TooLarge (length text - length (r .far))) (Got t)) (NoForm (length text - length (r .rest)))
+    cond (r .ok) (cond (r .over) (TooLarge (length text - length (r .far))) (Got t)) (NoForm (length text - length (r .rest)))
 
 -- the operands of an opcode, read from r on
 unfoldable pub operandsC : Opcode → Rest → Took Whole
@@ -117,7 +117,7 @@ wholeC text = wholeBy text (drop (opcodeLen text) text) (recognise (take (opcode
 
 -- what a text reads as: over 4,096 bytes nothing
 unfoldable pub readOf : List ℕ → Reading
-readOf text = pick (leb (length text) 4096) (answerOf text (wholeC text .next) (wholeC text .value .statement)) (NoForm 4096)
+readOf text = cond (leb (length text) 4096) (answerOf text (wholeC text .next) (wholeC text .value .statement)) (NoForm 4096)
 
 -- the number of an answer
 abbrev pub reasonOf : Reading → ℕ
@@ -127,11 +127,11 @@ reasonOf (TooLarge at) = 4
 
 -- reading ended well, with every number in range
 abbrev pub fine : Rest → Bool
-fine r = pick (r .ok) (pick (r .over) false true) false
+fine r = cond (r .ok) (cond (r .over) false true) false
 
 -- the names of the registers of a text that reads; none for another
 unfoldable pub registersOf : List ℕ → List Name
-registersOf text = pick (leb (length text) 4096 && fine (wholeC text .next)) (wholeC text .value .registers) []
+registersOf text = cond (leb (length text) 4096 && fine (wholeC text .next)) (wholeC text .value .registers) []
 
 -- ---- views of what the functions return
 abbrev pub offsetSeen : List ℕ → OffsetRead → Took ℕ

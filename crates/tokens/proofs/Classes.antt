@@ -2,11 +2,11 @@
 use Prim.Native.Nat.{ℕ, _-_, _<_, _≤_}
 use native.Mathlib.Omega.{arith}
 use mathlib.Core.Path.{_≡_, refl}
-use mathlib.Core.Bool.{Bool, true, false, _||_, or-true}
+use mathlib.Core.Bool.{Bool, true, false, _||_, or-true, cond}
 use lib.Dec.{ltb, leb, eqb}
 use borrow.Author.Tests.{le-leb, eqb-true, leb-true, ltb-true}
 use Rattle.laws.proofs.BoolLaws.{and-split}
-use Rattle.tokens.specs.Bytes.{pick, between, letter, wordByte}
+use Rattle.tokens.specs.Bytes.{between, letter, wordByte}
 use Rattle.tokens.specs.Numbers.{digitOf, isDigit}
 
 pub in-range : (a e x : ℕ) → between a e x ≡ true → (a ≤ x) × (x ≤ e)
@@ -28,7 +28,7 @@ pub digit-word : (base x : ℕ) → base ≤ 16 → isDigit base x ≡ true → 
 unfolding isDigit digitOf
 digit-word base x b h = go (between 48 57 x) (between 65 70 x) (between 97 102 x) refl refl refl h
   where
-    go : (c d e : Bool) → between 48 57 x ≡ c → between 65 70 x ≡ d → between 97 102 x ≡ e → ltb (pick c (x - 48) (pick d (x - 55) (pick e (x - 87) 16))) base ≡ true → wordByte x ≡ true
+    go : (c d e : Bool) → between 48 57 x ≡ c → between 65 70 x ≡ d → between 97 102 x ≡ e → ltb (cond c (x - 48) (cond d (x - 55) (cond e (x - 87) 16))) base ≡ true → wordByte x ≡ true
     go true d e p q r k = figure-word x p
     go false true e p q r k = let t = in-range 65 70 x q in upper-word x (t .0) (omega arith)
     go false false true p q r k = let t = in-range 97 102 x r in lower-word x (t .0) (omega arith)

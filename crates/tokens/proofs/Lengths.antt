@@ -3,22 +3,21 @@ use Prim.Native.Nat.{ℕ, zero, suc, _+_, _/_, _%_, _≤_}
 use native.Mathlib.Omega.{arith}
 use mathlib.Core.Path.{_≡_, refl}
 use mathlib.Core.List.{List, [], _∷_}
-use mathlib.Core.Bool.{Bool, true, false}
+use mathlib.Core.Bool.{Bool, true, false, cond}
 use lib.ListN.{length, length-append}
 use lib.Dec.{eqb}
 use Rattle.tokens.specs.declared.Name.{Name}
-use Rattle.tokens.specs.Bytes.{pick}
 use Rattle.tokens.specs.Names.{lowBytes, strip, nameBytes}
 use Rattle.tokens.specs.Numbers.{lowDigits, trimmed, decimal}
 
-pub pick-le : (b : Bool) (l m : List ℕ) (n : ℕ) → length l ≤ n → length m ≤ n → length (pick b l m) ≤ n
-pick-le true l m n p q = p
-pick-le false l m n p q = q
+pub cond-le : (b : Bool) (l m : List ℕ) (n : ℕ) → length l ≤ n → length m ≤ n → length (cond b l m) ≤ n
+cond-le true l m n p q = p
+cond-le false l m n p q = q
 
 pub strip-short : (l : List ℕ) → length (strip l) ≤ length l
 unfolding strip
 strip-short [] = omega arith
-strip-short (x ∷ l) = pick-le (eqb x 0) (strip l) (x ∷ l) (length (x ∷ l)) (omega (arith, strip-short l)) (omega arith)
+strip-short (x ∷ l) = cond-le (eqb x 0) (strip l) (x ∷ l) (length (x ∷ l)) (omega (arith, strip-short l)) (omega arith)
 
 pub low-length : (k v : ℕ) → length (lowBytes k v) ≡ k
 unfolding lowBytes
@@ -36,7 +35,7 @@ pub trimmed-short : (l : List ℕ) → length (trimmed l) ≤ length l
 unfolding trimmed
 trimmed-short [] = omega arith
 trimmed-short (x ∷ []) = omega arith
-trimmed-short (x ∷ (y ∷ l)) = pick-le (eqb x 48) (trimmed (y ∷ l)) (x ∷ (y ∷ l)) (length (x ∷ (y ∷ l))) (omega (arith, trimmed-short (y ∷ l))) (omega arith)
+trimmed-short (x ∷ (y ∷ l)) = cond-le (eqb x 48) (trimmed (y ∷ l)) (x ∷ (y ∷ l)) (length (x ∷ (y ∷ l))) (omega (arith, trimmed-short (y ∷ l))) (omega arith)
 
 pub digits-length : (k v : ℕ) → length (lowDigits k v) ≡ k
 unfolding lowDigits

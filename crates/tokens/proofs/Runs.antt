@@ -4,11 +4,11 @@ use native.Mathlib.Numerals.{add-one}
 use native.Mathlib.Omega.{arith}
 use mathlib.Core.Path.{_≡_, refl}
 use mathlib.Core.List.{List, [], _∷_, _++_}
-use mathlib.Core.Bool.{Bool, true, false}
+use mathlib.Core.Bool.{Bool, true, false, cond}
 use lib.ListN.{length, getD, drop, drop-of-length-le}
 use lib.Seq.{drop-cons}
 use Rattle.laws.proofs.BoolLaws.{and-split}
-use Rattle.tokens.specs.Bytes.{pick, runLen, all}
+use Rattle.tokens.specs.Bytes.{runLen, all}
 
 -- a run by the byte at a position
 module _ (f : ℕ → Bool) (s : List ℕ) (i : ℕ) where
@@ -25,7 +25,7 @@ pub run-le : (f : ℕ → Bool) (l : List ℕ) → runLen f l ≤ length l
 run-le f [] = omega arith
 run-le f (x ∷ l) = by (f x) (run-le f l)
   where
-    by : (b : Bool) → runLen f l ≤ length l → pick b (suc (runLen f l)) 0 ≤ suc (length l)
+    by : (b : Bool) → runLen f l ≤ length l → cond b (suc (runLen f l)) 0 ≤ suc (length l)
     by true h = omega arith
     by false h = omega arith
 
@@ -34,7 +34,7 @@ pub run-ends : (f : ℕ → Bool) (l : List ℕ) → runLen f (drop (runLen f l)
 run-ends f [] = refl
 run-ends f (x ∷ l) = go (f x) refl (run-ends f l)
   where
-    go : (b : Bool) → f x ≡ b → runLen f (drop (runLen f l) l) ≡ 0 → runLen f (drop (pick b (suc (runLen f l)) 0) (x ∷ l)) ≡ 0
+    go : (b : Bool) → f x ≡ b → runLen f (drop (runLen f l) l) ≡ 0 → runLen f (drop (cond b (suc (runLen f l)) 0) (x ∷ l)) ≡ 0
     go true e i = i
     go false e i = rw e
 

@@ -1,13 +1,9 @@
 -- Bytes by class, and the token at the head of a list of bytes. Assumes nothing.
 use Prim.Native.Nat.{ℕ, zero, suc}
 use mathlib.Core.List.{List, [], _∷_}
-use mathlib.Core.Bool.{Bool, true, false, _&&_, _||_}
+use mathlib.Core.Bool.{Bool, true, false, _&&_, _||_, cond}
 use lib.ListN.{take, drop}
 use lib.Dec.{leb, eqb}
-
-abbrev pub pick {ℓ} : {A : Type ℓ} → Bool → A → A → A
-pick true a b = a
-pick false a b = b
 
 abbrev pub between : ℕ → ℕ → ℕ → Bool
 between a e x = leb a x && leb x e
@@ -31,7 +27,7 @@ blank x = eqb x 32
 -- how many bytes at the head pass the test, one after the other
 abbrev pub runLen : (ℕ → Bool) → List ℕ → ℕ
 runLen f [] = 0
-runLen f (x ∷ l) = pick (f x) (suc (runLen f l)) 0
+runLen f (x ∷ l) = cond (f x) (suc (runLen f l)) 0
 
 -- each byte passes the test
 abbrev pub all : (ℕ → Bool) → List ℕ → Bool
@@ -44,7 +40,7 @@ afterBlanks l = drop (runLen blank l) l
 -- a run of word bytes, with any % just before it, is one token; else one byte is; at the end there is none
 unfoldable pub tokenLen : List ℕ → ℕ
 tokenLen [] = 0
-tokenLen (x ∷ l) = suc (pick (wordByte x || eqb x 37) (runLen wordByte l) 0)
+tokenLen (x ∷ l) = suc (cond (wordByte x || eqb x 37) (runLen wordByte l) 0)
 
 unfoldable pub tokenOf : List ℕ → List ℕ
 tokenOf l = take (tokenLen l) l

@@ -1,14 +1,14 @@
 -- Tokens by a cursor that stops at the first token that does not fit, and stays there. Assumes nothing.
 use Prim.Native.Nat.{ℕ}
 use mathlib.Core.List.{List, [], _∷_}
-use mathlib.Core.Bool.{Bool, true, false, _&&_}
+use mathlib.Core.Bool.{Bool, true, false, _&&_, cond}
 use lib.ListN.{length, drop}
 use lib.Dec.{leb, eqb}
 use Rattle.tokens.specs.declared.Name.{Name}
 use Rattle.tokens.specs.declared.Cursor.{Cursor}
 use Rattle.tokens.specs.declared.NameRead.{NameRead}
 use Rattle.tokens.specs.declared.NumberRead.{NumberRead}
-use Rattle.tokens.specs.Bytes.{pick, afterBlanks, tokenOf, afterToken}
+use Rattle.tokens.specs.Bytes.{afterBlanks, tokenOf, afterToken}
 use Rattle.tokens.specs.Names.{isName, packed, noName}
 use Rattle.tokens.specs.Numbers.{isNumber, valueOf}
 
@@ -32,7 +32,7 @@ off r l = record { rest = l; ok = false; over = r .over; far = r .far }
 
 -- a number that starts at l was too large: reading goes on after it
 abbrev pub large : Rest → List ℕ → Rest
-large r l = record { rest = afterToken l; ok = true; over = true; far = pick (r .over) (r .far) l }
+large r l = record { rest = afterToken l; ok = true; over = true; far = cond (r .over) (r .far) l }
 
 -- a value, and what follows it
 pub record Took (A : Type 0) : Type 0 where
@@ -41,11 +41,11 @@ pub record Took (A : Type 0) : Type 0 where
 
 abbrev pub markHere : ℕ → Rest → List ℕ → Rest
 markHere m r [] = off r []
-markHere m r (x ∷ l) = pick (eqb x m) (on r l) (off r (x ∷ l))
+markHere m r (x ∷ l) = cond (eqb x m) (on r l) (off r (x ∷ l))
 
 -- past the byte m, which blanks may precede
 unfoldable pub markC : ℕ → Rest → Rest
-markC m r = pick (r .ok) (markHere m r (afterBlanks (r .rest))) r
+markC m r = cond (r .ok) (markHere m r (afterBlanks (r .rest))) r
 
 -- past the semicolon, and nothing after it
 unfoldable pub endC : Rest → Rest
@@ -54,21 +54,21 @@ endC r =
     record { rest = d .rest; ok = d .ok && eqb (length (d .rest)) 0; over = d .over; far = d .far }
 
 abbrev pub nameHere : Rest → List ℕ → Took Name
-nameHere r l = pick (isName (tokenOf l)) (record { value = packed (tokenOf l); next = on r (afterToken l) }) (record { value = noName; next = off r l })
+nameHere r l = cond (isName (tokenOf l)) (record { value = packed (tokenOf l); next = on r (afterToken l) }) (record { value = noName; next = off r l })
 
 -- past a name, which blanks may precede
 unfoldable pub nameC : Rest → Took Name
-nameC r = pick (r .ok) (nameHere r (afterBlanks (r .rest))) (record { value = noName; next = r })
+nameC r = cond (r .ok) (nameHere r (afterBlanks (r .rest))) (record { value = noName; next = r })
 
 abbrev pub numberIs : ℕ → Rest → List ℕ → ℕ → Took ℕ
-numberIs limit r l v = pick (leb v limit) (record { value = v; next = on r (afterToken l) }) (record { value = 0; next = large r l })
+numberIs limit r l v = cond (leb v limit) (record { value = v; next = on r (afterToken l) }) (record { value = 0; next = large r l })
 
 abbrev pub numberHere : ℕ → Rest → List ℕ → Took ℕ
-numberHere limit r l = pick (isNumber (tokenOf l)) (numberIs limit r l (valueOf (tokenOf l))) (record { value = 0; next = off r l })
+numberHere limit r l = cond (isNumber (tokenOf l)) (numberIs limit r l (valueOf (tokenOf l))) (record { value = 0; next = off r l })
 
 -- past a number, which blanks may precede; 0 stands for one over the limit
 unfoldable pub numberC : ℕ → Rest → Took ℕ
-numberC limit r = pick (r .ok) (numberHere limit r (afterBlanks (r .rest))) (record { value = 0; next = r })
+numberC limit r = cond (r .ok) (numberHere limit r (afterBlanks (r .rest))) (record { value = 0; next = r })
 
 abbrev pub nameSeen : List ℕ → NameRead → Took Name
 nameSeen s r = record { value = r .value; next = seen s (r .next) }

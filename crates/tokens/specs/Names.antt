@@ -1,11 +1,11 @@
 -- What bytes are a name, and a name as two numbers. Assumes nothing.
 use Prim.Native.Nat.{ℕ, zero, suc, _+_, _*_, _/_, _%_}
 use mathlib.Core.List.{List, [], _∷_, _++_}
-use mathlib.Core.Bool.{Bool, true, false, _&&_, _||_}
+use mathlib.Core.Bool.{Bool, true, false, _&&_, _||_, cond}
 use lib.ListN.{length, take, drop}
 use lib.Dec.{ltb, leb, eqb}
 use Rattle.tokens.specs.declared.Name.{Name}
-use Rattle.tokens.specs.Bytes.{pick, letter, wordByte, all}
+use Rattle.tokens.specs.Bytes.{letter, wordByte, all}
 
 -- one of _ $ %
 unfoldable pub sigil : ℕ → Bool
@@ -36,7 +36,7 @@ lowBytes (suc n) v = lowBytes n (v / 256) ++ (v % 256) ∷ []
 -- without the zeros that lead
 unfoldable pub strip : List ℕ → List ℕ
 strip [] = []
-strip (x ∷ l) = pick (eqb x 0) (strip l) (x ∷ l)
+strip (x ∷ l) = cond (eqb x 0) (strip l) (x ∷ l)
 
 -- the bytes of a packed name
 unfoldable pub nameBytes : Name → List ℕ

@@ -1,15 +1,15 @@
 -- What bytes are a number, and its value, however large. Assumes nothing.
 use Prim.Native.Nat.{ℕ, zero, suc, _+_, _-_, _*_, _/_, _%_, _^_}
 use mathlib.Core.List.{List, [], _∷_, _++_}
-use mathlib.Core.Bool.{Bool, true, false, _&&_, _||_, not}
+use mathlib.Core.Bool.{Bool, true, false, _&&_, _||_, not, cond}
 use lib.ListN.{length, getD, drop}
 use lib.Dec.{ltb, leb, eqb}
 use Rattle.tokens.specs.declared.Numeral.{Numeral}
-use Rattle.tokens.specs.Bytes.{pick, between, all}
+use Rattle.tokens.specs.Bytes.{between, all}
 
 -- 0 to 9, A to F, a to f; 16 for any other byte
 unfoldable pub digitOf : ℕ → ℕ
-digitOf x = pick (between 48 57 x) (x - 48) (pick (between 65 70 x) (x - 55) (pick (between 97 102 x) (x - 87) 16))
+digitOf x = cond (between 48 57 x) (x - 48) (cond (between 65 70 x) (x - 55) (cond (between 97 102 x) (x - 87) 16))
 
 unfoldable pub isDigit : ℕ → ℕ → Bool
 isDigit base x = ltb (digitOf x) base
@@ -33,24 +33,24 @@ zeroLed d = eqb (getD d 0 0) 48 && ltb 1 (length d)
 
 -- 0x or 0X and hex digits, or decimal digits with no zero before others
 unfoldable pub isNumber : List ℕ → Bool
-isNumber w = pick (hexMark w) (someDigits 16 (drop 2 w)) (not (zeroLed w) && someDigits 10 w)
+isNumber w = cond (hexMark w) (someDigits 16 (drop 2 w)) (not (zeroLed w) && someDigits 10 w)
 
 unfoldable pub valueOf : List ℕ → ℕ
-valueOf w = pick (hexMark w) (positional 16 0 (drop 2 w)) (positional 10 0 w)
+valueOf w = cond (hexMark w) (positional 16 0 (drop 2 w)) (positional 10 0 w)
 
 abbrev pub noNumeral : Numeral
 noNumeral = record { ok = false; over = false; value = 0 }
 
 -- the value, or that it is over 2^64 - 1
 unfoldable pub fitted : ℕ → Numeral
-fitted v = pick (ltb v (2 ^ 64)) (record { ok = true; over = false; value = v }) (record { ok = true; over = true; value = 0 })
+fitted v = cond (ltb v (2 ^ 64)) (record { ok = true; over = false; value = v }) (record { ok = true; over = true; value = 0 })
 
 -- the digits after v, if they are digits
 unfoldable pub digitsOf : ℕ → ℕ → List ℕ → Numeral
-digitsOf base v d = pick (all (isDigit base) d) (fitted (positional base v d)) noNumeral
+digitsOf base v d = cond (all (isDigit base) d) (fitted (positional base v d)) noNumeral
 
 unfoldable pub numeralOf : List ℕ → Numeral
-numeralOf w = pick (isNumber w) (fitted (valueOf w)) noNumeral
+numeralOf w = cond (isNumber w) (fitted (valueOf w)) noNumeral
 
 -- the n low decimal digits of v, as bytes, the highest first
 unfoldable pub lowDigits : ℕ → ℕ → List ℕ
@@ -61,7 +61,7 @@ lowDigits (suc n) v = lowDigits n (v / 10) ++ (48 + v % 10) ∷ []
 unfoldable pub trimmed : List ℕ → List ℕ
 trimmed [] = []
 trimmed (x ∷ []) = x ∷ []
-trimmed (x ∷ (y ∷ l)) = pick (eqb x 48) (trimmed (y ∷ l)) (x ∷ (y ∷ l))
+trimmed (x ∷ (y ∷ l)) = cond (eqb x 48) (trimmed (y ∷ l)) (x ∷ (y ∷ l))
 
 -- v below 10^20 in decimal
 unfoldable pub decimal : ℕ → List ℕ

@@ -3,12 +3,11 @@ use Prim.Native.Nat.{ℕ, zero, suc, _+_, _-_, _*_, _/_, _%_, _^_, _<_, _≤_}
 use native.Mathlib.Omega.{arith}
 use mathlib.Core.Path.{_≡_, refl, sym, ap, _∙_}
 use mathlib.Core.List.{List, [], _∷_, _++_, append-assoc, append-nil}
-use mathlib.Core.Bool.{Bool, true, false}
+use mathlib.Core.Bool.{Bool, true, false, cond}
 use lib.ListN.{length, take, drop, length-drop, set, length-append, length-set, drop-of-length-le}
 use lib.Seq.{take-all, drop-cons, getD-set-same, drop-set-lt}
 use lib.Dec.{eqb}
 use borrow.Author.Tests.{eq-eqb, ne-eqb, eqb-true, eqb-false}
-use Rattle.tokens.specs.Bytes.{pick}
 use Rattle.tokens.specs.Names.{lowBytes, strip}
 use Rattle.tokens.specs.Numbers.{lowDigits, trimmed, decimal}
 
@@ -24,12 +23,12 @@ low q r (suc n) v = low q r n (q v) ++ r v ∷ []
 -- without the z that lead
 abbrev lead : ℕ → List ℕ → List ℕ
 lead z [] = []
-lead z (x ∷ l) = pick (eqb x z) (lead z l) (x ∷ l)
+lead z (x ∷ l) = cond (eqb x z) (lead z l) (x ∷ l)
 
 -- the digits of v, none for 0; at most k of them
 abbrev pub short : (q r : ℕ → ℕ) → ℕ → ℕ → List ℕ
 short q r zero v = []
-short q r (suc k) v = pick (eqb v 0) [] (short q r k (q v) ++ r v ∷ [])
+short q r (suc k) v = cond (eqb v 0) [] (short q r k (q v) ++ r v ∷ [])
 
 pub short-none : (q r : ℕ → ℕ) (k : ℕ) → short q r k 0 ≡ []
 short-none q r zero = refl
@@ -44,7 +43,7 @@ lead-same z w = rw (eq-eqb z z refl)
 lead-other : (x z : ℕ) (w : List ℕ) → (x ≡ z → ⊥) → lead z (x ∷ w) ≡ x ∷ w
 lead-other x z w h = rw (ne-eqb x z h)
 
-keeps-by : (b : Bool) (x : ℕ) (m l w k : List ℕ) → (0 < length m → k ≡ m ++ w) → 0 < length (pick b m (x ∷ l)) → pick b k (x ∷ (l ++ w)) ≡ pick b m (x ∷ l) ++ w
+keeps-by : (b : Bool) (x : ℕ) (m l w k : List ℕ) → (0 < length m → k ≡ m ++ w) → 0 < length (cond b m (x ∷ l)) → cond b k (x ∷ (l ++ w)) ≡ cond b m (x ∷ l) ++ w
 keeps-by true x m l w k f g = f g
 keeps-by false x m l w k f g = refl
 
@@ -69,7 +68,7 @@ module _ (q r : ℕ → ℕ) (z base : ℕ) (q0 : q 0 ≡ 0) (r0 : r 0 ≡ z) (n
       let g : 0 < length (lead z (low q r k (q v))) = rw i (some k (q v) (eqb-false (q v) 0 e) h) in
       lead-keeps z (low q r k (q v)) (r v ∷ []) g ∙ ap (λ l. l ++ r v ∷ []) i
 
-  step-by : (k v : ℕ) (b : Bool) → q v < power base k → lead z (low q r k (q v)) ≡ short q r k (q v) → eqb v 0 ≡ b → lead z (low q r k (q v) ++ r v ∷ []) ≡ pick b [] (short q r k (q v) ++ r v ∷ [])
+  step-by : (k v : ℕ) (b : Bool) → q v < power base k → lead z (low q r k (q v)) ≡ short q r k (q v) → eqb v 0 ≡ b → lead z (low q r k (q v) ++ r v ∷ []) ≡ cond b [] (short q r k (q v) ++ r v ∷ [])
   step-by k v true h i e =
       let g : v ≡ 0 = eqb-true v 0 e in
       rw (g, q0, r0, zeros k (z ∷ [])) (lead-same z [])
@@ -146,12 +145,12 @@ unfolding trimmed
 trimmed-last [] x = refl
 trimmed-last (y ∷ []) x = by (eqb y 48)
   where
-    by : (b : Bool) → pick b (x ∷ []) (y ∷ (x ∷ [])) ≡ pick b [] (y ∷ []) ++ x ∷ []
+    by : (b : Bool) → cond b (x ∷ []) (y ∷ (x ∷ [])) ≡ cond b [] (y ∷ []) ++ x ∷ []
     by true = refl
     by false = refl
 trimmed-last (y ∷ (u ∷ l)) x = by (eqb y 48) (trimmed-last (u ∷ l) x)
   where
-    by : (b : Bool) → trimmed (u ∷ (l ++ x ∷ [])) ≡ lead 48 (u ∷ l) ++ x ∷ [] → pick b (trimmed (u ∷ (l ++ x ∷ []))) (y ∷ (u ∷ (l ++ x ∷ []))) ≡ pick b (lead 48 (u ∷ l)) (y ∷ (u ∷ l)) ++ x ∷ []
+    by : (b : Bool) → trimmed (u ∷ (l ++ x ∷ [])) ≡ lead 48 (u ∷ l) ++ x ∷ [] → cond b (trimmed (u ∷ (l ++ x ∷ []))) (y ∷ (u ∷ (l ++ x ∷ []))) ≡ cond b (lead 48 (u ∷ l)) (y ∷ (u ∷ l)) ++ x ∷ []
     by true e = e
     by false e = refl
 

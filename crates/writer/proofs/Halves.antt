@@ -4,13 +4,13 @@ use native.Mathlib.Omega.{arith}
 use native.Mathlib.Numerals.{add-one}
 use mathlib.Core.Path.{_≡_, refl, sym, ap, _∙_}
 use mathlib.Core.List.{List, [], _∷_, _++_, append-nil}
-use mathlib.Core.Bool.{Bool, true, false, _&&_, _||_}
+use mathlib.Core.Bool.{Bool, true, false, _&&_, _||_, cond}
 use lib.ListN.{length, getD, take, drop, length-append, length-drop, drop-of-length-le}
 use lib.Seq.{take-all, take-at, drop-at, take-append-add, drop-cons}
 use lib.Dec.{ltb, leb, eqb}
 use borrow.Author.Tests.{eq-eqb, ne-eqb, eqb-true, eqb-false, ltb-true, ltb-false}
 use Rattle.tokens.specs.declared.Name.{Name}
-use Rattle.tokens.specs.Bytes.{pick, letter, wordByte, all}
+use Rattle.tokens.specs.Bytes.{letter, wordByte, all}
 use Rattle.tokens.specs.Names.{sigil, isName, byteDigits, packed, lowBytes, strip, nameBytes, nameGiven}
 use Rattle.writer.specs.Outputs.{Out, outSeen, addC, halvesGiven}
 use Rattle.writer.proofs.Laws.{and-assoc, refused, join}
@@ -85,7 +85,7 @@ abbrev Led : List ℕ → Type 0
 Led [] = Unit {0}
 Led (d ∷ ds) = 0 < d
 
-led-by : (x : ℕ) (l : List ℕ) (b : Bool) → eqb x 0 ≡ b → Led (strip l) → Led (pick b (strip l) (x ∷ l))
+led-by : (x : ℕ) (l : List ℕ) (b : Bool) → eqb x 0 ≡ b → Led (strip l) → Led (cond b (strip l) (x ∷ l))
 led-by x l true e h = h
 led-by x l false e h = less-than 0 x (omega arith) (λ f. eqb-false x 0 e (sym f))
 
@@ -98,7 +98,7 @@ short-length : (q r : ℕ → ℕ) (k v : ℕ) → length (short q r k v) ≤ k
 short-length q r zero v = omega arith
 short-length q r (suc k) v = by (eqb v 0) (short-length q r k (q v))
   where
-    by : (b : Bool) → length (short q r k (q v)) ≤ k → length (pick b [] (short q r k (q v) ++ r v ∷ [])) ≤ suc k
+    by : (b : Bool) → length (short q r k (q v)) ≤ k → length (cond b [] (short q r k (q v) ++ r v ∷ [])) ≤ suc k
     by true h = omega arith
     by false h = omega (arith, length-append (short q r k (q v)) (r v ∷ []))
 
@@ -106,7 +106,7 @@ short-value : (k v : ℕ) → v < power 256 k → byteDigits 0 (short q256 r256 
 short-value zero v h = omega arith
 short-value (suc k) v h = by (eqb v 0) refl (short-value k (v / 256) (less256 v (power 256 k) h))
   where
-    by : (b : Bool) → eqb v 0 ≡ b → byteDigits 0 (short q256 r256 k (v / 256)) ≡ v / 256 → byteDigits 0 (pick b [] (short q256 r256 k (v / 256) ++ (v % 256) ∷ [])) ≡ v
+    by : (b : Bool) → eqb v 0 ≡ b → byteDigits 0 (short q256 r256 k (v / 256)) ≡ v / 256 → byteDigits 0 (cond b [] (short q256 r256 k (v / 256) ++ (v % 256) ∷ [])) ≡ v
     by true e i = sym (eqb-true v 0 e)
     by false e i = append-digits 0 (short q256 r256 k (v / 256)) ((v % 256) ∷ []) ∙ ap (λ n. n * 256 + v % 256) i ∙ omega arith
 

@@ -1,12 +1,11 @@
 -- Writing, step by step, into a buffer of 2,560 bytes: more than any statement has. Assumes nothing.
 use Prim.Native.Nat.{ℕ, _+_}
 use mathlib.Core.List.{List, [], _∷_, _++_}
-use mathlib.Core.Bool.{Bool, true, false, _&&_, _||_}
+use mathlib.Core.Bool.{Bool, true, false, _&&_, _||_, cond}
 use lib.ListN.{length, take, drop}
 use lib.Seq.{sets}
 use lib.Dec.{leb, eqb}
 use Rattle.tokens.specs.declared.Name.{Name}
-use Rattle.tokens.specs.Bytes.{pick}
 use Rattle.tokens.specs.Names.{isName, nameBytes}
 use Rattle.statement.specs.declared.Statement.{Statement}
 use Rattle.statement.specs.declared.Opcode.{Opcode}
@@ -24,11 +23,11 @@ pub data Out : Type 0 where
 
 -- what a buffer holds before a position and from there on; a position over 2,560 says that writing failed
 unfoldable pub outSeen : List ℕ → ℕ → Out
-outSeen t at = pick (eqb (length t) 2560 && leb at 2560) (wrote (take at t) (drop at t)) (failed (length t))
+outSeen t at = cond (eqb (length t) 2560 && leb at 2560) (wrote (take at t) (drop at t)) (failed (length t))
 
 -- the bytes w, if they are given and there is room, and nothing past them is changed; what failed stays so
 unfoldable pub addC : List ℕ → Bool → Out → Out
-addC w b (wrote l m) = pick (b && leb (length l + length w) 2560) (wrote (l ++ w) (drop (length w) m)) (failed 2560)
+addC w b (wrote l m) = cond (b && leb (length l + length w) 2560) (wrote (l ++ w) (drop (length w) m)) (failed 2560)
 addC w b (failed n) = failed n
 
 -- the first names that two lists hold
@@ -46,7 +45,7 @@ moreC (k ∷ ks) v o = moreC ks (v .1) (addC (slotText k (v .0)) (slotGiven k (v
 
 -- a name, in brackets or not
 abbrev pub namedText : Bool → Name → List ℕ
-namedText b n = pick b (slotText inBrackets n) (nameBytes n)
+namedText b n = cond b (slotText inBrackets n) (nameBytes n)
 
 -- two operands and the semicolon
 abbrev pub pairText : List ℕ → List ℕ → List ℕ
@@ -62,7 +61,7 @@ halvesGiven x y = (eqb (length x) 8 || eqb (length y) 0) && isName (x ++ y)
 
 -- ---- what the writer answers, and what the room holds then
 unfoldable pub writtenOf : ℕ → Statement → List Name → Written
-writtenOf n t regs = pick (given t regs && leb (length (textOf t regs)) n) (Length (length (textOf t regs))) (Refused 19)
+writtenOf n t regs = cond (given t regs && leb (length (textOf t regs)) n) (Length (length (textOf t regs))) (Refused 19)
 
 unfoldable pub leftBy : List ℕ → Statement → List Name → List ℕ
-leftBy old t regs = pick (given t regs && leb (length (textOf t regs)) (length old)) (sets old 0 (textOf t regs)) old
+leftBy old t regs = cond (given t regs && leb (length (textOf t regs)) (length old)) (sets old 0 (textOf t regs)) old
