@@ -16,7 +16,7 @@ use Rattle.rules.specs.Counting.{count}
 use Rattle.rules.specs.State.{State, Binding, isBound, widthOf, numberOf, bind}
 use Rattle.rules.specs.Reasons.{roomFor}
 use Rattle.laws.proofs.BoolLaws.{bool, clash}
-use Rattle.search.proofs.NameLaws.{same-true, same-name}
+use Rattle.tokens.proofs.Names.{same-true, same-name}
 use Rattle.search.proofs.ValueLaws.{own-width, own-number, own-bound, other-width, other-number, other-bound, bound-length}
 use Rattle.search.proofs.CountLaws.{count-all, count-less, count-one}
 use Rattle.bindings.specs.declared.Bindings.{Bindings}

@@ -15,7 +15,7 @@ use Rattle.tokens.specs.Names.{sameName}
 use Rattle.rules.specs.Counting.{least}
 use Rattle.laws.proofs.BoolLaws.{bool, clash, or-cases, or-right, or-neither}
 use Rattle.rules.proofs.CountingLaws.{least-hit, least-below}
-use Rattle.search.proofs.NameLaws.{name-path, same-true, same-name, other-name}
+use Rattle.tokens.proofs.Names.{name-path, same-true, same-name, other-name}
 use Rattle.search.proofs.SearchLaws.{least-is, least-none}
 use Rattle.bindings.specs.declared.Bindings.{Bindings}
 use Rattle.bindings.specs.Table.{homeOf, entryAt, stops, stopsAt, stepsOf, entry, written}

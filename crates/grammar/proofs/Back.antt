@@ -5,13 +5,13 @@ use native.Mathlib.Nat.{add-suc, suc-add, add-zero, pow-suc}
 use mathlib.Core.Path.{_≡_, refl, sym, ap, _∙_}
 use mathlib.Core.List.{List, [], _∷_, _++_, append-assoc, append-nil}
 use mathlib.Core.Bool.{Bool, true, false, _&&_, _||_, and-false, cond}
-use lib.ListN.{length, take, drop, length-take, length-drop, length-append, take-append-drop}
+use lib.ListN.{length, take, drop, length-take, length-drop, take-append-drop}
 use lib.Dec.{ltb, leb, eqb}
-use borrow.Author.Tests.{eq-eqb, ne-eqb, eqb-true, leb-true, le-leb, lt-ltb}
-use Rattle.tokens.specs.declared.Name.{Name}
+use borrow.Author.Tests.{ne-eqb, eqb-true, leb-true, le-leb, lt-ltb}
 use Rattle.tokens.specs.Bytes.{between, letter, wordByte, all}
-use Rattle.tokens.specs.Names.{sigil, isName, byteDigits, packed, lowBytes, strip, nameBytes, sameName, nameGiven}
+use Rattle.tokens.specs.Names.{sigil, isName, byteDigits, packed, lowBytes, strip, nameBytes, nameGiven}
 use Rattle.tokens.specs.Numbers.{digitOf, isDigit, positional, hexMark, someDigits, zeroLed, isNumber, valueOf, lowDigits, trimmed, decimal}
+use Rattle.tokens.proofs.Names.{same-name}
 use Rattle.laws.proofs.BoolLaws.{and-split, never}
 use Rattle.tokens.proofs.Lengths.{digits-length}
 use Rattle.grammar.proofs.Lexing.{starts, whole, name-whole}
@@ -118,12 +118,9 @@ name-short (x ∷ l) h =
 pub name-back : (w : List ℕ) → isName w ≡ true → nameBytes (packed w) ≡ w
 name-back w h = bytes-back w (whole-bytes w (name-whole w h)) (name-short w h)
 
-same-name : (n : Name) → sameName n n ≡ true
-same-name n = rw (eq-eqb (n .hi) (n .hi) refl, eq-eqb (n .lo) (n .lo) refl)
-
 pub packed-given : (w : List ℕ) → isName w ≡ true → nameGiven (packed w) ≡ true
 unfolding nameGiven
-packed-given w h = rw (name-back w h, h) (same-name (packed w))
+packed-given w h = rw (name-back w h, h) (same-name (packed w) (packed w) refl)
 
 -- ---- decimals
 digit-back : (d : ℕ) → d < 10 → digitOf (48 + d) ≡ d

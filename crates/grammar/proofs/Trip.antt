@@ -27,6 +27,7 @@ use Rattle.statement.specs.Reading.{readOf, registersOf}
 use Rattle.grammar.specs.Spells.{spaces, Mark, NameText, NumberText, BracketText, OffsetText, bare, plus, AddressText, OperandText, byName, byAddress, MoreNames, closes, comma, NamesText, opens, SlotText, MoreRow, RowText, Spells, sizedOperand, sizedSlot, sized}
 use Rattle.statement.specs.Canonical.{sparse, opcodeOf, mmaValues, valuesOf, offsetText, addressText, operandText, moreNamesText, namesText, slotText, moreRowText, rowText, textOf, allNames, addressGiven, operandGiven, slotGiven, rowGiven, countOf, given}
 use Rattle.grammar.specs.Claims.{Reads, Trip, Writable, Canonical}
+use Rattle.tokens.proofs.Names.{same-true}
 use Rattle.laws.proofs.BoolLaws.{and-split, never}
 use Rattle.grammar.proofs.Rows.{overRow}
 use Rattle.grammar.proofs.Exact.{over-none, over-sized, exact}
@@ -47,18 +48,11 @@ SmallRow [] = Unit {0}
 SmallRow (k ∷ ks) = Small k × SmallRow ks
 
 -- ---- canonical texts of operands spell them, after n spaces and before what ends a word
-same-name : (a b : Name) → sameName a b ≡ true → a ≡ b
-same-name a b h =
-    let p = and-split (eqb (a .hi) (b .hi)) (eqb (a .lo) (b .lo)) h in
-    let x = eqb-true (a .hi) (b .hi) (p .0) in
-    let y = eqb-true (a .lo) (b .lo) (p .1) in
-    ap (λ (k : ℕ). record { hi = k; lo = a .lo }) x ∙ ap (λ (k : ℕ). record { hi = b .hi; lo = k }) y
-
 name-spelled : (n : ℕ) (v : Name) (r : List ℕ) → nameGiven v ≡ true → runLen wordByte r ≡ 0 → NameText v (spaces n ++ (nameBytes v ++ r)) r
 unfolding nameGiven
 name-spelled n v r h e =
     let p = and-split (isName (nameBytes v)) (sameName (packed (nameBytes v)) v) h in
-    record { bytes = nameBytes v; spelled = record { blanks = n; parts = refl; ends = e }; good = p .0; value = same-name (packed (nameBytes v)) v (p .1) }
+    record { bytes = nameBytes v; spelled = record { blanks = n; parts = refl; ends = e }; good = p .0; value = same-true (packed (nameBytes v)) v (p .1) }
 
 number-spelled : (n v : ℕ) (r : List ℕ) → v < 10 ^ 20 → runLen wordByte r ≡ 0 → NumberText v (spaces n ++ (decimal v ++ r)) r
 number-spelled n v r h e = record { bytes = decimal v; spelled = record { blanks = n; parts = refl; ends = e }; good = decimal-number v; value = decimal-value v h }

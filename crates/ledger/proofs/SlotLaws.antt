@@ -17,7 +17,7 @@ use Rattle.rules.specs.Counting.{least, every}
 use Rattle.rules.specs.State as rules
 use Rattle.rules.specs.State.{Allocation, covers, isFree, freeFrom}
 use Rattle.rules.proofs.CountingLaws.{least-le, least-hit, least-below, every-at, every-all}
-use Rattle.search.proofs.NameLaws.{same-true, same-name, other-name}
+use Rattle.tokens.proofs.Names.{same-true, same-name, other-name}
 use Rattle.search.proofs.SearchLaws.{least-at-most, least-agree}
 use Rattle.ledger.specs.declared.Span.{Span}
 use Rattle.ledger.specs.Slots.{ownsAt, slotOf, meetsAt, fitsAt, placeOf, total}

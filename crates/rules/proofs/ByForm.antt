@@ -16,7 +16,7 @@ use Rattle.statement.specs.declared.Statement.the-variants.{Mov32, Mov64, Alloc
 use Rattle.statement.specs.Cells as cells
 use Rattle.rules.specs.State.{State, Placer, isLive, isBound, columnsOf}
 use Rattle.rules.specs.Reasons.{openRules, named, roomed, warped, sized, permitted, placed, reads, mListed, nListed, typesListed, inside, cleared, roomFor, isWarp, laneOfWarp, ends, mmaNamed, mmaReads, fieldsOf, allEnd}
-use Rattle.rules.proofs.RuleLaws.{numbered, by-test, none-kept, in-turn}
+use Rattle.rules.proofs.RuleLaws.{none-kept, in-turn}
 
 -- a mov at either width
 abbrev pub movRules : State → Name → List Rule
@@ -72,9 +72,7 @@ module _ (place : Placer) (s : State) (held w : ℕ) where
 
   -- one that breaks none is legal
   pub alloc-legal : (n : Name) (k : ℕ) → firstBroken (openRules place s held w (Alloc n k)) ≡ 0 → legal k ≡ true
-  unfolding numbered
-  alloc-legal n k e =
-      none-kept 11 (allocRules place s w n k) (by-test 11 (allocRules place s w n k) refl) (sym (alloc-first n k) ∙ e) .1 .1 .0
+  alloc-legal n k e = none-kept (allocRules place s w n k) refl (sym (alloc-first n k) ∙ e) .1 .1 .0
 
   pub dealloc-first : (n : Name) (k : ℕ) → firstBroken (openRules place s held w (Dealloc n k)) ≡ firstBroken (deallocRules s w n k)
   unfolding openRules cells.counted named roomed warped sized permitted placed reads mListed nListed typesListed inside cleared
@@ -99,11 +97,10 @@ module _ (place : Placer) (s : State) (held w : ℕ) where
   -- its listing in turn: the number is that of the first rule of listing that is broken
   pub mma-listed : (m : Mma) → firstBroken (openRules place s held w (Multiply m))
       ≡ mmaOrder (all (mmaNamed s m)) (all (mmaReads s m)) (firstBroken (listing (m .kind) (m .ws) (fieldsOf s m))) (all (allEnd s m))
-  unfolding numbered
   mma-listed m =
       mma-first m
       ∙ ap (λ n. cond (all (mmaNamed s m)) (cond (all (mmaReads s m)) n 12) 6)
-      (in-turn 13 (listing (m .kind) (m .ws) (fieldsOf s m)) (rule 14 (all (allEnd s m)) ∷ []) (by-test 13 (listing (m .kind) (m .ws) (fieldsOf s m)) refl))
+      (in-turn (listing (m .kind) (m .ws) (fieldsOf s m)) (rule 14 (all (allEnd s m)) ∷ []) refl)
 
   pub exit-first : firstBroken (openRules place s held w Exit) ≡ firstBroken (exitRules held)
   unfolding openRules cells.counted named roomed warped sized permitted placed reads mListed nListed typesListed inside cleared

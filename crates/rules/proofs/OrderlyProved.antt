@@ -1,15 +1,15 @@
 -- Over accepted lines a name is never both a value and a live allocation, and there are at most 128 value names: `mov` and `alloc` are asked for it by
 -- rules 6 and 7, and no other line adds a name. Assumes nothing.
 use Prim.Native.Nat.{ℕ, zero, suc, _≤_, _<_}
-use mathlib.Core.Path.{_≡_, refl, sym, ap, _∙_, subst}
+use mathlib.Core.Path.{_≡_, refl, sym, ap, subst}
 use mathlib.Core.Bool.{Bool, true, false, not, _&&_, _||_, cond, or-true}
 use mathlib.Core.List.{List, [], _∷_}
 use mathlib.Core.Option.{Option, none, some}
 use mathlib.Core.Logic.{_⊎_, inl, inr}
 use native.Mathlib.Omega.{arith}
-use lib.Dec.{ltb, eqb}
+use lib.Dec.{ltb}
 use lib.ListN.{length}
-use borrow.Author.Tests.{not-true, eqb-true, ltb-true}
+use borrow.Author.Tests.{not-true, ltb-true}
 use Rattle.tokens.specs.declared.Name.{Name}
 use Rattle.tokens.specs.Names.{sameName}
 use Rattle.statement.specs.Views as act
@@ -18,15 +18,9 @@ use Rattle.rules.specs.State.{State, Allocation, Binding, Placer, isLive
 use Rattle.rules.specs.Reasons.{roomFor}
 use Rattle.rules.specs.Sheet.{Line, badLayout, noForm, tooLarge, statement, Placing, lineRules, lineEffect, acted, effect, added, moved, heldAfter, stateBy, rulesBy}
 use Rattle.rules.specs.Claims.{AllKept, Orderly}
-use Rattle.laws.proofs.BoolLaws.{and-l, and-r, or-cases, clash}
+use Rattle.tokens.proofs.Names.{same-true}
+use Rattle.laws.proofs.BoolLaws.{and-r, or-cases, clash}
 use Rattle.rules.proofs.RuleLaws.{accepted, binds-kept, requests-kept}
-
--- ---- names
-pub same-name : (a b : Name) → sameName a b ≡ true → a ≡ b
-same-name a b e =
-    let p : a .hi ≡ b .hi = eqb-true (a .hi) (b .hi) (and-l (eqb (a .hi) (b .hi)) (eqb (a .lo) (b .lo)) e) in
-    let q : a .lo ≡ b .lo = eqb-true (a .lo) (b .lo) (and-r (eqb (a .hi) (b .hi)) (eqb (a .lo) (b .lo)) e) in
-    ap (λ h. record { hi = h; lo = a .lo }) p ∙ ap (λ l. record { hi = b .hi; lo = l }) q
 
 -- ---- the table of values
 -- what is bound afterwards is the name, or was bound
@@ -96,14 +90,14 @@ mov-orderly s n width v p r o =
     }
   where
     at : (m : Name) → isLive m (s .live) ≡ true → (sameName n m ≡ true) ⊎ (isBound m (s .values) ≡ true) → ⊥
-    at m live (inl e) = clash (subst (λ k. isLive k (s .live) ≡ true) (sym (same-name n m e)) live) (not-true (isLive n (s .live)) p)
+    at m live (inl e) = clash (subst (λ k. isLive k (s .live) ≡ true) (sym (same-true n m e)) live) (not-true (isLive n (s .live)) p)
     at m live (inr e) = o .apart m live e
 
 alloc-orderly : (s : State) (n : Name) (v : ℕ) (place : Placer) (w : ℕ) → not (isLive n (s .live)) && not (isBound n (s .values)) ≡ true → Orderly s → Orderly (acted place s w (act.requests n v))
 alloc-orderly s n v place w p o = record { few = o .few; apart = λ m live bound. at m bound (live-added m n v (place (s .live) v) (s .live) live) }
   where
     at : (m : Name) → isBound m (s .values) ≡ true → (sameName n m ≡ true) ⊎ (isLive m (s .live) ≡ true) → ⊥
-    at m bound (inl e) = clash (subst (λ k. isBound k (s .values) ≡ true) (sym (same-name n m e)) bound) (not-true (isBound n (s .values)) (and-r (not (isLive n (s .live))) (not (isBound n (s .values))) p))
+    at m bound (inl e) = clash (subst (λ k. isBound k (s .values) ≡ true) (sym (same-true n m e)) bound) (not-true (isBound n (s .values)) (and-r (not (isLive n (s .live))) (not (isBound n (s .values))) p))
     at m bound (inr e) = o .apart m e bound
 
 orderly-step : (place : Placer) (s : State) (held : ℕ) (x : Line) → AllKept (lineRules place s held x) → Orderly s → Orderly (lineEffect place s x)

@@ -1,13 +1,13 @@
 -- Ordered rules: the number of the first broken one is 0 exactly where all are kept, and k exactly where rule k is the first broken. Each law is an
 -- induction on the list. Assumes nothing.
-use Prim.Native.Nat.{ℕ, _≤_, _<_}
+use Prim.Native.Nat.{ℕ, _<_}
 use mathlib.Core.Path.{_≡_, refl, ap, _∙_, subst}
 use mathlib.Core.Bool.{Bool, true, false, not, _&&_, _||_, cond}
 use mathlib.Core.Option.{some}
 use mathlib.Core.List.{List, [], _∷_, _++_}
 use native.Mathlib.Omega.{arith}
-use lib.Dec.{leb, ltb, eqb}
-use borrow.Author.Tests.{eqb-true, eq-eqb, ne-eqb, ltb-true, leb-true}
+use lib.Dec.{ltb, eqb}
+use borrow.Author.Tests.{not-true, eqb-true, eq-eqb, ne-eqb}
 use Rattle.laws.specs.Tests.{all, isSome}
 use Rattle.laws.specs.Rules.{Rule, rule, firstBroken}
 use Rattle.tokens.specs.declared.Name.{Name}
@@ -23,26 +23,31 @@ use Rattle.statement.specs.Cells as cells
 use Rattle.statement.specs.Cells.{counted}
 use Rattle.rules.specs.Sheet.{Line, badLayout, noForm, tooLarge, statement, lineRules}
 use Rattle.rules.specs.Claims.{AllKept, FirstIs, numbers, InOrder}
-use Rattle.laws.proofs.BoolLaws.{and-l, and-r, clash}
+use Rattle.laws.proofs.BoolLaws.{and-l, and-r, and-join, clash}
 
--- the numbers are from 1 to m
-abbrev pub Numbered : ℕ → List Rule → Type 0
-Numbered m [] = Unit {0}
-Numbered m (rule n kept ∷ rs) = (0 < n) × ((n ≤ m) × Numbered m rs)
+-- no rule has that number
+abbrev pub lacks : ℕ → List Rule → Bool
+lacks m [] = true
+lacks m (rule n kept ∷ rs) = not (eqb n m) && lacks m rs
+
+-- the first of them has another
+other : (m n : ℕ) (rs : List Rule) → not (eqb n m) && lacks m rs ≡ true → n ≡ m → ⊥
+other m n rs p e = clash (eq-eqb n m e) (not-true (eqb n m) (and-l (not (eqb n m)) (lacks m rs) p))
 
 pub kept-none : (rs : List Rule) → AllKept rs → firstBroken rs ≡ 0
 kept-none [] h = refl
 kept-none (rule n kept ∷ rs) h = rw (h .0) (kept-none rs (h .1))
 
-pub none-kept : (m : ℕ) (rs : List Rule) → Numbered m rs → firstBroken rs ≡ 0 → AllKept rs
-none-kept m [] p e = tt
-none-kept m (rule n true ∷ rs) p e = (refl, none-kept m rs (p .1 .1) e)
-none-kept m (rule n false ∷ rs) p e = absurd (omega (arith, p .0, e))
+pub none-kept : (rs : List Rule) → lacks 0 rs ≡ true → firstBroken rs ≡ 0 → AllKept rs
+none-kept [] p e = tt
+none-kept (rule n true ∷ rs) p e = (refl, none-kept rs (and-r (not (eqb n 0)) (lacks 0 rs) p) e)
+none-kept (rule n false ∷ rs) p e = absurd (other 0 n rs p e)
 
-pub at-most : (m : ℕ) (rs : List Rule) → Numbered m rs → firstBroken rs ≤ m
-at-most m [] p = omega arith
-at-most m (rule n true ∷ rs) p = at-most m rs (p .1 .1)
-at-most m (rule n false ∷ rs) p = p .1 .0
+-- such a number is not the first broken one's
+pub never : (m : ℕ) (rs : List Rule) → lacks m rs ≡ true → 0 < m → firstBroken rs ≡ m → ⊥
+never m [] p h e = omega (arith, h, e)
+never m (rule n true ∷ rs) p h e = never m rs (and-r (not (eqb n m)) (lacks m rs) p) h e
+never m (rule n false ∷ rs) p h e = other m n rs p e
 
 pub first-is : (k : ℕ) (rs : List Rule) → firstBroken rs ≡ k → 0 < k → FirstIs k rs
 first-is k [] e p = absurd (omega (arith, e))
@@ -59,52 +64,39 @@ pub is-first : (k : ℕ) (rs : List Rule) → FirstIs k rs → firstBroken rs �
 is-first k rs f = ap firstBroken (f .parts) ∙ passes-over (f .before) (rule k false ∷ f .after) (f .kept)
 
 -- two lists in turn
-pub in-turn : (m : ℕ) (xs ys : List Rule) → Numbered m xs → firstBroken (xs ++ ys) ≡ cond (eqb (firstBroken xs) 0) (firstBroken ys) (firstBroken xs)
-in-turn m [] ys p = refl
-in-turn m (rule n true ∷ xs) ys p = in-turn m xs ys (p .1 .1)
-in-turn m (rule n false ∷ xs) ys p = rw (ne-eqb n 0 (omega (arith, p .0)))
+pub lacks-both : (m : ℕ) (xs ys : List Rule) → lacks m xs ≡ true → lacks m ys ≡ true → lacks m (xs ++ ys) ≡ true
+lacks-both m [] ys p q = q
+lacks-both m (rule n kept ∷ xs) ys p q =
+    and-join (not (eqb n m)) (lacks m (xs ++ ys)) (and-l (not (eqb n m)) (lacks m xs) p) (lacks-both m xs ys (and-r (not (eqb n m)) (lacks m xs) p) q)
 
-pub in-turn-kept : (m : ℕ) (xs ys : List Rule) → Numbered m xs → firstBroken xs ≡ 0 → firstBroken (xs ++ ys) ≡ firstBroken ys
-in-turn-kept m xs ys p e = in-turn m xs ys p ∙ rw (eq-eqb (firstBroken xs) 0 e)
+pub in-turn : (xs ys : List Rule) → lacks 0 xs ≡ true → firstBroken (xs ++ ys) ≡ cond (eqb (firstBroken xs) 0) (firstBroken ys) (firstBroken xs)
+in-turn [] ys p = refl
+in-turn (rule n true ∷ xs) ys p = in-turn xs ys (and-r (not (eqb n 0)) (lacks 0 xs) p)
+in-turn (rule n false ∷ xs) ys p = rw (ne-eqb n 0 (other 0 n xs p))
 
-pub in-turn-broken : (m : ℕ) (xs ys : List Rule) → Numbered m xs → 0 < firstBroken xs → firstBroken (xs ++ ys) ≡ firstBroken xs
-in-turn-broken m xs ys p h = in-turn m xs ys p ∙ rw (ne-eqb (firstBroken xs) 0 (omega (arith, h)))
+pub in-turn-kept : (xs ys : List Rule) → lacks 0 xs ≡ true → firstBroken xs ≡ 0 → firstBroken (xs ++ ys) ≡ firstBroken ys
+in-turn-kept xs ys p e = in-turn xs ys p ∙ rw (eq-eqb (firstBroken xs) 0 e)
 
--- the same, as a test
-unfoldable pub numbered : ℕ → List Rule → Bool
-numbered m [] = true
-numbered m (rule n kept ∷ rs) = ltb 0 n && (leb n m && numbered m rs)
+pub in-turn-broken : (xs ys : List Rule) → lacks 0 xs ≡ true → 0 < firstBroken xs → firstBroken (xs ++ ys) ≡ firstBroken xs
+in-turn-broken xs ys p h = in-turn xs ys p ∙ rw (ne-eqb (firstBroken xs) 0 (omega (arith, h)))
 
-pub by-test : (m : ℕ) (rs : List Rule) → numbered m rs ≡ true → Numbered m rs
-unfolding numbered
-by-test m [] e = tt
-by-test m (rule n kept ∷ rs) e =
-    let r = and-r (ltb 0 n) (leb n m && numbered m rs) e in
-    (ltb-true 0 n (and-l (ltb 0 n) (leb n m && numbered m rs) e), (leb-true n m (and-l (leb n m) (numbered m rs) r), by-test m rs (and-r (leb n m) (numbered m rs) r)))
+-- ---- the numbers of a line's rules: none is 0, and none is 16, that of the lent list. A rule may have any other
+abbrev pub Numbered : List Rule → Type 0
+Numbered rs = (lacks 0 rs ≡ true) × (lacks 16 rs ≡ true)
 
--- ---- the rules of a line
-open-numbered : (place : Placer) (s : State) (held w : ℕ) (t : Statement) → Numbered 15 (openRules place s held w t)
-unfolding openRules numbered
-open-numbered place s held w t = by-test 15 (openRules place s held w t) refl
-
-closed-numbered : (t : Statement) → Numbered 15 (closedRules t)
-unfolding closedRules numbered
-closed-numbered t = by-test 15 (closedRules t) refl
-
-pub rules-numbered : (place : Placer) (s : State) (held w : ℕ) (t : Statement) → Numbered 15 (rules place s held w t)
-unfolding rules
+rules-numbered : (place : Placer) (s : State) (held w : ℕ) (t : Statement) → Numbered (rules place s held w t)
+unfolding rules openRules closedRules
 rules-numbered place s held w t = by (s .exited)
   where
-    by : (b : Bool) → Numbered 15 (cond b (closedRules t) (openRules place s held w t))
-    by true = closed-numbered t
-    by false = open-numbered place s held w t
+    by : (b : Bool) → Numbered (cond b (closedRules t) (openRules place s held w t))
+    by true = (refl, refl)
+    by false = (refl, refl)
 
-pub line-numbered : (place : Placer) (s : State) (held : ℕ) (x : Line) → Numbered 15 (lineRules place s held x)
-unfolding numbered
-line-numbered place s held badLayout = by-test 15 (rule 2 false ∷ []) refl
-line-numbered place s held noForm = by-test 15 (rule 3 false ∷ []) refl
-line-numbered place s held tooLarge = by-test 15 (rule 4 false ∷ []) refl
-line-numbered place s held (statement w t) = (omega arith, (omega arith, rules-numbered place s held w t))
+pub line-numbered : (place : Placer) (s : State) (held : ℕ) (x : Line) → Numbered (lineRules place s held x)
+line-numbered place s held badLayout = (refl, refl)
+line-numbered place s held noForm = (refl, refl)
+line-numbered place s held tooLarge = (refl, refl)
+line-numbered place s held (statement w t) = rules-numbered place s held w t
 
 -- the published order of a line
 pub in-order : (place : Placer) (s : State) (held w : ℕ) (t : Statement) → InOrder place s held w t

@@ -3,13 +3,13 @@
 use Prim.Native.Nat.{ℕ, zero, suc, _+_, _≤_, _<_}
 use mathlib.Core.Path.{_≡_, refl, sym, ap, _∙_, subst}
 use mathlib.Core.Bool.{Bool, true, false, not, cond}
-use mathlib.Core.List.{List, [], _∷_, _++_}
+use mathlib.Core.List.{[], _∷_}
 use mathlib.Core.Logic.{_⊎_, inl, inr}
 use native.Mathlib.Omega.{arith}
 use lib.Dec.{leb, ltb, eqb}
 use lib.ListN.{length}
 use borrow.Author.Tests.{not-true, not-false, eqb-true, eqb-false, ltb-true, ltb-false, leb-true, leb-false, lt-ltb, le-ltb, eq-eqb, ne-eqb}
-use Rattle.laws.specs.Rules.{Rule, rule, firstBroken}
+use Rattle.laws.specs.Rules.{rule, firstBroken}
 use Rattle.statement.specs.Views as act
 use Rattle.statement.specs.Views.{Act, actOf, exitIn}
 use Rattle.rules.specs.Counting.{least}
@@ -20,7 +20,7 @@ use Rattle.rules.specs.Claims.{AllKept, exits, Passing, Passed, endRules
 use Rattle.rules.specs.declared.Answer.{Answer}
 use Rattle.laws.proofs.BoolLaws.{bool, clash}
 use Rattle.rules.proofs.CountingLaws.{least-le, least-hit, least-below}
-use Rattle.rules.proofs.RuleLaws.{Numbered, kept-closed, kept-none, none-kept, at-most, first-is, is-first, in-turn-kept, in-turn-broken, line-numbered}
+use Rattle.rules.proofs.RuleLaws.{lacks, kept-closed, kept-none, none-kept, never, first-is, is-first, lacks-both, in-turn-kept, in-turn-broken, line-numbered}
 
 -- ---- lines and exit
 pub exit-ends : (place : Placer) (s : State) (x : Line) → exits x ≡ true → lineEffect place s x .exited ≡ true
@@ -72,15 +72,16 @@ module _ (placing : Placing) (line : ℕ → Line) where
 
   pub zero-kept : (k : ℕ) → reason k ≡ 0 → AllKept (rulesBy placing line k)
   unfolding reasonBy
-  zero-kept k e = none-kept 15 (rulesBy placing line k) (line-numbered (placing k) (stateBy placing line k) (heldAfter line k) (line k)) e
+  zero-kept k e = none-kept (rulesBy placing line k) (line-numbered (placing k) (stateBy placing line k) (heldAfter line k) (line k) .0) e
 
   pub kept-zero : (k : ℕ) → AllKept (rulesBy placing line k) → reason k ≡ 0
   unfolding reasonBy
   kept-zero k h = kept-none (rulesBy placing line k) h
 
-  pub reason-most : (k : ℕ) → reason k ≤ 15
+  -- 16 is of no line
+  reason-other : (k : ℕ) → reason k ≡ 16 → ⊥
   unfolding reasonBy
-  reason-most k = at-most 15 (rulesBy placing line k) (line-numbered (placing k) (stateBy placing line k) (heldAfter line k) (line k))
+  reason-other k e = never 16 (rulesBy placing line k) (line-numbered (placing k) (stateBy placing line k) (heldAfter line k) (line k) .1) (omega arith) e
 
   -- the line where the sheet stops is refused, and none before it
   pub stop-le : (n : ℕ) → stopBy placing line n ≤ n
@@ -216,7 +217,7 @@ module _ (placing : Placing) (sheet : Sheet) (room : ℕ) where
 
   no-stop : stop < size → (r : ℕ) → Passing r → r ≡ reasonBy placing lines stop → ⊥
   no-stop h r (inl e) q = omega (arith, e, q, stop-hit placing lines size h)
-  no-stop h r (inr e) q = omega (arith, e, q, reason-most placing lines stop)
+  no-stop h r (inr e) q = reason-other placing lines stop (sym q ∙ e)
 
   no-header : (r : ℕ) → Passing r → r ≡ 2 → ⊥
   no-header r (inl e) q = omega (arith, e, q)
@@ -249,12 +250,9 @@ module _ (placing : Placing) (sheet : Sheet) (room : ℕ) where
   abbrev first : ℕ → ℕ
   first l = firstBroken (rulesAt placing sheet room l)
 
-  own-numbered : (l : ℕ) → Numbered 15 (ownRules placing sheet room l)
-  own-numbered zero = (omega arith, (omega arith, tt))
-  own-numbered (suc k) = line-numbered (placing k) (stateBy placing lines k) (heldAfter lines k) (lines k)
-
-  end-numbered : Numbered 16 (endRules placing sheet room)
-  end-numbered = (omega arith, (omega arith, (omega arith, (omega arith, tt))))
+  own-above : (l : ℕ) → lacks 0 (ownRules placing sheet room l) ≡ true
+  own-above zero = refl
+  own-above (suc k) = line-numbered (placing k) (stateBy placing lines k) (heldAfter lines k) (lines k) .0
 
   own-zero : (l : ℕ) → sheet .header ≡ true → ((k : ℕ) → k < l → reasonBy placing lines k ≡ 0) → firstBroken (ownRules placing sheet room l) ≡ 0
   unfolding reasonBy
@@ -266,10 +264,10 @@ module _ (placing : Placing) (sheet : Sheet) (room : ℕ) where
   own-same = refl
 
   first-own : (l : ℕ) → 0 < firstBroken (ownRules placing sheet room l) → first l ≡ firstBroken (ownRules placing sheet room l)
-  first-own l h = in-turn-broken 15 (ownRules placing sheet room l) (cond (eqb l size) (endRules placing sheet room) []) (own-numbered l) h
+  first-own l h = in-turn-broken (ownRules placing sheet room l) (cond (eqb l size) (endRules placing sheet room) []) (own-above l) h
 
   first-then : (l : ℕ) → firstBroken (ownRules placing sheet room l) ≡ 0 → first l ≡ firstBroken (cond (eqb l size) (endRules placing sheet room) [])
-  first-then l h = in-turn-kept 15 (ownRules placing sheet room l) (cond (eqb l size) (endRules placing sheet room) []) (own-numbered l) h
+  first-then l h = in-turn-kept (ownRules placing sheet room l) (cond (eqb l size) (endRules placing sheet room) []) (own-above l) h
 
   first-middle : (l : ℕ) → l < size → firstBroken (ownRules placing sheet room l) ≡ 0 → first l ≡ 0
   first-middle l p h = first-then l h ∙ ap (λ b. firstBroken (cond b (endRules placing sheet room) [])) (ne-eqb l size (omega (arith, p)))
@@ -373,19 +371,15 @@ module _ (placing : Placing) (sheet : Sheet) (room : ℕ) where
       by (inr h) = inr (headless h)
 
   -- ---- the claims
-  at-numbered : (l : ℕ) → Numbered 16 (rulesAt placing sheet room l)
-  at-numbered l = join (ownRules placing sheet room l) (own-numbered l) (bool (eqb l size))
+  at-above : (l : ℕ) → lacks 0 (rulesAt placing sheet room l) ≡ true
+  at-above l = lacks-both 0 (ownRules placing sheet room l) (cond (eqb l size) (endRules placing sheet room) []) (own-above l) (end (eqb l size))
     where
-      widen : (xs ys : List Rule) → Numbered 15 xs → Numbered 16 ys → Numbered 16 (xs ++ ys)
-      widen [] ys p q = q
-      widen (rule n kept ∷ xs) ys p q = (p .0, (omega (arith, p .1 .0), widen xs ys (p .1 .1) q))
-
-      join : (xs : List Rule) → Numbered 15 xs → (eqb l size ≡ true) ⊎ (eqb l size ≡ false) → Numbered 16 (xs ++ cond (eqb l size) (endRules placing sheet room) [])
-      join xs p (inl e) = widen xs (cond (eqb l size) (endRules placing sheet room) []) p (subst (λ b. Numbered 16 (cond b (endRules placing sheet room) [])) (sym e) end-numbered)
-      join xs p (inr e) = widen xs (cond (eqb l size) (endRules placing sheet room) []) p (subst (λ b. Numbered 16 (cond b (endRules placing sheet room) [])) (sym e) tt)
+      end : (b : Bool) → lacks 0 (cond b (endRules placing sheet room) []) ≡ true
+      end true = refl
+      end false = refl
 
   all-kept : (l : ℕ) → first l ≡ 0 → AllKept (rulesAt placing sheet room l)
-  all-kept l e = none-kept 16 (rulesAt placing sheet room l) (at-numbered l) e
+  all-kept l e = none-kept (rulesAt placing sheet room l) (at-above l) e
 
   -- a refusal is the one that the answer tells
   told-refused : (number l : ℕ) → 0 < number → Goes ⊎ Stops → given .reason ≡ number → given .line ≡ suc l → Refused placing sheet room number l

@@ -41,7 +41,7 @@ use Rattle.rules.specs.Claims.{AllKept}
 use Rattle.rules.proofs.RulesProved.{no-more}
 use Rattle.laws.proofs.BoolLaws.{and-l, and-r, or-cases, clash}
 use Rattle.rules.proofs.RuleLaws.{Accepted, accepted, request-kept, requests-kept, releases-kept, accesses-kept, multiplies-kept, exits-kept}
-use Rattle.rules.proofs.OrderlyProved.{same-name}
+use Rattle.tokens.proofs.Names.{same-true}
 use Rattle.run.specs.Run as run
 use Rattle.run.specs.Run.{Holding, Region, region, Run, Phase, going, stoppedAt, exited, ended, nOf, orZero, has, hasName, hasBoth, without, lies, allLie, bookedBy, operandRegions, metadataRegions, known, startAt, mayUse, heldColumns, able, done, inPhase, go, after}
 use Rattle.run.specs.Demand3.{turnOf}
@@ -131,12 +131,12 @@ lookup-bind m b [] = refl
 lookup-bind m b (c ∷ l) = at (sameName (c .name) (b .name)) refl (lookup-bind m b l)
   where
     apart : sameName (c .name) (b .name) ≡ false → sameName (c .name) m ≡ true → sameName (b .name) m ≡ true → ⊥
-    apart z p q = clash (subst (λ k. sameName (c .name) k ≡ true) (sym (same-name (b .name) m q)) p) z
+    apart z p q = clash (subst (λ k. sameName (c .name) k ≡ true) (sym (same-true (b .name) m q)) p) z
 
     at : (t : Bool) → sameName (c .name) (b .name) ≡ t → lookup m (s.bind b l) ≡ cond (sameName (b .name) m) (some (b .number)) (lookup m l)
         → lookup m (cond t (b ∷ l) (c ∷ s.bind b l)) ≡ cond (sameName (b .name) m) (some (b .number)) (cond (sameName (c .name) m) (some (c .number)) (lookup m l))
     at true z ih =
-        let q : sameName (c .name) m ≡ sameName (b .name) m = ap (λ k. sameName k m) (same-name (c .name) (b .name) z) in
+        let q : sameName (c .name) m ≡ sameName (b .name) m = ap (λ k. sameName k m) (same-true (c .name) (b .name) z) in
         sym (ap (λ u. cond (sameName (b .name) m) (some (b .number)) (cond u (some (c .number)) (lookup m l))) q
         ∙ cond-again (sameName (b .name) m) (some (b .number)) (some (c .number)) (lookup m l))
     at false z ih =

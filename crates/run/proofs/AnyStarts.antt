@@ -2,7 +2,7 @@
 -- nothing held. It follows the rules line by line until then. Assumes nothing.
 use Prim.Native.Nat.{ℕ, zero, suc, _+_, _≤_, _<_}
 use mathlib.Core.Path.{_≡_, refl, sym, ap, _∙_, subst}
-use mathlib.Core.Bool.{Bool, true, false, not, _&&_, cond}
+use mathlib.Core.Bool.{Bool, true, false, _&&_, cond}
 use mathlib.Core.List.{List, [], _∷_}
 use mathlib.Core.Option.{Option, none, some, Option·some-injective, Option·none-ne-some}
 use mathlib.Core.Logic.{_⊎_, inl, inr}
@@ -15,7 +15,7 @@ use Rattle.statement.specs.Views.{Act, Ask, requestIn, of}
 use Rattle.rules.specs.Sheet.{Sheet, Placing, heldAfter, stateBy, rulesBy}
 use Rattle.rules.specs.Claims.{AllKept}
 use Rattle.laws.proofs.BoolLaws.{and-l, and-r, or-cases, bool, clash}
-use Rattle.rules.proofs.OrderlyProved.{same-name}
+use Rattle.tokens.proofs.Names.{same-true}
 use Rattle.rules.proofs.Figures.{held-total}
 use Rattle.rules.proofs.RulesProved.{Clear, zero-kept}
 use Rattle.run.specs.Run.{Turn, Holding, Region, Run, Phase, going, stoppedAt, exited, ended, within, heldColumns, usable, startAt, mayUse, has, lies, allLie, bookedBy, known, able, done, inPhase, go, after, finish, outcome}
@@ -157,7 +157,7 @@ inside a l e =
     record {
       holding = h;
       live = f .1;
-      its-name = same-name (h .name) (a .name) (and-l x (y && z) (f .2));
+      its-name = same-true (h .name) (a .name) (and-l x (y && z) (f .2));
       lanes = leb-true (a .lane + a .lanes) 128 (and-l y z t);
       each = λ d p. rw (le-leb (h .start) (h .start + a .column + d) (omega arith), lt-ltb (h .start + a .column + d) (h .start + h .length) (omega (arith, p, q)));
     }

@@ -1,4 +1,3 @@
-pub mod NameLaws
 pub mod ValueLaws
 pub mod SearchLaws
 pub mod CountLaws

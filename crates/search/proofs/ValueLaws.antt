@@ -9,7 +9,7 @@ use lib.ListN.{length}
 use Rattle.tokens.specs.declared.Name.{Name}
 use Rattle.tokens.specs.Names.{sameName}
 use Rattle.rules.specs.State.{Binding, isBound, widthOf, numberOf, bind}
-use Rattle.search.proofs.NameLaws.{same-true, same-name, other-name}
+use Rattle.tokens.proofs.Names.{same-true, same-name, other-name}
 
 -- ---- f of the value of a name; d where it has none
 unfoldable told : {A : Type 0} → (Binding → A) → A → Name → List Binding → A

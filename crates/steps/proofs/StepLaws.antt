@@ -21,7 +21,7 @@ use Rattle.rules.specs.Reasons.{openRules, closedRules, rules}
 use Rattle.rules.proofs.ByForm.{movRules, mov32-first, mov64-first, alloc-legal, wait-load-first, wait-store-first, fence-before-first, fence-after-first, exit-first}
 use Rattle.statement.specs.Cells.{counted}
 use Rattle.rules.specs.Sheet.{statement, effect, given, requested, released, moved, startList}
-use Rattle.search.proofs.NameLaws.{same-true}
+use Rattle.tokens.proofs.Names.{same-true}
 use Rattle.ledger.specs.declared.Ledger.{Ledger}
 use Rattle.ledger.specs.declared.Booked.{Booked}
 use Rattle.ledger.specs.declared.Span.{Span}
