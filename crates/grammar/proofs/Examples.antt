@@ -11,7 +11,7 @@ use Rattle.tokens.specs.Names.{sigil, isName, packed, lowBytes, strip, nameByte
 use Rattle.tokens.specs.Numbers.{digitOf, isDigit, hexMark, someDigits, zeroLed, isNumber, valueOf, lowDigits, trimmed, decimal}
 use Rattle.tokens.specs.Cursors.{markC, endC, nameC, numberC}
 use Rattle.statement.specs.declared.Statement.{Statement}
-use Rattle.statement.specs.Text.{bytes}
+use Rattle.tokens.specs.Text.{bytes}
 use Rattle.statement.specs.Forms.{word}
 use Rattle.statement.specs.Opcodes.{opcodes, recognise}
 use Rattle.statement.specs.Reading.{inBracketsC, offsetC, insideC, addressC, operandC, moreC, namesC, moreRowC, rowC, answerOf, operandsC, wholeC, readOf, registersOf}

@@ -11,7 +11,7 @@ use Rattle.statement.specs.declared.Num.{Num}
 use Rattle.statement.specs.declared.Num.the-variants.{X1, X2, X4, X8, X16, X32, X64, X128}
 use Rattle.statement.specs.declared.Reading.the-variants.{NoForm}
 use Rattle.statement.specs.Reading.{readOf}
-use Rattle.statement.specs.Text.{bytes}
+use Rattle.tokens.specs.Text.{bytes}
 use Rattle.statement.specs.Forms.{numText}
 use Rattle.statement.specs.Cells.{times}
 use Rattle.grammar.specs.Claims.{Theorems}

@@ -13,7 +13,7 @@ use Rattle.statement.specs.declared.Statement.{Statement}
 use Rattle.statement.specs.declared.Opcode.{Opcode}
 use Rattle.statement.specs.declared.Reading.the-variants.{Got, NoForm, TooLarge}
 use Rattle.statement.specs.declared.Num.{Num}
-use Rattle.statement.specs.Text.{bytes}
+use Rattle.tokens.specs.Text.{bytes}
 use Rattle.statement.specs.Forms.{numText, word, Whole}
 use Rattle.statement.specs.Cells.{times}
 use Rattle.statement.specs.Reading.{opcodeLen, readOf, reasonOf, registersOf}

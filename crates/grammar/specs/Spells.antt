@@ -1,5 +1,6 @@
 -- The grammar, declared: which texts spell a statement. `Xs v l r` says that l starts with a spelling of v, and that r is what follows it.
 -- Numbers have any size here; `sized` says which are in range. Assumes nothing.
+use Rattle.tokens.specs.Text.{byte}
 use Prim.Native.Nat.{ℕ, zero, suc, _≤_}
 use mathlib.Core.Path.{_≡_}
 use mathlib.Core.List.{List, [], _∷_, _++_}
@@ -20,7 +21,7 @@ use Rattle.statement.specs.Canonical.{opcodeOf, valuesOf}
 
 abbrev pub spaces : ℕ → List ℕ
 spaces zero = []
-spaces (suc n) = 32 ∷ spaces n
+spaces (suc n) = byte " " ∷ spaces n
 
 -- ---- tokens
 -- spaces, and the byte m
@@ -50,23 +51,23 @@ pub record NumberText (v : ℕ) (l r : List ℕ) : Type 0 where
 pub record BracketText (n : Name) (l r : List ℕ) : Type 0 where
   pub l₁ : List ℕ
   pub l₂ : List ℕ
-  pub opens : Mark 91 l l₁
+  pub opens : Mark (byte "[") l l₁
   pub inner : NameText n l₁ l₂
-  pub closes : Mark 93 l₂ r
+  pub closes : Mark (byte "]") l₂ r
 
 -- nothing, for 0; or + number
 pub data OffsetText : ℕ → List ℕ → List ℕ → Type 0 where
   bare : {l : List ℕ} → OffsetText 0 l l
-  plus : {v : ℕ} {l l₁ r : List ℕ} → Mark 43 l l₁ → NumberText v l₁ r → OffsetText v l r
+  plus : {v : ℕ} {l l₁ r : List ℕ} → Mark (byte "+") l l₁ → NumberText v l₁ r → OffsetText v l r
 
 pub record AddressText (a : Address) (l r : List ℕ) : Type 0 where
   pub l₁ : List ℕ
   pub l₂ : List ℕ
   pub l₃ : List ℕ
-  pub opens : Mark 91 l l₁
+  pub opens : Mark (byte "[") l l₁
   pub base : NameText (a .base) l₁ l₂
   pub offset : OffsetText (a .offset) l₂ l₃
-  pub closes : Mark 93 l₃ r
+  pub closes : Mark (byte "]") l₃ r
 
 pub data OperandText : Operand → List ℕ → List ℕ → Type 0 where
   byName : {n : Name} {l r : List ℕ} → NameText n l r → OperandText (operand.Descriptor n) l r
@@ -74,12 +75,12 @@ pub data OperandText : Operand → List ℕ → List ℕ → Type 0 where
 
 -- a comma before each name, and the brace
 pub data MoreNames : List Name → List ℕ → List ℕ → Type 0 where
-  closes : {l r : List ℕ} → Mark 125 l r → MoreNames [] l r
-  comma : {n : Name} {ns : List Name} {l l₁ l₂ r : List ℕ} → Mark 44 l l₁ → NameText n l₁ l₂ → MoreNames ns l₂ r → MoreNames (n ∷ ns) l r
+  closes : {l r : List ℕ} → Mark (byte "}") l r → MoreNames [] l r
+  comma : {n : Name} {ns : List Name} {l l₁ l₂ r : List ℕ} → Mark (byte ",") l l₁ → NameText n l₁ l₂ → MoreNames ns l₂ r → MoreNames (n ∷ ns) l r
 
 -- 1 to 128 names
 pub data NamesText : List Name → List ℕ → List ℕ → Type 0 where
-  opens : {n : Name} {ns : List Name} {l l₁ l₂ r : List ℕ} → length ns ≤ 127 → Mark 123 l l₁ → NameText n l₁ l₂ → MoreNames ns l₂ r → NamesText (n ∷ ns) l r
+  opens : {n : Name} {ns : List Name} {l l₁ l₂ r : List ℕ} → length ns ≤ 127 → Mark (byte "{") l l₁ → NameText n l₁ l₂ → MoreNames ns l₂ r → NamesText (n ∷ ns) l r
 
 abbrev pub SlotText : (k : Slot) → Value k → List ℕ → List ℕ → Type 0
 SlotText name v = NameText v
@@ -91,11 +92,11 @@ SlotText names v = NamesText v
 
 -- a comma before each operand, and the semicolon, with nothing after it
 abbrev pub MoreRow : (ks : List Slot) → Values ks → List ℕ → Type 0
-MoreRow [] v l = Mark 59 l []
-MoreRow (k ∷ ks) v l = (l₁ : List ℕ) × (l₂ : List ℕ) × Mark 44 l l₁ × SlotText k (v .0) l₁ l₂ × MoreRow ks (v .1) l₂
+MoreRow [] v l = Mark (byte ";") l []
+MoreRow (k ∷ ks) v l = (l₁ : List ℕ) × (l₂ : List ℕ) × Mark (byte ",") l l₁ × SlotText k (v .0) l₁ l₂ × MoreRow ks (v .1) l₂
 
 abbrev pub RowText : (ks : List Slot) → Values ks → List ℕ → Type 0
-RowText [] v l = Mark 59 l []
+RowText [] v l = Mark (byte ";") l []
 RowText (k ∷ ks) v l = (l₁ : List ℕ) × SlotText k (v .0) l l₁ × MoreRow ks (v .1) l₁
 
 -- ---- statements

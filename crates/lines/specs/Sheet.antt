@@ -1,4 +1,5 @@
 -- The sheet: its limits, its lines by number, and what a line is. Assumes nothing.
+use Rattle.tokens.specs.Text.{byte, bytes}
 use Prim.Native.Nat.{ℕ, zero, suc, _+_, _-_, _≤_}
 use mathlib.Core.Path.{_≡_}
 use mathlib.Core.List.{List, [], _∷_}
@@ -13,7 +14,7 @@ use Rattle.lines.specs.declared.Line.{Line}
 -- how many bytes stand before the first LF, or before the end
 unfoldable pub upto : List ℕ → ℕ
 upto [] = 0
-upto (x ∷ l) = cond (eqb x 10) 0 (suc (upto l))
+upto (x ∷ l) = cond (eqb x (byte "\n")) 0 (suc (upto l))
 
 -- the first line, without its LF
 unfoldable pub textOf : List ℕ → List ℕ
@@ -39,7 +40,7 @@ bit false = 0
 -- how many lines: one for each byte at which a line begins, the first and each one after an LF
 unfoldable pub countFrom : Bool → List ℕ → ℕ
 countFrom begins [] = 0
-countFrom begins (x ∷ l) = bit begins + countFrom (eqb x 10) l
+countFrom begins (x ∷ l) = bit begins + countFrom (eqb x (byte "\n")) l
 
 unfoldable pub lineCount : List ℕ → ℕ
 lineCount l = countFrom true l
@@ -47,13 +48,13 @@ lineCount l = countFrom true l
 -- how many LFs
 unfoldable pub lfs : List ℕ → ℕ
 lfs [] = 0
-lfs (x ∷ l) = bit (eqb x 10) + lfs l
+lfs (x ∷ l) = bit (eqb x (byte "\n")) + lfs l
 
 -- ---- line 1
 
 -- sheet, tab, 1, tab, sm_100a
 abbrev pub header : List ℕ
-header = 115 ∷ 104 ∷ 101 ∷ 101 ∷ 116 ∷ 9 ∷ 49 ∷ 9 ∷ 115 ∷ 109 ∷ 95 ∷ 49 ∷ 48 ∷ 48 ∷ 97 ∷ []
+header = bytes "sheet\t1\tsm_100a"
 
 -- where line 2 starts: after the header and its LF
 abbrev pub bodyAt : ℕ
@@ -74,11 +75,11 @@ headed s = endedOf s && sameBytes (textOf s) header
 
 -- 0 to 3, or *
 unfoldable pub warpByte : ℕ → Bool
-warpByte x = between 48 51 x || eqb x 42
+warpByte x = between (byte "0") (byte "3") x || eqb x (byte "*")
 
 -- * is warp 0
 unfoldable pub warpOf : ℕ → ℕ
-warpOf x = cond (eqb x 42) 0 (x - 48)
+warpOf x = cond (eqb x (byte "*")) 0 (x - byte "0")
 
 -- a byte of a statement
 unfoldable pub plain : ℕ → Bool

@@ -11,7 +11,7 @@ use statement::Shape;
 ghost use mathlib.Core.Path.{_≡_};
 ghost use mathlib.Core.List.{_++_};
 ghost use lib.ListN.{drop};
-ghost use Rattle.statement.specs.Text.{bytes};
+ghost use Rattle.tokens.specs.Text.{bytes};
 ghost use Rattle.statement.specs.Forms.{word, shapeText, numText};
 ghost use Rattle.opcode.specs.Pieces.{leftSeen, pieceC, whole};
 ghost use Rattle.opcode.specs.Heads.{headSeen, headOf, stops};

@@ -1,4 +1,5 @@
 -- Rows that several forms share. Assumes nothing.
+use Rattle.tokens.specs.Text.{byte}
 use Prim.Native.Nat.{ℕ}
 use mathlib.Core.List.{List, [], _∷_}
 use mathlib.Core.Bool.{Bool, cond}
@@ -27,7 +28,7 @@ pairSeen s limit p = record { value = (p .name, (p .number, tt)); next = seen s 
 -- the metadata's address after a comma, for a sparse a alone
 unfoldable pub metadataC : Bool → Rest → Took Metadata
 metadataC sp r =
-    let a = addressC (markC 44 r) in
+    let a = addressC (markC (byte ",") r) in
     cond sp (record { value = Sparse (a .value); next = a .next }) (record { value = Dense; next = r })
 
 abbrev pub metadataSeen : List ℕ → MetadataRead → Took Metadata
@@ -37,11 +38,11 @@ metadataSeen s m = record { value = m .value; next = seen s (m .next) }
 unfoldable pub mmaC : Bool → Bool → Kind → Rest → Took Whole
 mmaC ws sp kind r =
     let d = addressC r in
-    let a = operandC (markC 44 (d .next)) in
-    let b = nameC (markC 44 (a .next)) in
+    let a = operandC (markC (byte ",") (d .next)) in
+    let b = nameC (markC (byte ",") (a .next)) in
     let m = metadataC sp (b .next) in
-    let i = nameC (markC 44 (m .next)) in
-    let p = nameC (markC 44 (i .next)) in
+    let i = nameC (markC (byte ",") (m .next)) in
+    let p = nameC (markC (byte ",") (i .next)) in
     record {
       value = plain (s.Multiply (record { ws = ws; kind = kind; d = d .value; a = a .value; b = b .value; metadata = m .value; idesc = i .value; predicate = p .value }));
       next = endC (p .next);

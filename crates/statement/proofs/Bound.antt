@@ -23,7 +23,7 @@ use Rattle.statement.specs.declared.Operand.{Operand}
 use Rattle.statement.specs.declared.Statement.{Statement}
 use Rattle.statement.specs.declared.Opcode.{Opcode}
 use Rattle.statement.specs.declared.Opcode.the-variants.{Mov32, Mov64, Alloc, Dealloc, Relinquish, Load, Store, WaitLoad, WaitStore, FenceBefore, FenceAfter, Multiply, Exit}
-use Rattle.statement.specs.Text.{bytes}
+use Rattle.tokens.specs.Text.{bytes}
 use Rattle.statement.specs.Forms.{word, shapeText, numText, kindText, option, Slot, name, number, inBrackets, address, operand, names, Value, Values, row}
 use Rattle.statement.specs.Canonical.{opcodeOf, valuesOf, countOf, offsetText, addressText, operandText, moreNamesText, namesText, slotText, slotGiven, moreRowText, rowText, rowGiven, allNames, textOf, given}
 use Rattle.statement.specs.declared.Operand.the-variants as o

@@ -1,4 +1,5 @@
 -- The canonical text of a statement: from the same rows, one space after the opcode and after each comma, decimals, no +0. Assumes nothing.
+use Rattle.tokens.specs.Text.{bytes}
 use Prim.Native.Nat.{ℕ, zero, suc}
 use mathlib.Core.List.{List, [], _∷_, _++_}
 use mathlib.Core.Bool.{Bool, true, false, _&&_, cond}
@@ -62,10 +63,10 @@ valuesOf s.Exit regs = tt
 
 -- ---- texts
 abbrev pub offsetText : ℕ → List ℕ
-offsetText v = cond (eqb v 0) [] (43 ∷ decimal v)
+offsetText v = cond (eqb v 0) [] (bytes "+" ++ decimal v)
 
 unfoldable pub addressText : Address → List ℕ
-addressText a = 91 ∷ (nameBytes (a .base) ++ (offsetText (a .offset) ++ 93 ∷ []))
+addressText a = bytes "[" ++ (nameBytes (a .base) ++ (offsetText (a .offset) ++ bytes "]"))
 
 unfoldable pub operandText : Operand → List ℕ
 operandText (operand.Descriptor n) = nameBytes n
@@ -73,28 +74,28 @@ operandText (operand.Address a) = addressText a
 
 -- a comma and a space before each name, and the brace
 unfoldable pub moreNamesText : List Name → List ℕ
-moreNamesText [] = 125 ∷ []
-moreNamesText (n ∷ ns) = 44 ∷ 32 ∷ (nameBytes n ++ moreNamesText ns)
+moreNamesText [] = bytes "}"
+moreNamesText (n ∷ ns) = bytes ", " ++ (nameBytes n ++ moreNamesText ns)
 
 unfoldable pub namesText : List Name → List ℕ
-namesText [] = 123 ∷ 125 ∷ []
-namesText (n ∷ ns) = 123 ∷ (nameBytes n ++ moreNamesText ns)
+namesText [] = bytes "{}"
+namesText (n ∷ ns) = bytes "{" ++ (nameBytes n ++ moreNamesText ns)
 
 abbrev pub slotText : (k : Slot) → Value k → List ℕ
 slotText name v = nameBytes v
 slotText (number limit) v = decimal v
-slotText inBrackets v = 91 ∷ (nameBytes v ++ 93 ∷ [])
+slotText inBrackets v = bytes "[" ++ (nameBytes v ++ bytes "]")
 slotText address v = addressText v
 slotText operand v = operandText v
 slotText names v = namesText v
 
 unfoldable pub moreRowText : (ks : List Slot) → Values ks → List ℕ
-moreRowText [] v = 59 ∷ []
-moreRowText (k ∷ ks) v = 44 ∷ 32 ∷ (slotText k (v .0) ++ moreRowText ks (v .1))
+moreRowText [] v = bytes ";"
+moreRowText (k ∷ ks) v = bytes ", " ++ (slotText k (v .0) ++ moreRowText ks (v .1))
 
 unfoldable pub rowText : (ks : List Slot) → Values ks → List ℕ
-rowText [] v = 59 ∷ []
-rowText (k ∷ ks) v = 32 ∷ (slotText k (v .0) ++ moreRowText ks (v .1))
+rowText [] v = bytes ";"
+rowText (k ∷ ks) v = bytes " " ++ (slotText k (v .0) ++ moreRowText ks (v .1))
 
 -- the canonical text
 unfoldable pub textOf : Statement → List Name → List ℕ

@@ -1,4 +1,3 @@
-pub mod Text
 pub mod Views
 pub mod Forms
 pub mod Cells

@@ -1,4 +1,5 @@
 -- How a statement is read: the opcode, its row of operands, the answer. Assumes nothing.
+use Rattle.tokens.specs.Text.{byte}
 use Prim.Native.Nat.{ℕ, zero, suc, _-_}
 use mathlib.Core.List.{List, [], _∷_}
 use mathlib.Core.Bool.{Bool, true, false, _&&_, cond}
@@ -27,43 +28,43 @@ use Rattle.statement.specs.Opcodes.{recognise}
 -- ---- operands
 -- [ name ]
 unfoldable pub inBracketsC : Rest → Took Name
-inBracketsC r = let n = nameC (markC 91 r) in record { value = n .value; next = markC 93 (n .next) }
+inBracketsC r = let n = nameC (markC (byte "[") r) in record { value = n .value; next = markC (byte "]") (n .next) }
 
 -- + number, or nothing, which is 0
 unfoldable pub offsetC : Rest → Took ℕ
-offsetC r = let d = markC 43 r in cond (d .ok) (numberC max32 d) (record { value = 0; next = r })
+offsetC r = let d = markC (byte "+") r in cond (d .ok) (numberC max32 d) (record { value = 0; next = r })
 
 -- name ] or name + number ]
 unfoldable pub insideC : Rest → Took Address
 insideC r =
     let n = nameC r in
     let v = offsetC (n .next) in
-    record { value = record { base = n .value; offset = v .value }; next = markC 93 (v .next) }
+    record { value = record { base = n .value; offset = v .value }; next = markC (byte "]") (v .next) }
 
 unfoldable pub addressC : Rest → Took Address
-addressC r = insideC (markC 91 r)
+addressC r = insideC (markC (byte "[") r)
 
 -- an address where a bracket opens, else a descriptor's name
 unfoldable pub operandC : Rest → Took Operand
 operandC r =
-    let d = markC 91 r in
+    let d = markC (byte "[") r in
     let a = insideC d in
     let n = nameC r in
     cond (d .ok) (record { value = operand.Address (a .value); next = a .next }) (record { value = operand.Descriptor (n .value); next = n .next })
 
 -- after a name: a comma and a name, up to k times, and the brace
 unfoldable pub moreC : ℕ → Rest → Took (List Name)
-moreC zero r = record { value = []; next = markC 125 r }
+moreC zero r = record { value = []; next = markC (byte "}") r }
 moreC (suc k) r =
-    let d = markC 44 r in
+    let d = markC (byte ",") r in
     let n = nameC d in
     let m = moreC k (n .next) in
-    cond (d .ok) (record { value = n .value ∷ m .value; next = m .next }) (record { value = []; next = markC 125 r })
+    cond (d .ok) (record { value = n .value ∷ m .value; next = m .next }) (record { value = []; next = markC (byte "}") r })
 
 -- { 1 to 128 names }
 unfoldable pub namesC : Rest → Took (List Name)
 namesC r =
-    let n = nameC (markC 123 r) in
+    let n = nameC (markC (byte "{") r) in
     let m = moreC 127 (n .next) in
     record { value = n .value ∷ m .value; next = m .next }
 
@@ -79,7 +80,7 @@ slotC names r = namesC r
 unfoldable pub moreRowC : (ks : List Slot) → Rest → Took (Values ks)
 moreRowC [] r = record { value = tt; next = endC r }
 moreRowC (k ∷ ks) r =
-    let v = slotC k (markC 44 r) in
+    let v = slotC k (markC (byte ",") r) in
     let m = moreRowC ks (v .next) in
     record { value = (v .value, m .value); next = m .next }
 

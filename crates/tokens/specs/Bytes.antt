@@ -1,4 +1,5 @@
 -- Bytes by class, and the token at the head of a list of bytes. Assumes nothing.
+use Rattle.tokens.specs.Text.{byte}
 use Prim.Native.Nat.{ℕ, zero, suc}
 use mathlib.Core.List.{List, [], _∷_}
 use mathlib.Core.Bool.{Bool, true, false, _&&_, _||_, cond}
@@ -10,19 +11,19 @@ between a e x = leb a x && leb x e
 
 -- A to Z, a to z
 unfoldable pub letter : ℕ → Bool
-letter x = between 65 90 x || between 97 122 x
+letter x = between (byte "A") (byte "Z") x || between (byte "a") (byte "z") x
 
 -- a letter, a digit, _ or $: a byte of a name or a number
 unfoldable pub wordByte : ℕ → Bool
-wordByte x = letter x || between 48 57 x || eqb x 95 || eqb x 36
+wordByte x = letter x || between (byte "0") (byte "9") x || eqb x (byte "_") || eqb x (byte "$")
 
 -- a letter, a digit, _ . or :
 unfoldable pub opcodeByte : ℕ → Bool
-opcodeByte x = letter x || between 48 57 x || eqb x 95 || eqb x 46 || eqb x 58
+opcodeByte x = letter x || between (byte "0") (byte "9") x || eqb x (byte "_") || eqb x (byte ".") || eqb x (byte ":")
 
 -- a space
 unfoldable pub blank : ℕ → Bool
-blank x = eqb x 32
+blank x = eqb x (byte " ")
 
 -- how many bytes at the head pass the test, one after the other
 abbrev pub runLen : (ℕ → Bool) → List ℕ → ℕ
@@ -40,7 +41,7 @@ afterBlanks l = drop (runLen blank l) l
 -- a run of word bytes, with any % just before it, is one token; else one byte is; at the end there is none
 unfoldable pub tokenLen : List ℕ → ℕ
 tokenLen [] = 0
-tokenLen (x ∷ l) = suc (cond (wordByte x || eqb x 37) (runLen wordByte l) 0)
+tokenLen (x ∷ l) = suc (cond (wordByte x || eqb x (byte "%")) (runLen wordByte l) 0)
 
 unfoldable pub tokenOf : List ℕ → List ℕ
 tokenOf l = take (tokenLen l) l

@@ -1,4 +1,5 @@
 -- Tokens by a cursor that stops at the first token that does not fit, and stays there. Assumes nothing.
+use Rattle.tokens.specs.Text.{byte}
 use Prim.Native.Nat.{ℕ}
 use mathlib.Core.List.{List, [], _∷_}
 use mathlib.Core.Bool.{Bool, true, false, _&&_, cond}
@@ -50,7 +51,7 @@ markC m r = cond (r .ok) (markHere m r (afterBlanks (r .rest))) r
 -- past the semicolon, and nothing after it
 unfoldable pub endC : Rest → Rest
 endC r =
-    let d = markC 59 r in
+    let d = markC (byte ";") r in
     record { rest = d .rest; ok = d .ok && eqb (length (d .rest)) 0; over = d .over; far = d .far }
 
 abbrev pub nameHere : Rest → List ℕ → Took Name

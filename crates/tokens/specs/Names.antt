@@ -1,4 +1,5 @@
 -- What bytes are a name, and a name as two numbers. Assumes nothing.
+use Rattle.tokens.specs.Text.{byte}
 use Prim.Native.Nat.{ℕ, zero, suc, _+_, _*_, _/_, _%_}
 use mathlib.Core.List.{List, [], _∷_, _++_}
 use mathlib.Core.Bool.{Bool, true, false, _&&_, _||_, cond}
@@ -9,7 +10,7 @@ use Rattle.tokens.specs.Bytes.{letter, wordByte, all}
 
 -- one of _ $ %
 unfoldable pub sigil : ℕ → Bool
-sigil x = eqb x 95 || eqb x 36 || eqb x 37
+sigil x = eqb x (byte "_") || eqb x (byte "$") || eqb x (byte "%")
 
 -- a letter, then up to 15 word bytes; or one of _ $ % then 1 to 15 of these
 unfoldable pub isName : List ℕ → Bool

@@ -1,4 +1,5 @@
 -- What bytes are a number, and its value, however large. Assumes nothing.
+use Rattle.tokens.specs.Text.{byte}
 use Prim.Native.Nat.{ℕ, zero, suc, _+_, _-_, _*_, _/_, _%_, _^_}
 use mathlib.Core.List.{List, [], _∷_, _++_}
 use mathlib.Core.Bool.{Bool, true, false, _&&_, _||_, not, cond}
@@ -9,7 +10,7 @@ use Rattle.tokens.specs.Bytes.{between, all}
 
 -- 0 to 9, A to F, a to f; 16 for any other byte
 unfoldable pub digitOf : ℕ → ℕ
-digitOf x = cond (between 48 57 x) (x - 48) (cond (between 65 70 x) (x - 55) (cond (between 97 102 x) (x - 87) 16))
+digitOf x = cond (between (byte "0") (byte "9") x) (x - byte "0") (cond (between (byte "A") (byte "F") x) (x - 55) (cond (between (byte "a") (byte "f") x) (x - 87) 16))
 
 unfoldable pub isDigit : ℕ → ℕ → Bool
 isDigit base x = ltb (digitOf x) base
@@ -21,7 +22,7 @@ positional base v (x ∷ l) = positional base (v * base + digitOf x) l
 
 -- 0x or 0X at the head
 unfoldable pub hexMark : List ℕ → Bool
-hexMark w = eqb (getD w 0 0) 48 && (eqb (getD w 1 0) 120 || eqb (getD w 1 0) 88)
+hexMark w = eqb (getD w 0 0) (byte "0") && (eqb (getD w 1 0) (byte "x") || eqb (getD w 1 0) (byte "X"))
 
 -- at least one digit
 unfoldable pub someDigits : ℕ → List ℕ → Bool
@@ -29,7 +30,7 @@ someDigits base d = ltb 0 (length d) && all (isDigit base) d
 
 -- a zero before other bytes
 unfoldable pub zeroLed : List ℕ → Bool
-zeroLed d = eqb (getD d 0 0) 48 && ltb 1 (length d)
+zeroLed d = eqb (getD d 0 0) (byte "0") && ltb 1 (length d)
 
 -- 0x or 0X and hex digits, or decimal digits with no zero before others
 unfoldable pub isNumber : List ℕ → Bool
@@ -55,13 +56,13 @@ numeralOf w = cond (isNumber w) (fitted (valueOf w)) noNumeral
 -- the n low decimal digits of v, as bytes, the highest first
 unfoldable pub lowDigits : ℕ → ℕ → List ℕ
 lowDigits zero v = []
-lowDigits (suc n) v = lowDigits n (v / 10) ++ (48 + v % 10) ∷ []
+lowDigits (suc n) v = lowDigits n (v / 10) ++ (byte "0" + v % 10) ∷ []
 
 -- without the zeros that lead, the last digit kept
 unfoldable pub trimmed : List ℕ → List ℕ
 trimmed [] = []
 trimmed (x ∷ []) = x ∷ []
-trimmed (x ∷ (y ∷ l)) = cond (eqb x 48) (trimmed (y ∷ l)) (x ∷ (y ∷ l))
+trimmed (x ∷ (y ∷ l)) = cond (eqb x (byte "0")) (trimmed (y ∷ l)) (x ∷ (y ∷ l))
 
 -- v below 10^20 in decimal
 unfoldable pub decimal : ℕ → List ℕ

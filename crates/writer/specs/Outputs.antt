@@ -11,7 +11,7 @@ use Rattle.statement.specs.declared.Statement.{Statement}
 use Rattle.statement.specs.declared.Opcode.{Opcode}
 use Rattle.statement.specs.declared.Written.{Written}
 use Rattle.statement.specs.declared.Written.the-variants.{Length, Refused}
-use Rattle.statement.specs.Text.{bytes}
+use Rattle.tokens.specs.Text.{bytes}
 use Rattle.statement.specs.Forms.{word, Slot, inBrackets, names, Values, row}
 use Rattle.statement.specs.Reading.{paired}
 use Rattle.statement.specs.Canonical.{slotText, slotGiven, rowText, rowGiven, textOf, given}

@@ -17,7 +17,7 @@ ghost use Rattle.statement.specs.declared.Opcode.the-variants as opcode;
 ghost use Rattle.statement.specs.declared.Statement.the-variants as statement;
 ghost use Rattle.tokens.specs.Names.{nameGiven};
 ghost use Rattle.tokens.specs.Numbers.{decimal};
-ghost use Rattle.statement.specs.Text.{bytes};
+ghost use Rattle.tokens.specs.Text.{bytes};
 ghost use Rattle.statement.specs.Forms.{word, shapeText, numText, kindText, option, name, operand};
 ghost use Rattle.statement.specs.Canonical.{opcodeOf, mmaValues, addressText, addressGiven};
 ghost use Rattle.statement.specs.Reading.{paired};

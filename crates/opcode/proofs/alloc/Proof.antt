@@ -1,5 +1,5 @@
 -- `opcode::alloc` meets its contract. The law of three pieces, by the callees' contracts. Assumes nothing.
-use Rattle.statement.specs.Text.{bytes}
+use Rattle.tokens.specs.Text.{bytes}
 use Rattle.statement.specs.Forms.{word, option}
 use mathlib.Core.Path.{_∙_}
 use Rattle.opcode.proofs.Laws.{piece-three}

@@ -1,6 +1,6 @@
 -- `opcode::store` meets its contract. The law of two pieces, by the callees' contracts. Assumes nothing.
 use mathlib.Core.List.{_++_}
-use Rattle.statement.specs.Text.{bytes}
+use Rattle.tokens.specs.Text.{bytes}
 use Rattle.statement.specs.Forms.{word, shapeText, numText}
 use mathlib.Core.Path.{_∙_}
 use Rattle.opcode.proofs.Laws.{piece-both}

@@ -1,6 +1,6 @@
 -- `writer::form::mma_word` meets its contract: six additions are one. Assumes nothing.
 use borrow.Author.Needs.{needs}
-use Rattle.statement.specs.Text.{bytes}
+use Rattle.tokens.specs.Text.{bytes}
 use Rattle.statement.specs.Forms.{word, option, kindText}
 use Rattle.writer.specs.Outputs.{outSeen}
 use Rattle.writer.proofs.Rows.{mma-law}

@@ -1,8 +1,12 @@
 -- The bytes of a quoted text. Assumes nothing.
 use Prim.Native.Nat.{ℕ}
-use Prim.Native.Char.{code}
+use Prim.Native.Char.{Char, code}
 use Prim.Native.String.{String, [] as []ᵗ, _∷_ as _∷ᵗ_}
 use mathlib.Core.List.{List, [], _∷_}
+
+-- the byte of one character
+abbrev pub byte : Char → ℕ
+byte c = code c
 
 abbrev pub bytes : String → List ℕ
 bytes []ᵗ = []
