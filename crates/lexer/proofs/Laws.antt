@@ -3,15 +3,19 @@ use Prim.Native.Nat.{ℕ, suc, _+_, _-_, _<_, _≤_}
 use native.Mathlib.Numerals.{add-one}
 use native.Mathlib.Omega.{arith}
 use native.Mathlib.Decide.{decLe}
-use mathlib.Core.Path.{_≡_, refl, _∙_, sym}
+use mathlib.Core.Path.{_≡_, refl, ap, _∙_, sym}
 use mathlib.Core.List.{List, [], _∷_}
 use mathlib.Core.Bool.{true≢false, Bool, true, false, _&&_, _||_, cond}
-use lib.ListN.{length, getD, drop, drop-of-length-le}
+use lib.ListN.{length, getD, drop, drop-of-length-le, length-drop}
 use lib.Seq.{drop-cons, drop-drop}
 use lib.Dec.{leb, eqb}
 use borrow.Author.Tests.{eq-eqb, ne-eqb, le-leb, lt-leb}
 use Rattle.tokens.specs.Bytes.{letter, wordByte, opcodeByte, blank, runLen, tokenLen, afterToken, afterBlanks}
 use Rattle.tokens.specs.Numbers.{digitOf}
+use Rattle.tokens.specs.declared.Cursor.{Cursor}
+use Rattle.tokens.specs.Cursors.{Rest, seen}
+use Rattle.tokens.proofs.Runs.{run-le}
+use Rattle.lexer.specs.Places.{within}
 
 -- ---- classes
 one-of : (b : Bool) → b ≡ (((b || false) || false) || false)
@@ -115,6 +119,15 @@ unfolding blank
 blank-is x h = eq-eqb x 32 h
 
 -- ---- tokens, in the words of the code
+token-le : (l : List ℕ) → tokenLen l ≤ length l
+unfolding tokenLen
+token-le [] = omega arith
+token-le (x ∷ l) = by (wordByte x || eqb x 37)
+  where
+    by : (b : Bool) → suc (cond b (runLen wordByte l) 0) ≤ suc (length l)
+    by true = omega (arith, run-le wordByte l)
+    by false = omega arith
+
 -- past the blanks
 pub blank-law : (s : List ℕ) (at i : ℕ) → i ≡ at + runLen blank (drop at s) → drop i s ≡ afterBlanks (drop at s)
 unfolding afterBlanks
@@ -127,6 +140,21 @@ end-law s e = go (decLe (length s) e)
     go (yes p) = rw (drop-of-length-le s p, le-leb _ _ p)
     go (no q) = let p : e < length s = omega arith in rw (lt-leb _ _ p, drop-cons s e 0 p, ne-eqb (suc (length (drop (suc e) s))) 0 (omega arith))
 
+-- a token, and the blanks before it, end within the text
+token-within : (s : List ℕ) (i : ℕ) → i ≤ length s → i + tokenLen (drop i s) ≤ length s
+token-within s i h = omega (arith, token-le (drop i s), length-drop i s)
+
+pub blank-within : (s : List ℕ) (at i : ℕ) → i ≡ at + runLen blank (drop at s) → at ≤ length s → i ≤ length s
+blank-within s at i e h = omega (arith, run-le blank (drop at s), length-drop at s)
+
+pub end-within : (s : List ℕ) (i e : ℕ) (b : Bool) → e ≡ cond b (i + tokenLen (drop i s)) i → i ≤ length s → e ≤ length s
+end-within s i e true t h = omega (arith, t, token-within s i h)
+end-within s i e false t h = omega (arith, t)
+
+pub far-within : (n : ℕ) (b : Bool) (a i : ℕ) → a ≤ n → i ≤ n → cond b a i ≤ n
+far-within n true a i g h = g
+far-within n false a i g h = h
+
 -- past a token
 pub after-law : (s : List ℕ) (i e : ℕ) → e ≡ i + tokenLen (drop i s) → drop e s ≡ afterToken (drop i s)
 unfolding afterToken
@@ -135,3 +163,19 @@ after-law s i e t = rw (t, ← drop-drop)
 pub far-law : (s : List ℕ) (b : Bool) (a i : ℕ) → drop (cond b a i) s ≡ cond b (drop a s) (drop i s)
 far-law s true a i = refl
 far-law s false a i = refl
+
+-- a place within the text is told by the bytes from it on, and so is a cursor whose places are
+place-told : (s : List ℕ) (a b : ℕ) → a ≤ length s → b ≤ length s → drop a s ≡ drop b s → a ≡ b
+place-told s a b g h e = omega (arith, length-drop a s, length-drop b s, ap length e)
+
+same-cursor : (a b f g : ℕ) (o p v w : Bool) → a ≡ b → o ≡ p → v ≡ w → f ≡ g
+    → _≡_ {A = Cursor} (record { at = a; ok = o; over = v; far = f }) (record { at = b; ok = p; over = w; far = g })
+same-cursor a b f g o p v w h i j k = rw (h, i, j, k)
+
+pub cursor-told : (s : List ℕ) (j k : Cursor) → within s j → within s k → seen s j ≡ seen s k → j ≡ k
+cursor-told s j k g h e =
+    same-cursor (j .at) (k .at) (j .far) (k .far) (j .ok) (k .ok) (j .over) (k .over)
+    (place-told s (j .at) (k .at) (g .0) (h .0) (ap (λ (r : Rest). r .rest) e))
+    (ap (λ (r : Rest). r .ok) e)
+    (ap (λ (r : Rest). r .over) e)
+    (place-told s (j .far) (k .far) (g .1) (h .1) (ap (λ (r : Rest). r .far) e))

@@ -157,10 +157,17 @@ module _ (s : List ℕ) (at : ℕ) where
       there : nameThere (drop at s) ≡ cond (shape (getD s at 0) (runLen wordByte (drop (at + 1) s))) (record { ok = true; value = packed (getD s at 0 ∷ take (runLen wordByte (drop (at + 1) s)) (drop (at + 1) s)); rest = drop (runLen wordByte (drop (at + 1) s)) (drop (at + 1) s) }) (record { ok = false; value = noName; rest = drop at s })
       there = rw (add-one at, drop-cons s at 0 h) (there-by (getD s at 0) (drop (suc at) s) start)
 
+      token-by : tokenLen (drop at s) ≡ suc (runLen wordByte (drop (at + 1) s))
+      unfolding tokenLen
+      token-by = rw (add-one at, drop-cons s at 0 h, start-word (getD s at 0) start)
+
       -- the run ends within the first word
       module _ (e : ℕ) (t : e ≡ at + 1 + wordsLen 7 (drop (at + 1) s)) (short : e < at + 8) where
         ends : runLen wordByte (drop (at + 1) s) ≡ e - at - 1
         ends = omega arith
+
+        pub short-end : e ≡ at + tokenLen (drop at s)
+        short-end = omega (arith, token-by, ends)
 
         pub short-none : shape (getD s at 0) (e - at - 1) ≡ false → record { ok = false; value = noName; rest = drop at s } ≡ nameThere (drop at s)
         short-none k = rw (there, ends, k)
@@ -191,9 +198,9 @@ module _ (s : List ℕ) (at : ℕ) where
             absurd (true≢false (sym w ∙ (rw (← q, ← next (runLen wordByte (drop (at + 8) s))) (run-next wordByte word-0 (drop (at + 8) s)))))
         over g w (no p) = omega arith
 
-        within : (leb (at + 16) e && wordByte (getD s e 0)) ≡ false → Dec (runLen wordByte (drop (at + 8) s) ≤ 8) → runLen wordByte (drop (at + 8) s) ≤ 8
-        within k (yes p) = p
-        within k (no p) =
+        at-most : (leb (at + 16) e && wordByte (getD s e 0)) ≡ false → Dec (runLen wordByte (drop (at + 8) s) ≤ 8) → runLen wordByte (drop (at + 8) s) ≤ 8
+        at-most k (yes p) = p
+        at-most k (no p) =
             let q : at + 8 + 8 ≡ e = omega arith in
             let w : wordByte (getD s e 0) ≡ true = rw (← q, ← next 8) (run-in wordByte (drop (at + 8) s) 8 (omega arith)) in
             absurd (true≢false (sym (rw (le-leb (at + 16) e (omega arith), w)) ∙ k))
@@ -204,12 +211,15 @@ module _ (s : List ℕ) (at : ℕ) where
             let o : 15 < runLen wordByte (drop (at + 1) s) = omega (arith, whole-by, over (leb-true (at + 16) e (g .0)) (g .1) (decLe (runLen wordByte (drop (at + 8) s)) 8)) in
             rw (there, lt-leb (runLen wordByte (drop (at + 1) s)) 15 o, and-false (letter (getD s at 0) || sigil (getD s at 0) && ltb 0 (runLen wordByte (drop (at + 1) s))))
 
+        pub long-end : (leb (at + 16) e && wordByte (getD s e 0)) ≡ false → e ≡ at + tokenLen (drop at s)
+        long-end k = omega (arith, token-by, whole-by, at-most k (decLe (runLen wordByte (drop (at + 8) s)) 8))
+
         pub long-name : (leb (at + 16) e && wordByte (getD s e 0)) ≡ false
             → record { ok = true; value = record { hi = byteDigits (getD s at 0) (take (wordsLen 7 (drop (at + 1) s)) (drop (at + 1) s)); lo = byteDigits 0 (take (wordsLen 8 (drop (at + 8) s)) (drop (at + 8) s)) }; rest = drop e s } ≡ nameThere (drop at s)
         long-name k =
             let x = getD s at 0 in
             let n = runLen wordByte (drop (at + 8) s) in
-            let g : n ≤ 8 = within k (decLe n 8) in
+            let g : n ≤ 8 = at-most k (decLe n 8) in
             let p : min 7 (7 + n) ≡ 7 = omega arith in
             let r : min 8 n ≡ n = omega arith in
             let q : at + 1 + (7 + n) ≡ e = omega arith in

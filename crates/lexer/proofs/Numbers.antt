@@ -15,7 +15,7 @@ use Rattle.tokens.specs.declared.Numeral.{Numeral}
 use Rattle.tokens.specs.Bytes.{between, wordByte, runLen, all, tokenLen, tokenOf, afterToken}
 use Rattle.tokens.specs.Numbers.{digitOf, isDigit, hexMark, zeroLed, someDigits, isNumber, valueOf, numeralOf, fitted, noNumeral, positional}
 use Rattle.tokens.specs.Cursors.{Rest, on, off, numberHere}
-use Rattle.lexer.specs.Runs.{baseOf, digitsLen, digitsAfter, wholeRun, runNumeral}
+use Rattle.lexer.specs.Runs.{baseOf, digitsLen, digitsAfter, wholeRun, runNumeral, numeralLen}
 use mathlib.Core.Bool.{and-false}
 use Rattle.laws.proofs.BoolLaws.{and-split}
 use Rattle.tokens.proofs.Runs.{run-stop, run-past, run-le}
@@ -261,6 +261,13 @@ module _ (s : List ℕ) (at : ℕ) (h : at < length s) where
   pub numeral-other-end : runNumeral 10 (drop at s) .ok ≡ true → digitsLen 10 (drop at s) ≡ tokenLen (drop at s)
   numeral-other-end = rw (drop-cons s at 0 h) (λ (k : runNumeral 10 (getD s at 0 ∷ drop (suc at) s) .ok ≡ true). sym (head-decimal-end (getD s at 0) (drop (suc at) s) k))
 
+  at-head : getD (drop at s) 0 0 ≡ getD s at 0
+  at-head = rw (getD-drop, add-zero)
+
+  pub numeral-other-len : (getD s at 0 ≡ 48 → ⊥) → digitsLen 10 (drop at s) ≡ numeralLen (drop at s)
+  unfolding numeralLen hexMark
+  numeral-other-len n = rw (at-head, ne-eqb (getD s at 0) 48 n)
+
   module _ (zero : getD s at 0 ≡ 48) where
     starts : drop at s ≡ 48 ∷ drop (at + 1) s
     starts = rw (drop-cons s at 0 h, zero, add-one at)
@@ -278,6 +285,14 @@ module _ (s : List ℕ) (at : ℕ) (h : at < length s) where
         → 2 + digitsLen 16 (drop (at + 2) s) ≡ tokenLen (drop at s)
     numeral-hex-end m k = rw (starts, ← third) (sym (head-hex-end (drop (at + 1) s) (rw second m) (rw third k)))
 
+    pub numeral-hex-len : (eqb (getD s (at + 1) 0) 120 || eqb (getD s (at + 1) 0) 88) ≡ true → 2 + digitsLen 16 (drop (at + 2) s) ≡ numeralLen (drop at s)
+    unfolding numeralLen hexMark
+    numeral-hex-len m = rw (at-head, zero, getD-drop at s 1 0, drop-drop 2 at s, m)
+
+    pub numeral-zero-len : (eqb (getD s (at + 1) 0) 120 || eqb (getD s (at + 1) 0) 88) ≡ false → 1 ≡ numeralLen (drop at s)
+    unfolding numeralLen hexMark
+    numeral-zero-len m = rw (at-head, zero, getD-drop at s 1 0, m)
+
     pub numeral-zero : (eqb (getD s (at + 1) 0) 120 || eqb (getD s (at + 1) 0) 88) ≡ false
         → record { ok = not (wordByte (getD s (at + 1) 0)); over = false; value = 0 } ≡ numeralOf (tokenOf (drop at s))
     numeral-zero m = rw (starts, ← second) (head-zero (drop (at + 1) s) (rw second m))
@@ -288,6 +303,10 @@ module _ (s : List ℕ) (at : ℕ) (h : at < length s) where
 pub numeral-past : (s : List ℕ) (at : ℕ) → length s ≤ at → noNumeral ≡ numeralOf (tokenOf (drop at s))
 unfolding tokenOf tokenLen numeralOf isNumber hexMark someDigits zeroLed
 numeral-past s at h = rw (drop-of-length-le s h)
+
+pub numeral-past-len : (s : List ℕ) (at : ℕ) → length s ≤ at → at ≡ at + numeralLen (drop at s)
+unfolding numeralLen hexMark
+numeral-past-len s at h = rw (drop-of-length-le s h) (sym (add-zero at))
 
 -- what a numeral tells of a value and a limit
 abbrev numeralBy : Bool → Bool → ℕ → Numeral

@@ -1,14 +1,15 @@
 -- Runs of digits and of word bytes at the head of a list of bytes. Assumes nothing.
-use Prim.Native.Nat.{ℕ, min}
+use Prim.Native.Nat.{ℕ, _+_, min}
 use mathlib.Core.List.{List}
 use mathlib.Core.Bool.{Bool, true, false, _&&_, not, cond}
 use lib.ListN.{getD, take, drop}
-use lib.Dec.{ltb}
+use lib.Dec.{ltb, eqb}
 use Rattle.tokens.specs.declared.Name.{Name}
 use Rattle.tokens.specs.declared.Numeral.{Numeral}
+use Rattle.tokens.specs.Text.{byte}
 use Rattle.tokens.specs.Bytes.{wordByte, runLen, tokenOf, afterToken}
 use Rattle.tokens.specs.Names.{isName, packed, noName}
-use Rattle.tokens.specs.Numbers.{isDigit, positional, fitted, noNumeral}
+use Rattle.tokens.specs.Numbers.{isDigit, hexMark, positional, fitted, noNumeral}
 use Rattle.lexer.specs.declared.number.Digits.{Digits}
 use Rattle.lexer.specs.declared.name.Taken.{Taken}
 
@@ -32,6 +33,10 @@ wholeRun base l = ltb 0 (digitsLen base l) && not (wordByte (getD l (digitsLen b
 
 unfoldable pub runNumeral : ℕ → List ℕ → Numeral
 runNumeral base l = cond (wholeRun base l) (fitted (digitsAfter base 0 l)) noNumeral
+
+-- how many bytes are read where a number should start, be it one or none: 0x and hexadecimal digits, one 0, or decimal digits
+unfoldable pub numeralLen : List ℕ → ℕ
+numeralLen l = cond (hexMark l) (2 + digitsLen 16 (drop 2 l)) (cond (eqb (getD l 0 0) (byte "0")) 1 (digitsLen 10 l))
 
 -- how many word bytes there are, but no more than there is room for
 abbrev pub wordsLen : ℕ → List ℕ → ℕ

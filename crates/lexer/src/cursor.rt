@@ -8,10 +8,12 @@ ghost use Prim.Native.Nat.{_-_};
 ghost use mathlib.Core.Bool.{true, cond};
 ghost use lib.ListN.{length, drop};
 ghost use Rattle.tokens.specs.Cursors.{seen, markC, endC, nameSeen, nameC, numberSeen, numberC};
+ghost use Rattle.lexer.specs.Places.{within};
 
 // Past the byte m, which blanks may precede.
 pub fn mark(s: &[u8], k: Cursor, m: u8) -> Cursor
-    ensures { λ r. ⌜ seen (now (s .entry)) r ≡ markC m (seen (now (s .entry)) k) ⌝ }
+    ensures rest { λ r. ⌜ seen (now (s .entry)) r ≡ markC m (seen (now (s .entry)) k) ⌝ }
+    ensures within { λ r. ⌜ (within (now (s .entry)) k → within (now (s .entry)) r) ⌝ }
 {
     if !k.ok {
         return k;
@@ -44,7 +46,8 @@ pub fn mark(s: &[u8], k: Cursor, m: u8) -> Cursor
 
 // Past the semicolon, and nothing after it.
 pub fn end(s: &[u8], k: Cursor) -> Cursor
-    ensures { λ r. ⌜ seen (now (s .entry)) r ≡ endC (seen (now (s .entry)) k) ⌝ }
+    ensures rest { λ r. ⌜ seen (now (s .entry)) r ≡ endC (seen (now (s .entry)) k) ⌝ }
+    ensures within { λ r. ⌜ (within (now (s .entry)) k → within (now (s .entry)) r) ⌝ }
 {
     let d = mark(s, k, b';');
     let at = d.at;
@@ -90,7 +93,8 @@ fn past(k: Cursor, i: usize, e: usize) -> Cursor
 
 // Past a name, which blanks may precede.
 pub fn name(s: &[u8], k: Cursor) -> NameRead
-    ensures { λ r. ⌜ nameSeen (now (s .entry)) r ≡ nameC (seen (now (s .entry)) k) ⌝ }
+    ensures rest { λ r. ⌜ nameSeen (now (s .entry)) r ≡ nameC (seen (now (s .entry)) k) ⌝ }
+    ensures within { λ r. ⌜ (within (now (s .entry)) k → within (now (s .entry)) (r .next)) ⌝ }
 {
     if !k.ok {
         return NameRead {
@@ -112,7 +116,8 @@ pub fn name(s: &[u8], k: Cursor) -> NameRead
 
 // Past a number, which blanks may precede; 0 stands for one over the limit.
 pub fn number(s: &[u8], k: Cursor, limit: u64) -> NumberRead
-    ensures { λ r. ⌜ numberSeen (now (s .entry)) r ≡ numberC limit (seen (now (s .entry)) k) ⌝ }
+    ensures rest { λ r. ⌜ numberSeen (now (s .entry)) r ≡ numberC limit (seen (now (s .entry)) k) ⌝ }
+    ensures within { λ r. ⌜ (within (now (s .entry)) k → within (now (s .entry)) (r .next)) ⌝ }
 {
     if !k.ok {
         return NumberRead { value: 0, next: k };

@@ -4,10 +4,10 @@ use crate::bytes::word_at;
 use tokens::Name;
 ghost use mathlib.Core.Path.{_≡_};
 ghost use Prim.Native.Nat.{_+_, _-_, _*_, _^_, _≤_, _<_, min};
-ghost use mathlib.Core.Bool.{true, false, _&&_, _||_};
+ghost use mathlib.Core.Bool.{true, false, _&&_, _||_, cond};
 ghost use lib.ListN.{length, drop, take};
 ghost use lib.Dec.{ltb, leb};
-ghost use Rattle.tokens.specs.Bytes.{letter};
+ghost use Rattle.tokens.specs.Bytes.{letter, tokenLen};
 ghost use Rattle.tokens.specs.Names.{sigil, byteDigits, noName};
 ghost use Rattle.lexer.specs.Runs.{wordsLen, nameIn, nameThere};
 
@@ -106,7 +106,8 @@ fn none(at: usize) -> Taken
 
 // The name that the token at a position is, if it is one.
 pub fn name_at(s: &[u8], at: usize) -> Taken
-    ensures { λ r. ⌜ nameIn (now (s .entry)) r ≡ nameThere (drop at (now (s .entry))) ⌝ }
+    ensures value { λ r. ⌜ nameIn (now (s .entry)) r ≡ nameThere (drop at (now (s .entry))) ⌝ }
+    ensures end { λ r. ⌜ r .end ≡ cond (r .ok) (at + tokenLen (drop at (now (s .entry)))) at ⌝ }
 {
     if s.len() <= at {
         return none(at);

@@ -8,7 +8,7 @@ ghost use lib.ListN.{getD, drop};
 ghost use lib.Dec.{ltb, eqb};
 ghost use Rattle.tokens.specs.Bytes.{runLen, tokenLen, tokenOf};
 ghost use Rattle.tokens.specs.Numbers.{isDigit, fitted, numeralOf};
-ghost use Rattle.lexer.specs.Runs.{baseOf, numeralIn, digitsLen, digitsAfter, runNumeral};
+ghost use Rattle.lexer.specs.Runs.{baseOf, numeralIn, digitsLen, digitsAfter, runNumeral, numeralLen};
 
 // What digits are as a number: none (not ok), one over 2^64-1, or a value; and where they end.
 pub struct Digits {
@@ -131,7 +131,8 @@ fn whole(s: &[u8], at: usize, hex: bool) -> Digits
 // The number that the token at a position is, if any.
 pub fn numeral(s: &[u8], at: usize) -> Digits
     ensures value { λ r. ⌜ numeralIn r ≡ numeralOf (tokenOf (drop at (now (s .entry)))) ⌝ }
-    ensures end { λ r. ⌜ (r .ok ≡ true → r .end ≡ at + tokenLen (drop at (now (s .entry)))) ⌝ }
+    ensures end { λ r. ⌜ r .end ≡ at + numeralLen (drop at (now (s .entry))) ⌝ }
+    ensures token { λ r. ⌜ (r .ok ≡ true → r .end ≡ at + tokenLen (drop at (now (s .entry)))) ⌝ }
 {
     if s.len() <= at {
         return Digits {

@@ -10,7 +10,9 @@ mark-requires c κs = search needs
 
 returns : tie.Need-returns
 unfolding endC
-returns c = rw (← c .before .mark .ensures, end-law (c .before .before .before .args .s .now) (c .before .mark .result .at))
+returns c =
+    let m = c .before .mark in
+    (rw (← m .ensures .0, end-law (c .before .before .before .args .s .now) (m .result .at)), m .ensures .1)
 
 pub end-spec : {M : Type 1} → statement M
 end-spec = tie.close (tie.spec mark-requires returns)

@@ -1,12 +1,12 @@
 -- `lexer::name::name_at` meets its contract: nothing is left, no name starts so, or the run of word bytes ends within the first word, within the second, or after it. Assumes nothing.
 use Prim.Native.Nat.{_+_}
-use mathlib.Core.Path.{sym, _∙_}
+use mathlib.Core.Path.{refl, sym, _∙_}
 use native.Mathlib.Omega.{arith}
 use lib.ListN.{length-drop, drop}
 use borrow.Author.Tests.{not-true, not-false}
 use Rattle.tokens.specs.Bytes.{wordByte}
 use Rattle.tokens.proofs.Runs.{run-le}
-use Rattle.lexer.proofs.Names.{name-past, name-not, short-none, short-name, long-none, long-name}
+use Rattle.lexer.proofs.Names.{name-past, name-not, short-none, short-end, short-name, long-none, long-end, long-name}
 use borrow.Author.Needs.{needs}
 use Rattle.lexer.proofs.name.name_at.Statement.{statement}
 use Rattle.lexer.proofs.name.name_at.Tie as tie
@@ -15,7 +15,7 @@ none-requires : tie.Need-none-requires
 none-requires c κs = search needs
 
 returns : tie.Need-returns
-returns c = rw (c .none .ensures) (name-past (c .before .before .before .args .s .now) (c .before .before .before .args .at) (c .before .if1 .taken))
+returns c = rw (c .none .ensures) (name-past (c .before .before .before .args .s .now) (c .before .before .before .args .at) (c .before .if1 .taken), refl)
 
 shared-slice-read-x : tie.Need-shared-slice-read-x
 shared-slice-read-x c = search needs
@@ -29,7 +29,7 @@ none-requires-2 c κs = search needs
 returns-2 : tie.Need-returns-2
 returns-2 c =
     let a = c .before .before .before .before .before .before .args in
-    rw (c .none2 .ensures) (name-not (a .s .now) (a .at) (c .before .before .before .before .if1 .left) (sym (c .before .before .starts .ensures) ∙ not-true _ (c .before .if2 .taken)))
+    rw (c .none2 .ensures) (name-not (a .s .now) (a .at) (c .before .before .before .before .if1 .left) (sym (c .before .before .starts .ensures) ∙ not-true _ (c .before .if2 .taken)), refl)
 
 add-pack : tie.Need-add-pack
 add-pack c = search needs
@@ -59,9 +59,12 @@ returns-3 : tie.Need-returns-3
 returns-3 c =
     let a = c .before .before .before .before .before .before .before .before .before .before .before .args in
     let h = c .before .before .before .before .pack in
-    rw (c .got .ensures, h .ensures .0, c .before .before .before .before .before .wide .ensures)
-    (short-name (a .s .now) (a .at) (c .before .before .before .before .before .before .before .before .before .if1 .left) (sym (c .before .before .before .before .before .before .before .starts .ensures) ∙ not-false _ (c .before .before .before .before .before .before .if2 .left)) (h .result .end) (h .ensures .1) (c .before .before .before .if3 .taken)
-    (sym (c .before .before .shaped .ensures) ∙ c .before .if4 .taken))
+    let p = c .before .before .before .before .before .before .before .before .before .if1 .left in
+    let q = sym (c .before .before .before .before .before .before .before .starts .ensures) ∙ not-false _ (c .before .before .before .before .before .before .if2 .left) in
+    rw (c .got .ensures, h .ensures .0, c .before .before .before .before .before .wide .ensures) (
+      short-name (a .s .now) (a .at) p q (h .result .end) (h .ensures .1) (c .before .before .before .if3 .taken) (sym (c .before .before .shaped .ensures) ∙ c .before .if4 .taken),
+      short-end (a .s .now) (a .at) p q (h .result .end) (h .ensures .1) (c .before .before .before .if3 .taken),
+    )
 
 none-requires-3 : tie.Need-none-requires-3
 none-requires-3 c κs = search needs
@@ -70,9 +73,10 @@ returns-4 : tie.Need-returns-4
 returns-4 c =
     let a = c .before .before .before .before .before .before .before .before .before .before .before .args in
     let h = c .before .before .before .before .pack in
-    rw (c .none3 .ensures)
-    (short-none (a .s .now) (a .at) (c .before .before .before .before .before .before .before .before .before .if1 .left) (sym (c .before .before .before .before .before .before .before .starts .ensures) ∙ not-false _ (c .before .before .before .before .before .before .if2 .left)) (h .result .end) (h .ensures .1) (c .before .before .before .if3 .taken)
-    (sym (c .before .before .shaped .ensures) ∙ c .before .if4 .left))
+    let p = c .before .before .before .before .before .before .before .before .before .if1 .left in
+    let q = sym (c .before .before .before .before .before .before .before .starts .ensures) ∙ not-false _ (c .before .before .before .before .before .before .if2 .left) in
+    let k = sym (c .before .before .shaped .ensures) ∙ c .before .if4 .left in
+    rw (c .none3 .ensures) (short-none (a .s .now) (a .at) p q (h .result .end) (h .ensures .1) (c .before .before .before .if3 .taken) k, refl)
 
 add-pack-2 : tie.Need-add-pack-2
 add-pack-2 c = search needs
@@ -96,9 +100,11 @@ returns-5 : tie.Need-returns-5
 returns-5 c =
     let a = c .before .before .before .before .before .before .before .before .before .before .before .before .args in
     let l = c .before .before .before .pack2 in
-    rw (c .none4 .ensures)
-    (long-none (a .s .now) (a .at) (c .before .before .before .before .before .before .before .before .before .before .if1 .left) (sym (c .before .before .before .before .before .before .before .before .starts .ensures) ∙ not-false _ (c .before .before .before .before .before .before .before .if2 .left)) (rw (c .before .before .before .before .before .pack .ensures .1) at (c .before .before .before .before .if3 .left)) (l .result .end) (l .ensures .1)
-    (rw (c .before .before .word-at .ensures) at (c .before .if5 .taken)))
+    let p = c .before .before .before .before .before .before .before .before .before .before .if1 .left in
+    let q = sym (c .before .before .before .before .before .before .before .before .starts .ensures) ∙ not-false _ (c .before .before .before .before .before .before .before .if2 .left) in
+    let g = rw (c .before .before .before .before .before .pack .ensures .1) at (c .before .before .before .before .if3 .left) in
+    let k = rw (c .before .before .word-at .ensures) at (c .before .if5 .taken) in
+    rw (c .none4 .ensures) (long-none (a .s .now) (a .at) p q g (l .result .end) (l .ensures .1) k, refl)
 
 got-requires-2 : tie.Need-got-requires-2
 got-requires-2 c κs = search needs
@@ -108,9 +114,14 @@ returns-6 c =
     let a = c .before .before .before .before .before .before .before .before .before .before .before .before .args in
     let h = c .before .before .before .before .before .pack in
     let l = c .before .before .before .pack2 in
-    rw (c .got2 .ensures, h .ensures .0, l .ensures .0, c .before .before .before .before .before .before .wide .ensures)
-    (long-name (a .s .now) (a .at) (c .before .before .before .before .before .before .before .before .before .before .if1 .left) (sym (c .before .before .before .before .before .before .before .before .starts .ensures) ∙ not-false _ (c .before .before .before .before .before .before .before .if2 .left)) (rw (h .ensures .1) at (c .before .before .before .before .if3 .left)) (l .result .end) (l .ensures .1)
-    (rw (c .before .before .word-at .ensures) at (c .before .if5 .left)))
+    let p = c .before .before .before .before .before .before .before .before .before .before .if1 .left in
+    let q = sym (c .before .before .before .before .before .before .before .before .starts .ensures) ∙ not-false _ (c .before .before .before .before .before .before .before .if2 .left) in
+    let g = rw (h .ensures .1) at (c .before .before .before .before .if3 .left) in
+    let k = rw (c .before .before .word-at .ensures) at (c .before .if5 .left) in
+    rw (c .got2 .ensures, h .ensures .0, l .ensures .0, c .before .before .before .before .before .before .wide .ensures) (
+      long-name (a .s .now) (a .at) p q g (l .result .end) (l .ensures .1) k,
+      long-end (a .s .now) (a .at) p q g (l .result .end) (l .ensures .1) k,
+    )
 
 pub name-at-spec : {M : Type 1} → statement M
 name-at-spec =

@@ -4,13 +4,15 @@ use mathlib.Core.Path.{_≡_, sym, ap, _∙_}
 use mathlib.Core.Bool.{true, true≢false}
 use native.Mathlib.Omega.{arith}
 use Rattle.tokens.specs.declared.Numeral.{Numeral}
-use Rattle.lexer.proofs.Numbers.{numeral-past, numeral-other, numeral-other-end, numeral-hex, numeral-hex-end, numeral-zero, numeral-zero-end}
+use Rattle.lexer.proofs.Numbers.{numeral-past, numeral-other, numeral-other-end, numeral-hex, numeral-hex-end, numeral-zero, numeral-zero-end, numeral-past-len, numeral-other-len, numeral-hex-len, numeral-zero-len}
 use borrow.Author.Needs.{needs}
 use Rattle.lexer.proofs.number.numeral.Statement.{statement}
 use Rattle.lexer.proofs.number.numeral.Tie as tie
 
 returns : tie.Need-returns
-returns c = (numeral-past (c .before .before .args .s .now) (c .before .before .args .at) (c .if1 .taken), λ k. absurd (true≢false (sym k)))
+returns c =
+    let a = c .before .before .args in
+    (numeral-past (a .s .now) (a .at) (c .if1 .taken), (numeral-past-len (a .s .now) (a .at) (c .if1 .taken), λ k. absurd (true≢false (sym k))))
 
 shared-slice-read-if2 : tie.Need-shared-slice-read-if2
 shared-slice-read-if2 c = search needs
@@ -24,7 +26,10 @@ returns-2 c =
     let h = c .before .before .before .if1 .left in
     let w = c .whole in (
       w .ensures .0 ∙ numeral-other (a .s .now) (a .at) h (c .before .if2 .taken),
-      λ k. w .ensures .1 ∙ ap (λ (z : ℕ). a .at + z) (numeral-other-end (a .s .now) (a .at) h (sym (ap (λ (n : Numeral). n .ok) (w .ensures .0)) ∙ k)),
+      (
+        w .ensures .1 ∙ ap (λ (z : ℕ). a .at + z) (numeral-other-len (a .s .now) (a .at) h (c .before .if2 .taken)),
+        λ k. w .ensures .1 ∙ ap (λ (z : ℕ). a .at + z) (numeral-other-end (a .s .now) (a .at) h (sym (ap (λ (n : Numeral). n .ok) (w .ensures .0)) ∙ k)),
+      ),
     )
 
 add-next : tie.Need-add-next
@@ -47,7 +52,10 @@ returns-3 c =
     let m = sym (c .before .before .x-at .ensures) ∙ c .before .if3 .taken in
     let w = c .whole2 in (
       w .ensures .0 ∙ numeral-hex (a .s .now) (a .at) h z m,
-      λ (k : w .result .ok ≡ true). omega (arith, w .ensures .1, numeral-hex-end (a .s .now) (a .at) h z m (sym (ap (λ (n : Numeral). n .ok) (w .ensures .0)) ∙ k)),
+      (
+        omega (arith, w .ensures .1, numeral-hex-len (a .s .now) (a .at) h z m),
+        λ (k : w .result .ok ≡ true). omega (arith, w .ensures .1, numeral-hex-end (a .s .now) (a .at) h z m (sym (ap (λ (n : Numeral). n .ok) (w .ensures .0)) ∙ k)),
+      ),
     )
 
 word-at-requires : tie.Need-word-at-requires
@@ -61,7 +69,10 @@ returns-4 c =
     let m = sym (c .before .before .x-at .ensures) ∙ c .before .if3 .left in
     rw (c .word-at .ensures) (
       numeral-zero (a .s .now) (a .at) h z m,
-      λ k. ap (λ (z : ℕ). a .at + z) (sym (numeral-zero-end (a .s .now) (a .at) h z k)),
+      (
+        ap (λ (z : ℕ). a .at + z) (numeral-zero-len (a .s .now) (a .at) h z m),
+        λ k. ap (λ (z : ℕ). a .at + z) (sym (numeral-zero-end (a .s .now) (a .at) h z k)),
+      ),
     )
 
 pub numeral-spec : {M : Type 1} → statement M

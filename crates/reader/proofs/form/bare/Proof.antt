@@ -10,7 +10,7 @@ answer-requires : tie.Need-answer-requires
 answer-requires c κs = search needs
 
 returns : tie.Need-returns
-returns c = rw (← c .before .end .ensures) (c .answer .ensures)
+returns c = rw (← c .before .end .ensures .0) (c .answer .ensures)
 
 pub bare-spec : {M : Type 1} → statement M
 bare-spec = tie.close (tie.spec end-requires answer-requires returns)

@@ -30,9 +30,9 @@ returns c =
     rw (
       ← ap (λ (t : Took ℕ). t .next) (names₁ .ensures),
       ← ap (λ (t : Took ℕ). t .value) (names₁ .ensures),
-      ← c .before .before .before .before .before .mark .ensures,
+      ← c .before .before .before .before .before .mark .ensures .0,
       ← c .before .before .before .before .address .ensures,
-      ← c .before .before .end .ensures,
+      ← c .before .before .end .ensures .0,
     ) (c .answer .ensures)
 
 pub load-spec : {M : Type 1} → statement M

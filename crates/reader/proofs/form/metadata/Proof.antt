@@ -12,7 +12,7 @@ address-requires c κs = search needs
 
 returns : tie.Need-returns
 unfolding metadataC
-returns c = rw (c .before .before .before .before .if1 .taken, ← c .before .before .before .mark .ensures, ← c .before .before .address .ensures)
+returns c = rw (c .before .before .before .before .if1 .taken, ← c .before .before .before .mark .ensures .0, ← c .before .before .address .ensures)
 
 returns-2 : tie.Need-returns-2
 unfolding metadataC

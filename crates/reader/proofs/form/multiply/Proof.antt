@@ -60,16 +60,16 @@ returns c =
     rw (
       mma-row (a .ws) (a .sp) (a .kind) (seen (a .s .now) (a .k)),
       ← c₁₁ .address .ensures,
-      ← c₁₀ .mark .ensures,
+      ← c₁₀ .mark .ensures .0,
       ← c₉ .operand .ensures,
-      ← c₈ .mark2 .ensures,
-      ← c₇ .name .ensures,
+      ← c₈ .mark2 .ensures .0,
+      ← c₇ .name .ensures .0,
       ← c₆ .metadata .ensures,
-      ← c₅ .mark3 .ensures,
-      ← c₄ .name2 .ensures,
-      ← c₃ .mark4 .ensures,
-      ← c₂ .name3 .ensures,
-      ← c₁ .end .ensures,
+      ← c₅ .mark3 .ensures .0,
+      ← c₄ .name2 .ensures .0,
+      ← c₃ .mark4 .ensures .0,
+      ← c₂ .name3 .ensures .0,
+      ← c₁ .end .ensures .0,
     ) (c .answer .ensures)
 
 pub multiply-spec : {M : Type 1} → statement M

@@ -25,8 +25,8 @@ returns c =
     let a = c .before .before .before .before .before .before .before .before .args in
     let v = c .before .before .before .number in
     let m = c .before .before .before .before .mark in (
-      pair-row (a .bracketed) (a .limit) (seen (a .s .now) (a .k)) (seen (a .s .now) (m .result)) _ _ _ (c .before .before .before .before .before .before .named .ensures) (m .ensures) (v .ensures) (c .before .end .ensures),
-      omega (arith, number-under (a .limit) (seen (a .s .now) (m .result)), ap (λ (t : Took ℕ). t .value) (v .ensures)),
+      pair-row (a .bracketed) (a .limit) (seen (a .s .now) (a .k)) (seen (a .s .now) (m .result)) _ _ _ (c .before .before .before .before .before .before .named .ensures) (m .ensures .0) (v .ensures .0) (c .before .end .ensures .0),
+      omega (arith, number-under (a .limit) (seen (a .s .now) (m .result)), ap (λ (t : Took ℕ). t .value) (v .ensures .0)),
     )
 
 pub name-number-spec : {M : Type 1} → statement M

@@ -29,10 +29,10 @@ returns c =
     let names₁ = c .before .before .before .before .names in
     rw (
       ← c .before .before .before .before .before .before .before .address .ensures,
-      ← c .before .before .before .before .before .mark .ensures,
+      ← c .before .before .before .before .before .mark .ensures .0,
       ← ap (λ (t : Took ℕ). t .next) (names₁ .ensures),
       ← ap (λ (t : Took ℕ). t .value) (names₁ .ensures),
-      ← c .before .before .end .ensures,
+      ← c .before .before .end .ensures .0,
     )
     (c .answer .ensures)
 

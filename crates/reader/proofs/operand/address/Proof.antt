@@ -12,7 +12,7 @@ inside-requires c κs = search needs
 
 returns : tie.Need-returns
 unfolding addressC
-returns c = rw (← c .before .mark .ensures, ← c .inside .ensures)
+returns c = rw (← c .before .mark .ensures .0, ← c .inside .ensures)
 
 pub address-spec : {M : Type 1} → statement M
 address-spec = tie.close (tie.spec mark-requires inside-requires returns)

@@ -50,8 +50,8 @@ returns c =
     let name₁ = c₂ .name in
     let loop₁ = c₁ .loop in
     let mark2 = c .before .before .mark2 in
-    rw (← c₃ .mark .ensures, ← name₁ .ensures) (stored-end (loop₁ .hi) (loop₁ .lo) (a .hi .now) (a .lo .now) (loop₁ .count) (name₁ .result .value)
-    (moreC 127 (seen (a .s .now) (name₁ .result .next)) .value) (rw (more-done (a .s .now) (loop₁ .at) (mark2 .result) _ (mark2 .ensures) (not-true _
+    rw (← c₃ .mark .ensures .0, ← name₁ .ensures .0) (stored-end (loop₁ .hi) (loop₁ .lo) (a .hi .now) (a .lo .now) (loop₁ .count) (name₁ .result .value)
+    (moreC 127 (seen (a .s .now) (name₁ .result .next)) .value) (rw (more-done (a .s .now) (loop₁ .at) (mark2 .result) _ (mark2 .ensures .0) (not-true _
     (c .if1 .taken))) at (loop₁ .inv .1)))
 
 name-requires-2 : tie.Need-name-requires-2 Inv-loop μ-loop
@@ -88,7 +88,7 @@ loop-again c =
       omega arith,
       stored-more (loop₁ .hi) (loop₁ .lo) (loop₁ .count) (name2 .result .value) (moreC (128 - (loop₁ .count + 1)) (seen (a .s .now)
           (name2 .result .next)) .value) ∙ (rw (more-took (a .s .now) (loop₁ .at) (mark2 .result) (name2 .result) (loop₁ .count) (c₂ .loop-test .taken)
-          (mark2 .ensures) (name2 .ensures) (not-false _ (c .before .before .before .if1 .left))) at (loop₁ .inv .1)),
+          (mark2 .ensures .0) (name2 .ensures .0) (not-false _ (c .before .before .before .if1 .left))) at (loop₁ .inv .1)),
     )
 
 returns-2 : tie.Need-returns-2 Inv-loop μ-loop
@@ -96,7 +96,7 @@ unfolding namesC
 returns-2 c =
     let a = c .before .before .before .before .before .before .before .args in
     let name₁ = c .before .before .before .before .name in
-    rw (← c .before .before .before .before .before .mark .ensures, ← name₁ .ensures) (stored-end (c .before .loop .hi) (c .before .loop .lo)
+    rw (← c .before .before .before .before .before .mark .ensures .0, ← name₁ .ensures .0) (stored-end (c .before .loop .hi) (c .before .loop .lo)
     (a .hi .now) (a .lo .now) (c .before .loop .count) (name₁ .result .value) (moreC 127 (seen (a .s .now) (name₁ .result .next)) .value) (rw
     (more-full (seen (a .s .now) (c .before .loop .at)) (c .before .loop .count) (c .loop-test .left)) at (c .before .loop .inv .1)))
 

@@ -13,7 +13,7 @@ fill-requires : tie.Need-fill-requires
 fill-requires c κs = search needs
 
 returns : tie.Need-returns
-returns c = rw (← c .before .before .before .before .before .address .ensures, ← c .before .before .before .mark .ensures) (c .fill .ensures)
+returns c = rw (← c .before .before .before .before .before .address .ensures, ← c .before .before .before .mark .ensures .0) (c .fill .ensures)
 
 pub fill-after-spec : {M : Type 1} → statement M
 fill-after-spec = tie.close (tie.spec address-requires mark-requires fill-requires returns)

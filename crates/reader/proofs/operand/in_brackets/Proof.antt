@@ -15,7 +15,7 @@ mark-requires-2 c κs = search needs
 
 returns : tie.Need-returns
 unfolding inBracketsC
-returns c = rw (← c .before .before .before .before .mark .ensures, ← c .before .before .before .name .ensures, ← c .mark2 .ensures)
+returns c = rw (← c .before .before .before .before .mark .ensures .0, ← c .before .before .before .name .ensures .0, ← c .mark2 .ensures .0)
 
 pub in-brackets-spec : {M : Type 1} → statement M
 in-brackets-spec = tie.close (tie.spec mark-requires name-requires mark-requires-2 returns)

@@ -15,7 +15,7 @@ mark-requires c κs = search needs
 
 returns : tie.Need-returns
 unfolding insideC
-returns c = rw (← c .before .before .before .before .before .name .ensures, ← c .before .before .before .offset .ensures, ← c .before .mark .ensures)
+returns c = rw (← c .before .before .before .before .before .name .ensures .0, ← c .before .before .before .offset .ensures, ← c .before .mark .ensures .0)
 
 pub inside-spec : {M : Type 1} → statement M
 inside-spec = tie.close (tie.spec name-requires offset-requires mark-requires returns)

@@ -13,7 +13,7 @@ name-requires : tie.Need-name-requires
 name-requires c κs = search needs
 
 returns-2 : tie.Need-returns-2
-returns-2 c = rw (c .before .if1 .left) (c .name .ensures)
+returns-2 c = rw (c .before .if1 .left) (c .name .ensures .0)
 
 pub named-spec : {M : Type 1} → statement M
 named-spec = tie.close (tie.spec in-brackets-requires returns name-requires returns-2)

@@ -43,8 +43,8 @@ returns c =
     let name₁ = c₂ .name in
     let loop₁ = c₁ .loop in
     let mark2 = c .before .before .before .mark2 in
-    rw (← c₃ .mark .ensures, ← name₁ .ensures, c .mark3 .ensures) (names-end (loop₁ .count) (markC 125 (seen (a .s .now) (loop₁ .at))) (moreC 127
-    (seen (a .s .now) (name₁ .result .next))) (name₁ .result .value) (rw (more-done (a .s .now) (loop₁ .at) (mark2 .result) _ (mark2 .ensures)
+    rw (← c₃ .mark .ensures .0, ← name₁ .ensures .0, c .mark3 .ensures .0) (names-end (loop₁ .count) (markC 125 (seen (a .s .now) (loop₁ .at))) (moreC 127
+    (seen (a .s .now) (name₁ .result .next))) (name₁ .result .value) (rw (more-done (a .s .now) (loop₁ .at) (mark2 .result) _ (mark2 .ensures .0)
     (not-true _ (c .before .if1 .taken))) at (loop₁ .inv .1)))
 
 name-requires-2 : tie.Need-name-requires-2 Inv-loop μ-loop
@@ -68,7 +68,7 @@ loop-again c =
       omega arith,
       after-more (loop₁ .count) (c .before .name2 .result .value) (moreC (128 - (loop₁ .count + 1)) (seen (a .s .now)
           (c .before .name2 .result .next))) ∙ (rw (more-took (a .s .now) (loop₁ .at) (mark2 .result) (c .before .name2 .result) (loop₁ .count)
-          (c₂ .loop-test .taken) (mark2 .ensures) (c .before .name2 .ensures) (not-false _ (c .before .before .if1 .left))) at (loop₁ .inv .1)),
+          (c₂ .loop-test .taken) (mark2 .ensures .0) (c .before .name2 .ensures .0) (not-false _ (c .before .before .if1 .left))) at (loop₁ .inv .1)),
     )
 
 mark-requires-4 : tie.Need-mark-requires-4 Inv-loop μ-loop
@@ -80,7 +80,7 @@ returns-2 c =
     let a = c .before .before .before .before .before .before .before .args in
     let name₁ = c .before .before .before .before .name in
     let loop₁ = c .before .before .loop in
-    rw (← c .before .before .before .before .before .mark .ensures, ← name₁ .ensures, c .mark4 .ensures) (names-end (loop₁ .count) (markC 125 (seen
+    rw (← c .before .before .before .before .before .mark .ensures .0, ← name₁ .ensures .0, c .mark4 .ensures .0) (names-end (loop₁ .count) (markC 125 (seen
     (a .s .now) (loop₁ .at))) (moreC 127 (seen (a .s .now) (name₁ .result .next))) (name₁ .result .value) (rw (more-full (seen (a .s .now)
     (loop₁ .at)) (loop₁ .count) (c .before .loop-test .left)) at (loop₁ .inv .1)))
 

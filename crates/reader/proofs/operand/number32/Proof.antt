@@ -15,7 +15,7 @@ number-requires c κs = search needs
 cast-t6 : tie.Need-cast-t6
 cast-t6 c =
     let a = c .before .before .before .args in
-    omega (arith, number-under max32 (seen (a .s .now) (a .k)), ap (λ (t : Took ℕ). t .value) (c .before .number .ensures))
+    omega (arith, number-under max32 (seen (a .s .now) (a .k)), ap (λ (t : Took ℕ). t .value) (c .before .number .ensures .0))
 
 returns : tie.Need-returns
 returns c = search needs

@@ -12,11 +12,11 @@ number32-requires c κs = search needs
 
 returns : tie.Need-returns
 unfolding offsetC
-returns c = rw (← c .before .before .mark .ensures, ← c .number32 .ensures, c .before .if1 .taken)
+returns c = rw (← c .before .before .mark .ensures .0, ← c .number32 .ensures, c .before .if1 .taken)
 
 returns-2 : tie.Need-returns-2
 unfolding offsetC
-returns-2 c = rw (← c .before .mark .ensures, c .if1 .left)
+returns-2 c = rw (← c .before .mark .ensures .0, c .if1 .left)
 
 pub offset-spec : {M : Type 1} → statement M
 offset-spec = tie.close (tie.spec mark-requires number32-requires returns returns-2)

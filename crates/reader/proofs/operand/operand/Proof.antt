@@ -12,14 +12,14 @@ inside-requires c κs = search needs
 
 returns : tie.Need-returns
 unfolding operandC
-returns c = rw (← c .before .before .before .before .mark .ensures, ← c .before .before .inside .ensures, c .before .before .before .if1 .taken)
+returns c = rw (← c .before .before .before .before .mark .ensures .0, ← c .before .before .inside .ensures, c .before .before .before .if1 .taken)
 
 name-requires : tie.Need-name-requires
 name-requires c κs = search needs
 
 returns-2 : tie.Need-returns-2
 unfolding operandC
-returns-2 c = rw (← c .before .before .before .before .mark .ensures, ← c .before .before .name .ensures, c .before .before .before .if1 .left)
+returns-2 c = rw (← c .before .before .before .before .mark .ensures .0, ← c .before .before .name .ensures .0, c .before .before .before .if1 .left)
 
 pub operand-spec : {M : Type 1} → statement M
 operand-spec = tie.close (tie.spec mark-requires inside-requires returns name-requires returns-2)
