@@ -137,13 +137,7 @@ fn suits_opcode(kind: Kind, ws: bool, sp: bool, d: &Instruction) -> bool {
     let saturate_only_i8 = d.saturate == 0 || kind == Kind::I8;
     let negate_not_i8 = (d.negate_a == 0 && d.negate_b == 0) || kind != Kind::I8;
     let shift_only_ws = d.max_shift == 0 || ws;
-    known_dtype
-        && known_types
-        && sparse_with_sp
-        && selector_only_sparse
-        && saturate_only_i8
-        && negate_not_i8
-        && shift_only_ws
+    known_dtype && known_types && sparse_with_sp && selector_only_sparse && saturate_only_i8 && negate_not_i8 && shift_only_ws
 }
 
 /// Takes a word apart. `Err(12)` when it has no reading under the opcode.
@@ -304,25 +298,11 @@ pub struct Shared {
 
 impl Shared {
     pub fn to_array(&self) -> [u64; 6] {
-        [
-            self.start,
-            self.leading,
-            self.stride,
-            self.base,
-            self.mode,
-            self.swizzle,
-        ]
+        [self.start, self.leading, self.stride, self.base, self.mode, self.swizzle]
     }
 
     pub fn from_array(a: [u64; 6]) -> Self {
-        Shared {
-            start: a[0],
-            leading: a[1],
-            stride: a[2],
-            base: a[3],
-            mode: a[4],
-            swizzle: a[5],
-        }
+        Shared { start: a[0], leading: a[1], stride: a[2], base: a[3], mode: a[4], swizzle: a[5] }
     }
 }
 
@@ -365,11 +345,7 @@ fn is_storable(bytes: u64) -> bool {
 
 /// Puts a word together. `Err(12)` for fields that decoding could not give.
 pub fn encode_shared(d: &Shared) -> Result<u64, u32> {
-    let in_range = is_storable(d.start)
-        && is_storable(d.leading)
-        && is_storable(d.stride)
-        && d.base <= 7
-        && d.mode <= 1;
+    let in_range = is_storable(d.start) && is_storable(d.leading) && is_storable(d.stride) && d.base <= 7 && d.mode <= 1;
     if !in_range || !suits_swizzle(d) {
         return Err(NO_READING);
     }

@@ -101,9 +101,7 @@ pub fn long(line: &str) -> String {
     if line.contains("@mma") {
         line.replace("@mma", "tcgen05.mma").replacen('(', ".cta_group::1.kind::", 1).replacen(')', "", 1)
     } else {
-        line.replace("@ld(", "tcgen05.ld.sync.aligned.")
-            .replace("@st(", "tcgen05.st.sync.aligned.")
-            .replacen(')', ".b32", 1)
+        line.replace("@ld(", "tcgen05.ld.sync.aligned.").replace("@st(", "tcgen05.st.sync.aligned.").replacen(')', ".b32", 1)
     }
 }
 
@@ -312,12 +310,9 @@ fn layout(e: &mut Entries) {
         e.passed(&format!("exit-by-warp-{name}"), &[&format!("{warp}|exit;")], 0, &[]);
     }
     // bytes behind the last LF
-    for (name, tail) in [
-        ("open-line-exit", &b"0\texit;"[..]),
-        ("open-line-one-byte", b"0"),
-        ("open-line-header", HEADER),
-        ("open-line-space", b" "),
-    ] {
+    for (name, tail) in
+        [("open-line-exit", &b"0\texit;"[..]), ("open-line-one-byte", b"0"), ("open-line-header", HEADER), ("open-line-space", b" ")]
+    {
         let mut after_exit = sheet(&["0|@alloc [t], 32;", "0|@dealloc t, 32;", "0|exit;"]);
         after_exit.extend_from_slice(tail);
         e.raw(&format!("{name}-after-exit"), after_exit, [2, 5, 0, 32], &[]);
@@ -527,7 +522,12 @@ fn warps(e: &mut Entries) {
     e.refused("dealloc-by-second-warp", &[a32, "1|@dealloc t, 32;"], [8, 3, 32, 32]);
     e.refused("relinquish-by-second-warp", &[a32, "3|@relinquish;"], [8, 3, 32, 32]);
     e.refused("warp-stays-fixed", &[a32, "0|@dealloc t, 32;", "1|@alloc [t], 32;"], [8, 4, 0, 32]);
-    e.passed("star-is-warp-0", &["*|@alloc [t], 32;", "0|@ld(32x32b.x1) {r}, [t];", "*|@ld(32x32b.x1) {r}, [t];", "0|@dealloc t, 32;", "*|exit;"], 32, &[0]);
+    e.passed(
+        "star-is-warp-0",
+        &["*|@alloc [t], 32;", "0|@ld(32x32b.x1) {r}, [t];", "*|@ld(32x32b.x1) {r}, [t];", "0|@dealloc t, 32;", "*|exit;"],
+        32,
+        &[0],
+    );
     e.refused("star-is-not-warp-1", &["1|@alloc [t], 32;", "*|@dealloc t, 32;"], [8, 3, 32, 32]);
     e.passed("warp-3-books", &["3|@alloc [t], 32;", "3|@relinquish;", "3|@dealloc t, 32;", "1|exit;"], 32, &[0]);
     e.refused("relinquish-fixes-the-warp", &["2|@relinquish;", "1|@alloc [t], 32;"], [8, 3, 0, 0]);
@@ -537,7 +537,12 @@ fn warps(e: &mut Entries) {
     e.passed("dealloc-after-relinquish", &[a32, "0|@relinquish;", "0|@dealloc t, 32;", "0|exit;"], 32, &[0]);
     e.refused("alloc-after-relinquish", &[a32, "0|@relinquish;", "0|@alloc [u], 32;"], [10, 4, 32, 32]);
     e.refused("refused-alloc-fixes-nothing", &["1|@alloc [t], 33;"], [9, 2, 0, 0]);
-    e.passed("others-by-any-warp", &[a32, "1|mov.b32 x, 1;", "2|@wait::ld;", "3|@fence::before_thread_sync;", "0|@dealloc t, 32;", "2|exit;"], 32, &[0]);
+    e.passed(
+        "others-by-any-warp",
+        &[a32, "1|mov.b32 x, 1;", "2|@wait::ld;", "3|@fence::before_thread_sync;", "0|@dealloc t, 32;", "2|exit;"],
+        32,
+        &[0],
+    );
 }
 
 fn requests(e: &mut Entries) {
@@ -583,7 +588,15 @@ fn placing(e: &mut Entries) {
     e.refused("two-256-and-a-32", &["0|@alloc [t], 256;", "0|@alloc [u], 256;", "0|@alloc [v], 32;"], [11, 4, 512, 512]);
     e.refused("no-run-past-the-end", &["0|@alloc [t], 32;", "0|@alloc [u], 512;"], [11, 3, 32, 32]);
     e.refused("gap-not-at-the-end", &["0|@alloc [t], 32;", "0|@alloc [u], 256;", "0|@alloc [v], 256;"], [11, 4, 288, 288]);
-    let growing = ["0|@alloc [t], 32;", "0|@alloc [u], 64;", "0|@alloc [v], 256;", "0|@dealloc v, 256;", "0|@dealloc u, 64;", "0|@dealloc t, 32;", "0|exit;"];
+    let growing = [
+        "0|@alloc [t], 32;",
+        "0|@alloc [u], 64;",
+        "0|@alloc [v], 256;",
+        "0|@dealloc v, 256;",
+        "0|@dealloc u, 64;",
+        "0|@dealloc t, 32;",
+        "0|exit;",
+    ];
     e.passed("requests-that-grow", &growing, 352, &[0, 32, 96]);
     let back_to_back = ["0|@alloc [t], 512;", "0|@dealloc t, 512;", "0|@alloc [u], 512;", "0|@dealloc u, 512;", "0|exit;"];
     e.passed("whole-memory-twice", &back_to_back, 512, &[0, 0]);

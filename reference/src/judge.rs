@@ -74,13 +74,7 @@ struct Judge {
 
 impl Judge {
     fn new() -> Self {
-        Judge {
-            ledger: Ledger::new(),
-            values: Values::new(),
-            peak: 0,
-            exited: false,
-            starts: Vec::new(),
-        }
+        Judge { ledger: Ledger::new(), values: Values::new(), peak: 0, exited: false, starts: Vec::new() }
     }
 
     /// A refused line changes nothing, so what is held now was held before it.
@@ -122,10 +116,7 @@ impl Judge {
                 self.mma(opcode, d, a, b, meta.as_ref(), idesc)
             }
             Statement::Exit => self.exit(),
-            Statement::WaitLd
-            | Statement::WaitSt
-            | Statement::FenceBefore
-            | Statement::FenceAfter => Ok(()),
+            Statement::WaitLd | Statement::WaitSt | Statement::FenceBefore | Statement::FenceAfter => Ok(()),
         }
     }
 
@@ -158,15 +149,7 @@ impl Judge {
         fits(column(address), columns(shape, num), length)
     }
 
-    fn mma(
-        &self,
-        opcode: Opcode,
-        d: &Address,
-        a: &Operand,
-        b: &Name,
-        meta: Option<&Address>,
-        idesc: &Name,
-    ) -> Result<(), u32> {
+    fn mma(&self, opcode: Opcode, d: &Address, a: &Operand, b: &Name, meta: Option<&Address>, idesc: &Name) -> Result<(), u32> {
         // every name comes first, then every descriptor, then the shape, then the cells
         let d_length = self.length(&d.name)?;
         let a = self.a_operand(a)?;

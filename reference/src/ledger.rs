@@ -49,14 +49,7 @@ pub struct Ledger {
 impl Ledger {
     pub fn new() -> Self {
         let none = Holding { name: Name::EMPTY, start: 0, columns: 0 };
-        Ledger {
-            holdings: [none; MOST_HOLDINGS],
-            live: 0,
-            taken: 0,
-            held: 0,
-            warp: None,
-            relinquished: false,
-        }
+        Ledger { holdings: [none; MOST_HOLDINGS], live: 0, taken: 0, held: 0, warp: None, relinquished: false }
     }
 
     pub fn held(&self) -> u32 {
@@ -119,9 +112,7 @@ impl Ledger {
 
     /// The lowest multiple of 32 from which so many columns are free.
     fn lowest_start(&self, columns: u32) -> Option<u32> {
-        (0..=COLUMNS - columns)
-            .step_by(UNIT as usize)
-            .find(|&start| self.taken & units(start, columns) == 0)
+        (0..=COLUMNS - columns).step_by(UNIT as usize).find(|&start| self.taken & units(start, columns) == 0)
     }
 }
 

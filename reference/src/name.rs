@@ -54,10 +54,6 @@ pub(crate) fn is_proper(text: &[u8]) -> bool {
     let Some((&first, others)) = text.split_first() else {
         return false;
     };
-    let good_start = if first.is_ascii_alphabetic() {
-        true
-    } else {
-        matches!(first, b'_' | b'$' | b'%') && !others.is_empty()
-    };
+    let good_start = if first.is_ascii_alphabetic() { true } else { matches!(first, b'_' | b'$' | b'%') && !others.is_empty() };
     good_start && text.len() <= LONGEST && others.iter().all(|&byte| is_name_byte(byte))
 }

@@ -15,10 +15,7 @@ pub fn read(text: &[u8]) -> Result<Statement, u32> {
     if text.len() > LONGEST_STATEMENT {
         return Err(NO_FORM);
     }
-    let end = text
-        .iter()
-        .position(|&byte| !is_opcode_byte(byte))
-        .unwrap_or(text.len());
+    let end = text.iter().position(|&byte| !is_opcode_byte(byte)).unwrap_or(text.len());
     let opcode = read_opcode(&text[..end]).ok_or(NO_FORM)?;
     let mut cursor = Cursor { text, at: end, too_large: false };
     let statement = read_operands(&mut cursor, opcode).ok_or(NO_FORM)?;

@@ -131,13 +131,7 @@ struct Machine<'a> {
 
 impl<'a> Machine<'a> {
     fn new(starts: &'a [u32]) -> Self {
-        Machine {
-            starts: starts.iter(),
-            live: Vec::new(),
-            numbers: Vec::new(),
-            asked: 0,
-            given_back: 0,
-        }
+        Machine { starts: starts.iter(), live: Vec::new(), numbers: Vec::new(), asked: 0, given_back: 0 }
     }
 
     /// Does one line and answers the cells it booked. `None`, and nothing changed
@@ -161,11 +155,7 @@ impl<'a> Machine<'a> {
                     return None;
                 }
             }
-            Statement::Relinquish
-            | Statement::WaitLd
-            | Statement::WaitSt
-            | Statement::FenceBefore
-            | Statement::FenceAfter => {}
+            Statement::Relinquish | Statement::WaitLd | Statement::WaitSt | Statement::FenceBefore | Statement::FenceAfter => {}
         }
         Some(Vec::new())
     }
@@ -198,13 +188,7 @@ impl<'a> Machine<'a> {
         self.access(address, lanes(shape), columns(shape, num))
     }
 
-    fn mma(
-        &self,
-        d: &Address,
-        a: &Operand,
-        meta: Option<&Address>,
-        idesc: &Name,
-    ) -> Option<Vec<Access>> {
+    fn mma(&self, d: &Address, a: &Operand, meta: Option<&Address>, idesc: &Name) -> Option<Vec<Access>> {
         let (_, number) = self.numbers.iter().find(|(name, _)| name == idesc)?;
         let n = ((number >> 17) & 63) as u32 * 8;
         let mut accesses = vec![self.access(d, LANES, n)?];

@@ -49,13 +49,33 @@ pub enum Operand {
 #[derive(Clone, PartialEq, Eq, Debug)]
 pub enum Statement {
     /// `wide` is the 64-bit move.
-    Mov { wide: bool, name: Name, value: u64 },
-    Alloc { name: Name, columns: u32 },
-    Dealloc { name: Name, columns: u32 },
+    Mov {
+        wide: bool,
+        name: Name,
+        value: u64,
+    },
+    Alloc {
+        name: Name,
+        columns: u32,
+    },
+    Dealloc {
+        name: Name,
+        columns: u32,
+    },
     Relinquish,
     /// `num` is the N of `.xN`: a power of two, 1 to 128.
-    Ld { shape: Shape, num: u32, address: Address, registers: Vec<Name> },
-    St { shape: Shape, num: u32, address: Address, registers: Vec<Name> },
+    Ld {
+        shape: Shape,
+        num: u32,
+        address: Address,
+        registers: Vec<Name>,
+    },
+    St {
+        shape: Shape,
+        num: u32,
+        address: Address,
+        registers: Vec<Name>,
+    },
     WaitLd,
     WaitSt,
     FenceBefore,

@@ -24,12 +24,9 @@ pub fn write(s: &Statement, room: &mut [u8]) -> Result<usize, u32> {
 /// Could reading give this statement?
 fn is_readable(s: &Statement) -> bool {
     match s {
-        Statement::Mov { wide, name, value } => {
-            name.is_proper() && (*wide || *value <= u64::from(u32::MAX))
-        }
+        Statement::Mov { wide, name, value } => name.is_proper() && (*wide || *value <= u64::from(u32::MAX)),
         Statement::Alloc { name, .. } | Statement::Dealloc { name, .. } => name.is_proper(),
-        Statement::Ld { num, address, registers, .. }
-        | Statement::St { num, address, registers, .. } => {
+        Statement::Ld { num, address, registers, .. } | Statement::St { num, address, registers, .. } => {
             matches!(num, 1 | 2 | 4 | 8 | 16 | 32 | 64 | 128)
                 && address.name.is_proper()
                 && (1..=LONGEST_LIST).contains(&registers.len())
@@ -44,12 +41,7 @@ fn is_readable(s: &Statement) -> bool {
                 Some(address) => *sp && address.name.is_proper(),
                 None => !*sp,
             };
-            d.name.is_proper()
-                && good_a
-                && b.is_proper()
-                && good_meta
-                && idesc.is_proper()
-                && predicate.is_proper()
+            d.name.is_proper() && good_a && b.is_proper() && good_meta && idesc.is_proper() && predicate.is_proper()
         }
         Statement::Relinquish
         | Statement::WaitLd

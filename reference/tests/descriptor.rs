@@ -349,10 +349,7 @@ fn shared_small_fields() {
         for mode in 0..4 {
             for swizzle in 0..10 {
                 let d = Shared { start: 16, leading: 32, stride: 48, base, mode, swizzle };
-                let good = base < 8
-                    && mode < 2
-                    && [0, 1, 2, 4, 6].contains(&swizzle)
-                    && (swizzle != 0 || base == 0);
+                let good = base < 8 && mode < 2 && [0, 1, 2, 4, 6].contains(&swizzle) && (swizzle != 0 || base == 0);
                 match encode_shared(&d) {
                     Ok(word) => {
                         assert!(good);

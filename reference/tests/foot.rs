@@ -7,11 +7,7 @@ use staplehorn_reference::entries::{all, sheet};
 
 /// What is printed for a sheet, and the exit status.
 fn foot(sheet: &[u8]) -> (String, Option<i32>) {
-    let mut child = Command::new(env!("CARGO_BIN_EXE_reference-foot"))
-        .stdin(Stdio::piped())
-        .stdout(Stdio::piped())
-        .spawn()
-        .unwrap();
+    let mut child = Command::new(env!("CARGO_BIN_EXE_reference-foot")).stdin(Stdio::piped()).stdout(Stdio::piped()).spawn().unwrap();
     child.stdin.take().unwrap().write_all(sheet).unwrap();
     let done = child.wait_with_output().unwrap();
     (String::from_utf8(done.stdout).unwrap(), done.status.code())

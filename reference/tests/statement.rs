@@ -152,11 +152,7 @@ impl Random {
                     sp,
                     kind: self.from(&Kind::ALL),
                     d: self.address(),
-                    a: if self.flag() {
-                        Operand::Descriptor(self.name())
-                    } else {
-                        Operand::Address(self.address())
-                    },
+                    a: if self.flag() { Operand::Descriptor(self.name()) } else { Operand::Address(self.address()) },
                     b: self.name(),
                     meta: if sp { Some(self.address()) } else { None },
                     idesc: self.name(),
@@ -170,9 +166,7 @@ impl Random {
 
 /// Splits a canonical text into its tokens.
 fn tokens(text: &str) -> Vec<String> {
-    let end = text
-        .find(|c: char| !(c.is_ascii_alphanumeric() || "_.:".contains(c)))
-        .unwrap();
+    let end = text.find(|c: char| !(c.is_ascii_alphanumeric() || "_.:".contains(c))).unwrap();
     let mut all = vec![text[..end].to_string()];
     let mut word = String::new();
     for c in text[end..].chars() {
@@ -207,12 +201,7 @@ fn forms() {
     reads("exit;", Statement::Exit);
     reads(
         "tcgen05.st.sync.aligned.16x128b.x2.b32 [t+16], {a, b, c, d};",
-        Statement::St {
-            shape: Shape::S16x128b,
-            num: 2,
-            address: address("t", 16),
-            registers: names(&["a", "b", "c", "d"]),
-        },
+        Statement::St { shape: Shape::S16x128b, num: 2, address: address("t", 16), registers: names(&["a", "b", "c", "d"]) },
     );
 }
 
@@ -222,10 +211,7 @@ fn forms_mma() {
     for (word, kind) in kinds {
         for (flags, ws, sp) in [("", false, false), (".ws", true, false), (".sp", false, true), (".ws.sp", true, true)] {
             let meta = if sp { "[m+2], " } else { "" };
-            for (a, operand) in [
-                ("da", Operand::Descriptor(name("da"))),
-                ("[t+8]", Operand::Address(address("t", 8))),
-            ] {
+            for (a, operand) in [("da", Operand::Descriptor(name("da"))), ("[t+8]", Operand::Address(address("t", 8)))] {
                 let text = format!("tcgen05.mma{flags}.cta_group::1.kind::{word} [d], {a}, db, {meta}i, p;");
                 let want = Statement::Mma {
                     ws,
@@ -259,12 +245,7 @@ fn forms_mma() {
 
 #[test]
 fn forms_access() {
-    let shapes = [
-        (".32x32b", Shape::S32x32b),
-        (".16x64b", Shape::S16x64b),
-        (".16x128b", Shape::S16x128b),
-        (".16x256b", Shape::S16x256b),
-    ];
+    let shapes = [(".32x32b", Shape::S32x32b), (".16x64b", Shape::S16x64b), (".16x128b", Shape::S16x128b), (".16x256b", Shape::S16x256b)];
     for (word, shape) in shapes {
         for num in 0..=300 {
             let good = [1, 2, 4, 8, 16, 32, 64, 128].contains(&num);
@@ -305,15 +286,7 @@ fn sheet_given_whole() {
         becomes(line, line);
         assert_eq!(registers_reason(&read(line.as_bytes()).unwrap()), 0);
     }
-    reads(
-        lines[4],
-        Statement::Ld {
-            shape: Shape::S32x32b,
-            num: 2,
-            address: address("t1", 2_097_152),
-            registers: names(&["r0", "r1"]),
-        },
-    );
+    reads(lines[4], Statement::Ld { shape: Shape::S32x32b, num: 2, address: address("t1", 2_097_152), registers: names(&["r0", "r1"]) });
 }
 
 // Tokens, where the rules could be taken in two ways or a slip is near.
@@ -434,8 +407,8 @@ fn numbers() {
         reads(&format!("mov.b32 x, {text};"), mov32("x", value));
     }
     for bad in [
-        "064", "00", "01", "0x", "0X", "64U", "0b1", "-1", "+1", "", "1_0", "0x_1", "0xg", "x1", "1.0", "1e3", "0 x1",
-        "$1", "%1", "0x1.0", "00x1", "'1'",
+        "064", "00", "01", "0x", "0X", "64U", "0b1", "-1", "+1", "", "1_0", "0x_1", "0xg", "x1", "1.0", "1e3", "0 x1", "$1", "%1", "0x1.0",
+        "00x1", "'1'",
     ] {
         refused(&format!("mov.b32 x, {bad};"), 3);
         refused(&format!("mov.b64 x, {bad};"), 3);
@@ -526,9 +499,26 @@ fn operand_of_alloc() {
 #[test]
 fn shape_and_num() {
     for access in [
-        ".32x32b.x3", ".32x32b.x256", ".32x32b.x01", ".16x32bx2.x1", ".16x32bx2", ".32x32b", ".x1", ".32x32b.x",
-        ".32x32b.1", ".32x32bx1", ".32X32b.x1", ".32x32b.X1", ".16x32b.x1", ".32x64b.x1", ".32x32b.x1.x1", ".32x32b.x0",
-        ".32x32b.x1.pack::16b", "..32x32b.x1", ".32x32b.x1.", ".x1.32x32b",
+        ".32x32b.x3",
+        ".32x32b.x256",
+        ".32x32b.x01",
+        ".16x32bx2.x1",
+        ".16x32bx2",
+        ".32x32b",
+        ".x1",
+        ".32x32b.x",
+        ".32x32b.1",
+        ".32x32bx1",
+        ".32X32b.x1",
+        ".32x32b.X1",
+        ".16x32b.x1",
+        ".32x64b.x1",
+        ".32x32b.x1.x1",
+        ".32x32b.x0",
+        ".32x32b.x1.pack::16b",
+        "..32x32b.x1",
+        ".32x32b.x1.",
+        ".x1.32x32b",
     ] {
         refused(&format!("tcgen05.ld.sync.aligned{access}.b32 {{r}}, [t];"), 3);
         refused(&format!("tcgen05.st.sync.aligned{access}.b32 [t], {{r}};"), 3);
@@ -749,12 +739,7 @@ fn room_lent() {
 #[test]
 fn longest_text() {
     let long = "r".repeat(16);
-    let s = Statement::Ld {
-        shape: Shape::S16x256b,
-        num: 128,
-        address: address(&long, u32::MAX),
-        registers: vec![name(&long); 128],
-    };
+    let s = Statement::Ld { shape: Shape::S16x256b, num: 128, address: address(&long, u32::MAX), registers: vec![name(&long); 128] };
     let text = written(&s);
     assert!(text.len() < 2400, "{}", text.len());
     assert_eq!(read(text.as_bytes()), Ok(s));
@@ -764,10 +749,7 @@ fn longest_text() {
 fn same_statements() {
     let same = |a: &str, b: &str| assert_eq!(read(a.as_bytes()).unwrap(), read(b.as_bytes()).unwrap());
     let other = |a: &str, b: &str| assert_ne!(read(a.as_bytes()).unwrap(), read(b.as_bytes()).unwrap());
-    same(
-        "tcgen05.alloc.cta_group::1.sync.aligned.shared::cta.b32 [t],32;",
-        "tcgen05.alloc.cta_group::1.sync.aligned.b32 [ t ] , 0x20 ;",
-    );
+    same("tcgen05.alloc.cta_group::1.sync.aligned.shared::cta.b32 [t],32;", "tcgen05.alloc.cta_group::1.sync.aligned.b32 [ t ] , 0x20 ;");
     same(&format!("{LD1} {{r}}, [t+0];"), &format!("{LD1} {{r}}, [t];"));
     same(&format!("{LD1} {{r}}, [t+0x0];"), &format!("{LD1} {{r}}, [t];"));
     other("mov.b32 x, 1;", "mov.b64 x, 1;");
