@@ -38,7 +38,7 @@ returns-2 c =
     let p = c .before .before .print in
     let i = c .before .before .before .before .before .before .input .given in
     subst (λ (x : Input). (p .result .length ≡ length (shownOf x (a .args .sheet .now))) × (take (p .result .length) (p .last .1 .0) ≡ shownOf x (a .args .sheet .now))) (sym (i .1))
-    (shown (take (i .0 .0) (a .args .sheet .now)) (a .args .room .now) (p .last .1 .0) (p .result) (a .pre .1) (p .ensures .0) (p .ensures .1 .0) (p .ensures .1 .1))
+    (shown (take (i .0 .0) (a .args .sheet .now)) (a .args .room .now) (p .last .1 .0) (p .result) (a .pre .1) (p .ensures .0) (p .ensures .1 .0) (p .ensures .1 .1 .0))
 
 returns-3 : tie.Need-returns-3
 returns-3 c = search needs
