@@ -35,7 +35,7 @@ fn count_block(s: &[u8], from: usize, to: usize) -> u8
     let mut n: u8 = 0;
     let mut i = from;
     while i < to {
-        n = one_if(n, s[i] == 10);
+        n = one_if(n, s[i] == b'\n');
         i += 1;
     }
     n
@@ -77,7 +77,7 @@ pub fn count_lines(s: &[u8]) -> usize
     if s.len() == 0 {
         return 0;
     }
-    if s[s.len() - 1] == 10 {
+    if s[s.len() - 1] == b'\n' {
         return n;
     }
     n + 1
@@ -118,14 +118,14 @@ pub fn is_headed(sheet: &[u8]) -> bool
 fn is_warp(b: u8) -> bool
     ensures { λ r. ⌜ r ≡ warpByte b ⌝ }
 {
-    ((48 <= b) & (b <= 51)) | (b == 42)
+    ((b'0' <= b) & (b <= b'3')) | (b == b'*')
 }
 
 fn warp_of(b: u8) -> u8
     requires { ⌜ warpByte b ≡ true ⌝ }
     ensures { λ r. ⌜ r ≡ warpOf b ⌝ }
 {
-    if b == 42 { 0 } else { b - 48 }
+    if b == b'*' { 0 } else { b - b'0' }
 }
 
 fn is_plain(b: u8) -> bool
@@ -189,7 +189,7 @@ fn laid_length(l: &[u8]) -> usize
     let first = byte_at(l, 0);
     let second = byte_at(l, 1);
     let last = byte_at(l, end);
-    if is_warp(first) & (second == 9) & (last == 10) & (end <= 2048) {
+    if is_warp(first) & (second == b'\t') & (last == b'\n') & (end <= 2048) {
         end
     } else {
         0

@@ -58,17 +58,17 @@ fn mov<'a>(
 {
     let taken = ledger::find_in(hi, lo, columns, name);
     if taken.columns != 0 {
-        return quiet(status, 6);
+        return quiet(status, reasons::NAME);
     }
     let at = bindings::entry(value_hi, value_lo, widths, name);
     if 128 <= at {
-        return quiet(status, 7);
+        return quiet(status, reasons::VALUES);
     }
     value_hi[at] = name.hi;
     value_lo[at] = name.lo;
     numbers[at] = number;
     widths[at] = width;
-    quiet(status, 0)
+    quiet(status, reasons::PASSED)
 }
 
 // The ledger of the arrays and the status.
@@ -118,7 +118,7 @@ fn book(
         exited: status.exited,
     };
     Step {
-        reason: 0,
+        reason: reasons::PASSED,
         start: booked.start,
         asked,
         returned,
@@ -144,7 +144,7 @@ fn alloc<'a>(
 {
     let bound = bindings::lookup_in(value_hi, value_lo, numbers, widths, name);
     if bound.width != 0 {
-        return quiet(status, 6);
+        return quiet(status, reasons::NAME);
     }
     let ledger = lent(hi, lo, columns, status);
     let booked = ledger.alloc(name, warp, requested);
@@ -188,7 +188,7 @@ fn leave(held: u32, status: Status) -> Step
     ensures { λ r. ⌜ r ≡ exitOf held status ⌝ }
 {
     if held != 0 {
-        return quiet(status, 15);
+        return quiet(status, reasons::EXIT);
     }
     let left = Status {
         fixed: status.fixed,
@@ -196,7 +196,7 @@ fn leave(held: u32, status: Status) -> Step
         relinquished: status.relinquished,
         exited: true,
     };
-    quiet(left, 0)
+    quiet(left, reasons::PASSED)
 }
 
 // One statement of a warp, judged and booked; `held` is what the lines before it asked for less what they gave back.
@@ -267,10 +267,10 @@ pub fn statement(
         Statement::Relinquish => relinquish(hi, lo, columns, status, warp),
         Statement::Load(a) => quiet(status, checks::access_reason(hi, lo, columns, warp, a)),
         Statement::Store(a) => quiet(status, checks::access_reason(hi, lo, columns, warp, a)),
-        Statement::WaitLoad => quiet(status, 0),
-        Statement::WaitStore => quiet(status, 0),
-        Statement::FenceBefore => quiet(status, 0),
-        Statement::FenceAfter => quiet(status, 0),
+        Statement::WaitLoad => quiet(status, reasons::PASSED),
+        Statement::WaitStore => quiet(status, reasons::PASSED),
+        Statement::FenceBefore => quiet(status, reasons::PASSED),
+        Statement::FenceAfter => quiet(status, reasons::PASSED),
         Statement::Multiply(m) => {
             quiet(
                 status,
