@@ -1,17 +1,21 @@
--- The report of document 01's sheet, worked out. Assumes nothing.
+-- Reports worked out (docs/FORMAT.md, 'A sheet and its report'). Assumes nothing.
 use mathlib.Core.Path.{_≡_, refl}
-use mathlib.Core.List.{[], _∷_}
+use mathlib.Core.List.{List, [], _∷_}
 use Rattle.tokens.specs.Names.{packed, lowBytes, strip, nameBytes}
 use Rattle.tokens.specs.Numbers.{lowDigits, trimmed, decimal}
-use Rattle.report.specs.Report.{numbersText, headText, rowText, rowsText, reportText}
+use Rattle.report.specs.Report.{Reported, numbersText, headText, rowText, rowsText, reportText}
+
+-- three rows: t0, t1 and t2
+abbrev rows : List Reported
+rows = record { name = packed (116 ∷ 48 ∷ []); start = 0; columns = 64 } ∷ record { name = packed (116 ∷ 49 ∷ []); start = 64; columns = 32 } ∷ record { name = packed (116 ∷ 50 ∷ []); start = 0; columns = 32 } ∷ []
 
 -- a pass, with its three rows
-pub passed : reportText 0 9 0 96 (record { name = packed (116 ∷ 48 ∷ []); start = 0; columns = 64 } ∷ record { name = packed (116 ∷ 49 ∷ []); start = 64; columns = 32 } ∷ record { name = packed (116 ∷ 50 ∷ []); start = 0; columns = 32 } ∷ []) ≡ (48 ∷ 9 ∷ 57 ∷ 9 ∷ 48 ∷ 9 ∷ 57 ∷ 54 ∷ 10 ∷ 116 ∷ 48 ∷ 9 ∷ 48 ∷ 9 ∷ 54 ∷ 52 ∷ 10 ∷ 116 ∷ 49 ∷ 9 ∷ 54 ∷ 52 ∷ 9 ∷ 51 ∷ 50 ∷ 10 ∷ 116 ∷ 50 ∷ 9 ∷ 48 ∷ 9 ∷ 51 ∷ 50 ∷ 10 ∷ [])
+pub passed : reportText 0 9 0 96 rows ≡ (48 ∷ 9 ∷ 57 ∷ 9 ∷ 48 ∷ 9 ∷ 57 ∷ 54 ∷ 10 ∷ 116 ∷ 48 ∷ 9 ∷ 48 ∷ 9 ∷ 54 ∷ 52 ∷ 10 ∷ 116 ∷ 49 ∷ 9 ∷ 54 ∷ 52 ∷ 9 ∷ 51 ∷ 50 ∷ 10 ∷ 116 ∷ 50 ∷ 9 ∷ 48 ∷ 9 ∷ 51 ∷ 50 ∷ 10 ∷ [])
 unfolding packed nameBytes lowBytes strip decimal trimmed lowDigits numbersText headText rowText rowsText reportText
 passed = refl
 
 -- a refusal has the first line alone
-pub refused : reportText 11 4096 512 512 (record { name = packed (116 ∷ 48 ∷ []); start = 0; columns = 64 } ∷ record { name = packed (116 ∷ 49 ∷ []); start = 64; columns = 32 } ∷ record { name = packed (116 ∷ 50 ∷ []); start = 0; columns = 32 } ∷ []) ≡ (49 ∷ 49 ∷ 9 ∷ 52 ∷ 48 ∷ 57 ∷ 54 ∷ 9 ∷ 53 ∷ 49 ∷ 50 ∷ 9 ∷ 53 ∷ 49 ∷ 50 ∷ 10 ∷ [])
+pub refused : reportText 11 4096 512 512 rows ≡ (49 ∷ 49 ∷ 9 ∷ 52 ∷ 48 ∷ 57 ∷ 54 ∷ 9 ∷ 53 ∷ 49 ∷ 50 ∷ 9 ∷ 53 ∷ 49 ∷ 50 ∷ 10 ∷ [])
 unfolding packed nameBytes lowBytes strip decimal trimmed lowDigits numbersText headText rowText rowsText reportText
 refused = refl
 

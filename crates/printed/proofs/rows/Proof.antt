@@ -1,10 +1,12 @@
 -- `printed::rows` meets its contract. After some lines their rows are put (Upto); each line is laid out, since the sheet passed, and an alloc's row
 -- has room, since all rows do. Assumes nothing.
 use Rattle.report.specs.Report.{rowsText}
-use Rattle.judge.specs.Judged.{linesOf}
+use Rattle.lines.specs.Sheet.{lineAt}
+use Rattle.judge.specs.Judged.{linesOf, judgedOf}
 use Rattle.printed.specs.Printed.{rowsUpTo}
-use Prim.Native.Nat.{suc, _-_}
-use mathlib.Core.Path.{ap}
+use Prim.Native.Nat.{ℕ, suc, _-_, _<_}
+use mathlib.Core.List.{List}
+use mathlib.Core.Path.{_≡_, refl, ap, _∙_}
 use native.Mathlib.Omega.{arith}
 use borrow.Author.Needs.{needs}
 use borrow.Author.Tests.{not-true, not-false}
@@ -24,98 +26,115 @@ Inv-loop sheet starts room₀ from at₀ next₀ k₀ room at next k = Upto shee
 abbrev μ-loop : tie.MeasureT-loop
 μ-loop sheet starts room₀ from at₀ next₀ k₀ room at next k = length sheet - at
 
--- src/lib.rt:98:5
-loop-holds : tie.Need-loop-holds Inv-loop μ-loop
-loop-holds c = let a = c .before .before .before .args in upto-first (a .sheet .now) (a .starts .now) (a .room .now) (a .from) (is-headed (a .sheet .now) 4096 (c .before .before .before .pre .0 .0))
+-- the rows so far are fewer than the places of the starts
+fewer : (s starts old room : List ℕ) (from at next k : ℕ) → Upto s starts old from at next k room → judgedOf s 4096 .reason ≡ 0 → at < length s → k < 4096
+fewer s starts old room from at next k u h m = omega (arith, rows-below s starts old room from at next k u (lineAt s at) refl m, lines-most s 4096 h)
 
--- src/lib.rt:99:13
+-- the room keeps its length
+kept : (s starts old room : List ℕ) (from at next k : ℕ) → Upto s starts old from at next k room → length room ≡ length old
+kept s starts old room from at next k u = ap length (u .holds) ∙ length-sets old from (rowsText (rowsUpTo (linesOf s) starts (u .lines)))
+
+loop-holds : tie.Need-loop-holds Inv-loop μ-loop
+loop-holds c =
+    let b = c .before .before .before in
+    let a = b .args in
+    upto-first (a .sheet .now) (a .starts .now) (a .room .now) (a .from) (is-headed (a .sheet .now) 4096 (b .pre .0 .0))
+
 line-at-requires : tie.Need-line-at-requires Inv-loop μ-loop
 line-at-requires c κs = search needs
 
--- src/lib.rt:101:13
 same-length : tie.Need-same-length Inv-loop μ-loop
-same-length c = let l = c .before .before .before .before .loop in omega (arith, ap length (l .inv .holds), length-sets (c .before .before .before .before .before .before .before .before .args .room .now) (c .before .before .before .before .before .before .before .before .args .from) (rowsText (rowsUpTo (linesOf (c .before .before .before .before .before .before .before .before .args .sheet .now)) (c .before .before .before .before .before .before .before .before .args .starts .now) (l .inv .lines))))
+same-length c =
+    let t = c .before .before in
+    omega (arith, kept _ _ _ _ _ _ _ _ (t .before .before .loop .inv))
 
--- src/lib.rt:101:13
 returns : tie.Need-returns Inv-loop μ-loop
 returns c =
-    let a = c .before .before .before .before .before .before .before .before .args in
-    let l = c .before .before .before .before .loop in
-    let s = a .sheet .now in
-    absurd (no-fault s 4096 (c .before .before .before .before .before .before .before .before .pre .0 .0) (l .inv .lines) (lines-below s (a .starts .now) (a .room .now) (l .room) (a .from) (l .at) (l .next) (l .k) (l .inv) _ (c .before .before .line-at .ensures) (c .before .before .before .loop-test .taken)) (step-fault s (suc (l .inv .lines)) (l .at) (l .inv .place) _ (c .before .before .line-at .ensures) (not-true _ (c .if1 .taken))))
+    let t = c .before .before in
+    let b = t .before .before .before .before .before .before in
+    let l = t .before .before .loop in
+    let e = t .line-at .ensures in
+    let s = b .args .sheet .now in
+    absurd
+    (no-fault s 4096 (b .pre .0 .0) (l .inv .lines) (lines-below _ _ _ _ _ _ _ _ (l .inv) _ e (t .before .loop-test .taken))
+    (step-fault s (suc (l .inv .lines)) (l .at) (l .inv .place) _ e (not-true _ (c .if1 .taken))))
 
--- src/lib.rt:105:26
 sub-alloc-in : tie.Need-sub-alloc-in Inv-loop μ-loop
-sub-alloc-in c = let l = c .before .before .before .before .loop in step-part (c .before .before .before .before .before .before .before .before .args .sheet .now) (suc (l .inv .lines)) (l .at) (l .inv .place) _ (c .before .before .line-at .ensures) (not-false _ (c .if1 .left)) .0
+sub-alloc-in c =
+    let t = c .before .before in
+    let l = t .before .before .loop in
+    step-part _ (suc (l .inv .lines)) (l .at) (l .inv .place) _ (t .line-at .ensures) (not-false _ (c .if1 .left)) .0
 
--- src/lib.rt:105:26
 part-alloc-in-start : tie.Need-part-alloc-in-start Inv-loop μ-loop
-part-alloc-in-start c = let l = c .before .before .before .before .loop in omega (arith, step-part (c .before .before .before .before .before .before .before .before .args .sheet .now) (suc (l .inv .lines)) (l .at) (l .inv .place) _ (c .before .before .line-at .ensures) (not-false _ (c .if1 .left)))
+part-alloc-in-start c =
+    let t = c .before .before in
+    let l = t .before .before .loop in
+    omega (arith, step-part _ (suc (l .inv .lines)) (l .at) (l .inv .place) _ (t .line-at .ensures) (not-false _ (c .if1 .left)))
 
--- src/lib.rt:105:26
 part-alloc-in-end : tie.Need-part-alloc-in-end Inv-loop μ-loop
-part-alloc-in-end c = let l = c .before .before .before .before .loop in omega (arith, step-part (c .before .before .before .before .before .before .before .before .args .sheet .now) (suc (l .inv .lines)) (l .at) (l .inv .place) _ (c .before .before .line-at .ensures) (not-false _ (c .if1 .left)))
+part-alloc-in-end c =
+    let t = c .before .before in
+    let l = t .before .before .loop in
+    omega (arith, step-part _ (suc (l .inv .lines)) (l .at) (l .inv .place) _ (t .line-at .ensures) (not-false _ (c .if1 .left)))
 
--- src/lib.rt:105:13
 alloc-in-requires : tie.Need-alloc-in-requires Inv-loop μ-loop
 alloc-in-requires c κs = search needs
 
--- src/lib.rt:107:63
 mul-wide : tie.Need-mul-wide Inv-loop μ-loop
-mul-wide c = omega (arith, rows-below (c .before .before .before .before .before .before .before .before .before .before .before .args .sheet .now) (c .before .before .before .before .before .before .before .before .before .before .before .args .starts .now) (c .before .before .before .before .before .before .before .before .before .before .before .args .room .now) (c .before .before .before .before .before .before .before .loop .room) (c .before .before .before .before .before .before .before .before .before .before .before .args .from) (c .before .before .before .before .before .before .before .loop .at) (c .before .before .before .before .before .before .before .loop .next) (c .before .before .before .before .before .before .before .loop .k) (c .before .before .before .before .before .before .before .loop .inv) _ (c .before .before .before .before .before .line-at .ensures) (c .before .before .before .before .before .before .loop-test .taken), lines-most (c .before .before .before .before .before .before .before .before .before .before .before .args .sheet .now) 4096 (c .before .before .before .before .before .before .before .before .before .before .before .pre .0 .0))
+mul-wide c =
+    let t = c .before .before .before .before .before in
+    omega (arith, fewer _ _ _ _ _ _ _ _ (t .before .before .loop .inv) (t .before .before .before .before .before .before .pre .0 .0) (t .before .loop-test .taken))
 
--- src/lib.rt:107:63
 shared-slice-read-wide : tie.Need-shared-slice-read-wide Inv-loop μ-loop
-shared-slice-read-wide c = omega (arith, rows-below (c .before .before .before .before .before .before .before .before .before .before .before .before .args .sheet .now) (c .before .before .before .before .before .before .before .before .before .before .before .before .args .starts .now) (c .before .before .before .before .before .before .before .before .before .before .before .before .args .room .now) (c .before .before .before .before .before .before .before .before .loop .room) (c .before .before .before .before .before .before .before .before .before .before .before .before .args .from) (c .before .before .before .before .before .before .before .before .loop .at) (c .before .before .before .before .before .before .before .before .loop .next) (c .before .before .before .before .before .before .before .before .loop .k) (c .before .before .before .before .before .before .before .before .loop .inv) _ (c .before .before .before .before .before .before .line-at .ensures) (c .before .before .before .before .before .before .before .loop-test .taken), lines-most (c .before .before .before .before .before .before .before .before .before .before .before .before .args .sheet .now) 4096 (c .before .before .before .before .before .before .before .before .before .before .before .before .pre .0 .0), c .before .before .before .before .before .before .before .before .before .before .before .before .pre .0 .1)
+shared-slice-read-wide c =
+    let t = c .before .before .before .before .before .before in
+    omega (arith, fewer _ _ _ _ _ _ _ _ (t .before .before .loop .inv) (t .before .before .before .before .before .before .pre .0 .0) (t .before .loop-test .taken), t .before .before .before .before .before .before .pre .0 .1)
 
--- src/lib.rt:107:58
 wide-requires : tie.Need-wide-requires Inv-loop μ-loop
 wide-requires c κs = search needs
 
--- src/lib.rt:107:75
 wider-requires : tie.Need-wider-requires Inv-loop μ-loop
 wider-requires c κs = search needs
 
--- src/lib.rt:107:13
 row-requires : tie.Need-row-requires Inv-loop μ-loop
 row-requires c κs = search needs
 
--- src/lib.rt:108:13
 add-k : tie.Need-add-k Inv-loop μ-loop
-add-k c = omega (arith, rows-below (c .before .before .before .before .before .before .before .before .before .before .before .before .before .before .before .before .before .before .args .sheet .now) (c .before .before .before .before .before .before .before .before .before .before .before .before .before .before .before .before .before .before .args .starts .now) (c .before .before .before .before .before .before .before .before .before .before .before .before .before .before .before .before .before .before .args .room .now) (c .before .before .before .before .before .before .before .before .before .before .before .before .before .before .loop .room) (c .before .before .before .before .before .before .before .before .before .before .before .before .before .before .before .before .before .before .args .from) (c .before .before .before .before .before .before .before .before .before .before .before .before .before .before .loop .at) (c .before .before .before .before .before .before .before .before .before .before .before .before .before .before .loop .next) (c .before .before .before .before .before .before .before .before .before .before .before .before .before .before .loop .k) (c .before .before .before .before .before .before .before .before .before .before .before .before .before .before .loop .inv) _ (c .before .before .before .before .before .before .before .before .before .before .before .before .line-at .ensures) (c .before .before .before .before .before .before .before .before .before .before .before .before .before .loop-test .taken), lines-most (c .before .before .before .before .before .before .before .before .before .before .before .before .before .before .before .before .before .before .args .sheet .now) 4096 (c .before .before .before .before .before .before .before .before .before .before .before .before .before .before .before .before .before .before .pre .0 .0))
+add-k c =
+    let t = c .before .before .before .before .before .before .before .before .before .before .before .before in
+    omega (arith, fewer _ _ _ _ _ _ _ _ (t .before .before .loop .inv) (t .before .before .before .before .before .before .pre .0 .0) (t .before .loop-test .taken))
 
--- src/lib.rt:98:5
 loop-less : tie.Need-loop-less Inv-loop μ-loop
-loop-less c = let l = c .before .before .before .before .before .before .before .before .before .before .before .before .before .before .loop in omega (arith, step-more (c .before .before .before .before .before .before .before .before .before .before .before .before .before .before .before .before .before .before .args .sheet .now) (suc (l .inv .lines)) (l .at) (l .inv .place) _ (c .before .before .before .before .before .before .before .before .before .before .before .before .line-at .ensures) (not-false _ (c .before .before .before .before .before .before .before .before .before .before .if1 .left)), c .before .before .before .before .before .before .before .before .before .before .before .before .before .loop-test .taken)
+loop-less c =
+    let t = c .before .before .before .before .before .before .before .before .before .before .before .before in
+    let l = t .before .before .loop in
+    omega (arith, step-more _ (suc (l .inv .lines)) (l .at) (l .inv .place) _ (t .line-at .ensures) (not-false _ (c .before .before .before .before .before .before .before .before .before .before .if1 .left)), t .before .loop-test .taken)
 
--- src/lib.rt:98:5
 loop-again : tie.Need-loop-again Inv-loop μ-loop
 loop-again c =
-    let a = c .before .before .before .before .before .before .before .before .before .before .before .before .before .before .before .before .before .before .args in
-    let l = c .before .before .before .before .before .before .before .before .before .before .before .before .before .before .loop in
-    upto-alloc (a .sheet .now) (a .starts .now) (a .room .now) (l .room) (a .from) (l .at) (l .next) (l .k) (l .inv) _ (c .before .before .before .before .before .before .before .before .before .before .before .before .line-at .ensures) (not-false _ (c .before .before .before .before .before .before .before .before .before .before .if1 .left)) _ (c .before .before .before .before .before .before .before .before .alloc-in .ensures) (c .before .before .before .before .before .before .before .if2 .taken) _ _ (c .before .before .before .before .before .wide .ensures) (c .before .before .before .before .wider .ensures) _ _ (c .before .before .row .ensures .0) (c .before .before .row .ensures .1) (c .before .before .before .before .before .before .before .before .before .before .before .before .before .loop-test .taken) (c .before .before .before .before .before .before .before .before .before .before .before .before .before .before .before .before .before .before .pre .1)
+    let w = c .before .before .before .before in
+    let x = w .before .before .before in
+    let t = x .before .before .before .before .before in
+    upto-alloc _ _ _ _ _ _ _ _ (t .before .before .loop .inv) _ (t .line-at .ensures) (not-false _ (x .before .before .before .if1 .left)) _ (x .before .alloc-in .ensures) (x .if2 .taken)
+    _ _ (w .before .wide .ensures) (w .wider .ensures) _ _ (c .before .before .row .ensures .0) (c .before .before .row .ensures .1)
+    (t .before .loop-test .taken) (t .before .before .before .before .before .before .pre .1)
 
--- src/lib.rt:98:5
 loop-less-2 : tie.Need-loop-less-2 Inv-loop μ-loop
-loop-less-2 c = let l = c .before .before .before .before .before .before .before .loop in omega (arith, step-more (c .before .before .before .before .before .before .before .before .before .before .before .args .sheet .now) (suc (l .inv .lines)) (l .at) (l .inv .place) _ (c .before .before .before .before .before .line-at .ensures) (not-false _ (c .before .before .before .if1 .left)), c .before .before .before .before .before .before .loop-test .taken)
+loop-less-2 c =
+    let t = c .before .before .before .before .before in
+    let l = t .before .before .loop in
+    omega (arith, step-more _ (suc (l .inv .lines)) (l .at) (l .inv .place) _ (t .line-at .ensures) (not-false _ (c .before .before .before .if1 .left)), t .before .loop-test .taken)
 
--- src/lib.rt:98:5
 loop-again-2 : tie.Need-loop-again-2 Inv-loop μ-loop
 loop-again-2 c =
-    let a = c .before .before .before .before .before .before .before .before .before .before .before .args in
-    let l = c .before .before .before .before .before .before .before .loop in
-    upto-other (a .sheet .now) (a .starts .now) (a .room .now) (l .room) (a .from) (l .at) (l .next) (l .k) (l .inv) _ (c .before .before .before .before .before .line-at .ensures) (not-false _ (c .before .before .before .if1 .left)) _ (c .before .alloc-in .ensures) (c .if2 .left)
+    let t = c .before .before .before .before .before in
+    upto-other _ _ _ _ _ _ _ _ (t .before .before .loop .inv) _ (t .line-at .ensures) (not-false _ (c .before .before .before .if1 .left)) _ (c .before .alloc-in .ensures) (c .if2 .left)
 
--- src/lib.rt:89:1
 same-length-2 : tie.Need-same-length-2 Inv-loop μ-loop
-same-length-2 c = let l = c .before .loop in omega (arith, ap length (l .inv .holds), length-sets (c .before .before .before .before .before .args .room .now) (c .before .before .before .before .before .args .from) (rowsText (rowsUpTo (linesOf (c .before .before .before .before .before .args .sheet .now)) (c .before .before .before .before .before .args .starts .now) (l .inv .lines))))
+same-length-2 c = omega (arith, kept _ _ _ _ _ _ _ _ (c .before .loop .inv))
 
--- src/lib.rt:89:1
 returns-2 : tie.Need-returns-2 Inv-loop μ-loop
-returns-2 c =
-    let a = c .before .before .before .before .before .args in
-    let l = c .before .loop in
-    upto-last (a .sheet .now) (a .starts .now) (a .room .now) (a .from) (l .at) (l .next) (l .k) (l .room) (l .inv) (c .loop-test .left)
+returns-2 c = upto-last _ _ _ _ _ _ _ _ (c .before .loop .inv) (c .loop-test .left)
 
 pub rows-spec : {M : Type 1} → statement M
 rows-spec =

@@ -38,7 +38,8 @@ same-length c = search needs
 returns : tie.Need-returns
 returns c =
     let a = c .before .before .before .before .before .before .before .before .before .before .before .before .before .before .args in
-    let e = head-put _ _ _ _ _ _ _ _ _ (a .reason) (a .line) (a .held) (a .peak) (c .before .before .before .before .before .before .before .before .before .before .before .field .ensures) (c .before .before .before .before .before .before .before .before .before .field2 .ensures) (c .before .before .before .before .before .before .before .field3 .ensures) (c .before .before .before .before .before .field4 .ensures) refl in
+    let f = c .before .before .before .before .before in
+    let e = head-put _ _ _ _ _ _ _ _ _ (a .reason) (a .line) (a .held) (a .peak) (f .before .before .before .before .before .before .field .ensures) (f .before .before .before .before .field2 .ensures) (f .before .before .field3 .ensures) (f .field4 .ensures) refl in
     rw (← e) (c .before .before .put .ensures)
 
 pub head-spec : {M : Type 1} → statement M
