@@ -35,7 +35,8 @@ use Rattle.opcode.specs.declared.Head.{Head}
 use Rattle.opcode.specs.Heads.{headSeen, headBy, headOf}
 use Rattle.statement.proofs.Opcode.{the-type}
 use Rattle.reader.specs.Lists.{listC}
-use Rattle.reader.specs.Rows.{namedC, pairC, metadataC, mmaC}
+use Rattle.reader.specs.declared.Paired.{Paired}
+use Rattle.reader.specs.Rows.{opcodeOf, bracketedOf, limitOf, madeOf, namedC, pairC, metadataC, mmaC}
 
 -- ---- numbers
 under-cond : (limit : ℕ) (b : Bool) (x y : Took ℕ) → (b ≡ true → x .value ≤ limit) → y .value ≤ limit → (cond b x y) .value ≤ limit
@@ -210,6 +211,15 @@ pub pair-row : (b : Bool) (limit : ℕ) (r m e : Rest) (n : Took Name) (v : Took
 unfolding rowC moreRowC
 pair-row true limit r m e n v p q t u = rw (u, t, q, p)
 pair-row false limit r m e n v p q t u = rw (u, t, q, p)
+
+-- the row of each form of a name and a number, and its statement
+pub pair-told : (t : Paired) (s : List ℕ) (r : Rest) (q : Took (Values (name ∷ number (limitOf t) ∷ []))) → q ≡ pairC (bracketedOf t) (limitOf t) r
+    → answerOf s (q .next) (madeOf t (q .value .0) (q .value .1 .0)) ≡ told s (operandsC (opcodeOf t) r)
+unfolding operandsC
+pair-told Paired.Mov32 s r q h = rw h
+pair-told Paired.Mov64 s r q h = rw h
+pair-told Paired.Alloc s r q h = rw h
+pair-told Paired.Dealloc s r q h = rw h
 
 -- the two rows of an mma are one
 pub mma-row : (ws sp : Bool) (kind : Kind) (r : Rest) → operandsC (Multiply ws sp kind) r ≡ mmaC ws sp kind r

@@ -2,17 +2,50 @@
 use Rattle.tokens.specs.Text.{byte}
 use Prim.Native.Nat.{ℕ}
 use mathlib.Core.List.{List, [], _∷_}
-use mathlib.Core.Bool.{Bool, cond}
+use mathlib.Core.Bool.{Bool, true, false, cond}
 use Rattle.instruction.specs.declared.Kind.{Kind}
 use Rattle.tokens.specs.declared.Name.{Name}
 use Rattle.tokens.specs.Cursors.{Rest, seen, Took, markC, endC, nameC}
 use Rattle.statement.specs.declared.Metadata.{Metadata}
 use Rattle.statement.specs.declared.Metadata.the-variants.{Dense, Sparse}
+use Rattle.statement.specs.declared.Statement.{Statement}
 use Rattle.statement.specs.declared.Statement.the-variants as s
-use Rattle.statement.specs.Forms.{name, number, inBrackets, Values, Whole, plain}
+use Rattle.statement.specs.declared.Opcode.{Opcode}
+use Rattle.statement.specs.declared.Opcode.the-variants as o
+use Rattle.statement.specs.Forms.{name, number, inBrackets, Values, max32, max64, Whole, plain}
 use Rattle.statement.specs.Reading.{inBracketsC, addressC, operandC, rowC}
 use Rattle.reader.specs.declared.Pair.{Pair}
+use Rattle.reader.specs.declared.Paired.{Paired}
+use Rattle.reader.specs.declared.Paired.the-variants as p
 use Rattle.reader.specs.declared.MetadataRead.{MetadataRead}
+
+-- the opcodes whose operands are a name and a number
+abbrev pub opcodeOf : Paired → Opcode
+opcodeOf p.Mov32 = o.Mov32
+opcodeOf p.Mov64 = o.Mov64
+opcodeOf p.Alloc = o.Alloc false
+opcodeOf p.Dealloc = o.Dealloc
+
+-- whether brackets stand around the name
+abbrev pub bracketedOf : Paired → Bool
+bracketedOf p.Mov32 = false
+bracketedOf p.Mov64 = false
+bracketedOf p.Alloc = true
+bracketedOf p.Dealloc = false
+
+-- the largest number
+abbrev pub limitOf : Paired → ℕ
+limitOf p.Mov32 = max32
+limitOf p.Mov64 = max64
+limitOf p.Alloc = max32
+limitOf p.Dealloc = max32
+
+-- the statement of a name and a number
+abbrev pub madeOf : Paired → Name → ℕ → Statement
+madeOf p.Mov32 n v = s.Mov32 n v
+madeOf p.Mov64 n v = s.Mov64 n v
+madeOf p.Alloc n v = s.Alloc n v
+madeOf p.Dealloc n v = s.Dealloc n v
 
 -- a name, in brackets or not
 abbrev pub namedC : Bool → Rest → Took Name

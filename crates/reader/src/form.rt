@@ -1,6 +1,7 @@
 // Forms: a straight line of operands, and one answer.
 use crate::MetadataRead;
 use crate::Pair;
+use crate::Paired;
 use instruction::Kind;
 use statement::Access;
 use statement::Metadata;
@@ -10,13 +11,13 @@ use statement::Reading;
 use statement::Shape;
 use statement::Statement;
 use tokens::Cursor;
+use tokens::Name;
 ghost use mathlib.Core.Path.{_≡_};
-ghost use mathlib.Core.Bool.{false};
 ghost use Prim.Native.Nat.{_≤_};
 ghost use Rattle.tokens.specs.Cursors.{seen, endC};
 ghost use Rattle.statement.specs.declared.Opcode.the-variants as opcode;
 ghost use Rattle.statement.specs.Reading.{answerOf, operandsC, told};
-ghost use Rattle.reader.specs.Rows.{pairC, pairSeen, metadataC, metadataSeen};
+ghost use Rattle.reader.specs.Rows.{opcodeOf, bracketedOf, limitOf, madeOf, pairC, pairSeen, metadataC, metadataSeen};
 
 // No form where reading stopped, too large where a number was, else the statement.
 pub fn answer(s: &[u8], k: Cursor, t: Statement) -> Reading
@@ -41,7 +42,7 @@ pub fn bare(s: &[u8], k: Cursor, t: Statement) -> Reading
 }
 
 // A name, in brackets or not, a number up to a limit, and the end.
-pub fn name_number(s: &[u8], k: Cursor, bracketed: bool, limit: u64) -> Pair
+fn name_number(s: &[u8], k: Cursor, bracketed: bool, limit: u64) -> Pair
     ensures read { λ r. ⌜ pairSeen (now (s .entry)) limit r ≡ pairC bracketed limit (seen (now (s .entry)) k) ⌝ }
     ensures under { λ r. ⌜ r .number ≤ limit ⌝ }
 {
@@ -59,44 +60,52 @@ pub fn name_number(s: &[u8], k: Cursor, bracketed: bool, limit: u64) -> Pair
     }
 }
 
-pub fn mov32(s: &[u8], k: Cursor) -> Reading
-    ensures { λ r. ⌜ r ≡ told (now (s .entry)) (operandsC opcode.Mov32 (seen (now (s .entry)) k)) ⌝ }
+// Whether brackets stand around the name.
+fn bracketed(t: Paired) -> bool
+    ensures { λ r. ⌜ r ≡ bracketedOf t ⌝ }
 {
-    let p = name_number(s, k, false, 0xffff_ffff);
-    let n = p.name;
-    let v = p.number;
-    let e = p.next;
-    answer(s, e, Statement::Mov32(n, v as u32))
+    match t {
+        Paired::Mov32 => false,
+        Paired::Mov64 => false,
+        Paired::Alloc => true,
+        Paired::Dealloc => false,
+    }
 }
 
-pub fn mov64(s: &[u8], k: Cursor) -> Reading
-    ensures { λ r. ⌜ r ≡ told (now (s .entry)) (operandsC opcode.Mov64 (seen (now (s .entry)) k)) ⌝ }
+// The largest number.
+fn limit(t: Paired) -> u64
+    ensures { λ r. ⌜ r ≡ limitOf t ⌝ }
 {
-    let p = name_number(s, k, false, 0xffff_ffff_ffff_ffff);
-    let n = p.name;
-    let v = p.number;
-    let e = p.next;
-    answer(s, e, Statement::Mov64(n, v))
+    match t {
+        Paired::Mov32 => 0xffff_ffff,
+        Paired::Mov64 => 0xffff_ffff_ffff_ffff,
+        Paired::Alloc => 0xffff_ffff,
+        Paired::Dealloc => 0xffff_ffff,
+    }
 }
 
-pub fn alloc(s: &[u8], k: Cursor) -> Reading
-    ensures { λ r. ⌜ r ≡ told (now (s .entry)) (operandsC (opcode.Alloc false) (seen (now (s .entry)) k)) ⌝ }
+// The statement of a name and a number.
+fn made(t: Paired, n: Name, v: u64) -> Statement
+    requires { ⌜ v ≤ limitOf t ⌝ }
+    ensures { λ r. ⌜ r ≡ madeOf t n v ⌝ }
 {
-    let p = name_number(s, k, true, 0xffff_ffff);
-    let n = p.name;
-    let v = p.number;
-    let e = p.next;
-    answer(s, e, Statement::Alloc(n, v as u32))
+    match t {
+        Paired::Mov32 => Statement::Mov32(n, v as u32),
+        Paired::Mov64 => Statement::Mov64(n, v),
+        Paired::Alloc => Statement::Alloc(n, v as u32),
+        Paired::Dealloc => Statement::Dealloc(n, v as u32),
+    }
 }
 
-pub fn dealloc(s: &[u8], k: Cursor) -> Reading
-    ensures { λ r. ⌜ r ≡ told (now (s .entry)) (operandsC opcode.Dealloc (seen (now (s .entry)) k)) ⌝ }
+// A form of a name and a number.
+pub fn pair(s: &[u8], k: Cursor, t: Paired) -> Reading
+    ensures { λ r. ⌜ r ≡ told (now (s .entry)) (operandsC (opcodeOf t) (seen (now (s .entry)) k)) ⌝ }
 {
-    let p = name_number(s, k, false, 0xffff_ffff);
+    let p = name_number(s, k, bracketed(t), limit(t));
     let n = p.name;
     let v = p.number;
     let e = p.next;
-    answer(s, e, Statement::Dealloc(n, v as u32))
+    answer(s, e, made(t, n, v))
 }
 
 pub fn load(s: &[u8], k: Cursor, shape: Shape, num: Num) -> Reading

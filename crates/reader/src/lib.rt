@@ -16,6 +16,14 @@ ghost use Rattle.tokens.specs.Cursors.{seen};
 ghost use Rattle.statement.specs.Reading.{readOf, reasonOf, registersOf, his, los, operandsC, told};
 ghost use Rattle.reader.specs.Lists.{listC};
 
+// The forms of a name and a number.
+pub enum Paired {
+    Mov32,
+    Mov64,
+    Alloc,
+    Dealloc,
+}
+
 // A name and a number, and what follows the form's end.
 pub struct Pair {
     pub name: Name,
@@ -33,21 +41,22 @@ pub struct MetadataRead {
 pub fn operands(s: &[u8], k: Cursor, o: Opcode) -> Reading
     ensures { λ r. ⌜ r ≡ told (now (s .entry)) (operandsC o (seen (now (s .entry)) k)) ⌝ }
 {
-    match o {
-        Opcode::Mov32 => form::mov32(s, k),
-        Opcode::Mov64 => form::mov64(s, k),
-        Opcode::Alloc { shared: _ } => form::alloc(s, k),
-        Opcode::Dealloc => form::dealloc(s, k),
-        Opcode::Relinquish => form::bare(s, k, Statement::Relinquish),
-        Opcode::Load { shape, num } => form::load(s, k, shape, num),
-        Opcode::Store { shape, num } => form::store(s, k, shape, num),
-        Opcode::WaitLoad => form::bare(s, k, Statement::WaitLoad),
-        Opcode::WaitStore => form::bare(s, k, Statement::WaitStore),
-        Opcode::FenceBefore => form::bare(s, k, Statement::FenceBefore),
-        Opcode::FenceAfter => form::bare(s, k, Statement::FenceAfter),
-        Opcode::Multiply { ws, sp, kind } => form::multiply(s, k, ws, sp, kind),
-        Opcode::Exit => form::bare(s, k, Statement::Exit),
-    }
+    let t = match o {
+        Opcode::Mov32 => Paired::Mov32,
+        Opcode::Mov64 => Paired::Mov64,
+        Opcode::Alloc { shared: _ } => Paired::Alloc,
+        Opcode::Dealloc => Paired::Dealloc,
+        Opcode::Relinquish => return form::bare(s, k, Statement::Relinquish),
+        Opcode::Load { shape, num } => return form::load(s, k, shape, num),
+        Opcode::Store { shape, num } => return form::store(s, k, shape, num),
+        Opcode::WaitLoad => return form::bare(s, k, Statement::WaitLoad),
+        Opcode::WaitStore => return form::bare(s, k, Statement::WaitStore),
+        Opcode::FenceBefore => return form::bare(s, k, Statement::FenceBefore),
+        Opcode::FenceAfter => return form::bare(s, k, Statement::FenceAfter),
+        Opcode::Multiply { ws, sp, kind } => return form::multiply(s, k, ws, sp, kind),
+        Opcode::Exit => return form::bare(s, k, Statement::Exit),
+    };
+    form::pair(s, k, t)
 }
 
 // A statement, or the position of the token that no form or no number of that size goes on at.
