@@ -81,7 +81,8 @@ unfolding readOf registersOf wholeC answerOf operandsC rowC moreRowC nameC numbe
 places-hold = (refl, (refl, (refl, (refl, (refl, (refl, (refl, (refl, (refl, (refl, (refl, (refl, (refl, tt)))))))))))))
 
 canonicals-hold : All canonicals
-unfolding readOf registersOf wholeC answerOf operandsC rowC moreRowC nameC numberC inBracketsC offsetC insideC addressC operandC moreC namesC endC markC recognise opcodes word opcodeByte wordByte letter afterBlanks blank tokenOf tokenLen afterToken isName sigil packed isNumber valueOf hexMark zeroLed someDigits isDigit digitOf lowBytes strip nameBytes lowDigits trimmed decimal addressText operandText moreNamesText namesText moreRowText rowText textOf
+unfolding readOf registersOf wholeC answerOf operandsC rowC moreRowC nameC numberC inBracketsC offsetC insideC addressC operandC moreC namesC endC markC recognise opcodes word opcodeByte wordByte letter afterBlanks blank tokenOf tokenLen afterToken isName sigil packed isNumber valueOf hexMark zeroLed someDigits isDigit digitOf
+    lowBytes strip nameBytes lowDigits trimmed decimal addressText operandText moreNamesText namesText moreRowText rowText textOf
 canonicals-hold = (refl, (refl, (refl, (refl, (refl, (refl, tt))))))
 
 pub examples : AllOf tables

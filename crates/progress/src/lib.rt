@@ -83,7 +83,8 @@ fn step(
     held: u32,
 ) -> Stepped
     requires { ⌜ Sized (arrays (now hi) (now lo) (now columns) (now «value_hi») (now «value_lo») (now numbers) (now widths)) ⌝ }
-    ensures done { λ r. ⌜ LineDone held (lineSeen (now (sheet .entry)) at) (arrays (now (hi .entry)) (now (lo .entry)) (now (columns .entry)) (now («value_hi» .entry)) (now («value_lo» .entry)) (now (numbers .entry)) (now (widths .entry))) status (r .step) (arrays (now (hi .exit)) (now (lo .exit)) (now (columns .exit)) (now («value_hi» .exit)) (now («value_lo» .exit)) (now (numbers .exit)) (now (widths .exit))) ⌝ }
+    ensures done { λ r. ⌜ LineDone held (lineSeen (now (sheet .entry)) at) (arrays (now (hi .entry)) (now (lo .entry)) (now (columns .entry)) (now («value_hi» .entry)) (now («value_lo» .entry)) (now (numbers .entry)) (now (widths .entry))) status (r .step)
+        (arrays (now (hi .exit)) (now (lo .exit)) (now (columns .exit)) (now («value_hi» .exit)) (now («value_lo» .exit)) (now (numbers .exit)) (now (widths .exit))) ⌝ }
     ensures next { λ r. ⌜ r .next ≡ lineAt (now (sheet .entry)) at .next ⌝ }
 {
     let line = lines::line_at(sheet, at);
@@ -196,7 +197,8 @@ pub fn advance(
     p: Progress,
 ) -> Advanced
     requires { ⌜ Ready (lineSeen (now sheet) at) (now given) (arrays (now hi) (now lo) (now columns) (now «value_hi») (now «value_lo») (now numbers) (now widths)) p ⌝ }
-    ensures went { λ r. ⌜ Went (lineSeen (now (sheet .entry)) at) (now (given .entry)) (arrays (now (hi .entry)) (now (lo .entry)) (now (columns .entry)) (now («value_hi» .entry)) (now («value_lo» .entry)) (now (numbers .entry)) (now (widths .entry))) p r (now (given .exit)) (arrays (now (hi .exit)) (now (lo .exit)) (now (columns .exit)) (now («value_hi» .exit)) (now («value_lo» .exit)) (now (numbers .exit)) (now (widths .exit))) ⌝ }
+    ensures went { λ r. ⌜ Went (lineSeen (now (sheet .entry)) at) (now (given .entry)) (arrays (now (hi .entry)) (now (lo .entry)) (now (columns .entry)) (now («value_hi» .entry)) (now («value_lo» .entry)) (now (numbers .entry)) (now (widths .entry))) p r (now (given .exit))
+        (arrays (now (hi .exit)) (now (lo .exit)) (now (columns .exit)) (now («value_hi» .exit)) (now («value_lo» .exit)) (now (numbers .exit)) (now (widths .exit))) ⌝ }
     ensures next { λ r. ⌜ r .next ≡ lineAt (now (sheet .entry)) at .next ⌝ }
 {
     let status = p.status;

@@ -140,7 +140,8 @@ fn alloc<'a>(
     name: Name,
     requested: u32,
 ) -> Step
-    ensures { λ r. ⌜ AllocDone warp name requested (arrays (now (hi .entry)) (now (lo .entry)) (now (columns .entry)) (now («value_hi» .entry)) (now («value_lo» .entry)) (now (numbers .entry)) (now (widths .entry))) status r (arrays (now (hi .exit)) (now (lo .exit)) (now (columns .exit)) (now («value_hi» .entry)) (now («value_lo» .entry)) (now (numbers .entry)) (now (widths .entry))) ⌝ }
+    ensures { λ r. ⌜ AllocDone warp name requested (arrays (now (hi .entry)) (now (lo .entry)) (now (columns .entry)) (now («value_hi» .entry)) (now («value_lo» .entry)) (now (numbers .entry)) (now (widths .entry))) status r
+        (arrays (now (hi .exit)) (now (lo .exit)) (now (columns .exit)) (now («value_hi» .entry)) (now («value_lo» .entry)) (now (numbers .entry)) (now (widths .entry))) ⌝ }
 {
     let bound = bindings::lookup_in(value_hi, value_lo, numbers, widths, name);
     if bound.width != 0 {

@@ -64,10 +64,14 @@ statement-requires c κs = c .before .before .before .before .before .before .be
 
 returns-3 : tie.Need-returns-3
 returns-3 c =
-    let a = c .before .before .before .before .before .before .before .before .before .before .before .before .before .before .before .before .before .args in
-    let l = c .before .before .before .before .before .before .before .before .before .before .before .before .before .before .before .line-at in
-    let x = c .before .before .before .before .before .before .before .before .before .before .before .read in
-    (was-read (a .sheet .now) (a .at) (a .held) (l .result) (l .ensures) (not-false (l .result .ok) (c .before .before .before .before .before .before .before .before .before .before .before .before .before .if1 .left)) (x .result) (x .ensures) _ (c .before .before .before .before .before .before .before .before .before .reading .given .1) _ _ _ _ (c .statement .ensures), next-is (a .sheet .now) (a .at) (a .held) (l .result) (l .ensures) _ refl)
+    let g = c .before .before .before .before .before .before .before .before .before in
+    let x = g .before .before .read in
+    let b = g .before .before .before .before in
+    let l = b .before .before .line-at in
+    let a = b .before .before .before .before .args in
+    let ok = not-false (l .result .ok) (b .if1 .left) in
+    let w = was-read (a .sheet .now) (a .at) (a .held) (l .result) (l .ensures) ok (x .result) (x .ensures) _ (g .reading .given .1) _ _ _ _ (c .statement .ensures) in
+    (w, next-is (a .sheet .now) (a .at) (a .held) (l .result) (l .ensures) _ refl)
 
 pub step-spec : {M : Type 1} → statement M
 step-spec =
