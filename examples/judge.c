@@ -15,16 +15,16 @@ int main(int argc, char **argv) {
         fprintf(stderr, "usage: judge [FILE]\n");
         return 2;
     }
-    size_t length = fread(sheet, 1, sizeof sheet, file), count;
+    size_t length = fread(sheet, 1, sizeof sheet, file);
     if (ferror(file)) {
         fprintf(stderr, "judge: the sheet could not be read\n");
         return 2;
     }
     uint32_t answer[STAPLEHORN_ANSWER_FIELDS];
-    uint32_t reason = staplehorn_judge_counted(sheet, length, starts, &count, answer);
+    uint32_t reason = staplehorn_judge(sheet, length, starts, STAPLEHORN_MOST_ALLOCS, answer);
     printf("reason %" PRIu32 ", line %" PRIu32 ", held %" PRIu32 ", peak %" PRIu32 "\n", answer[STAPLEHORN_REASON],
            answer[STAPLEHORN_LINE], answer[STAPLEHORN_HELD], answer[STAPLEHORN_PEAK]);
-    for (size_t i = 0; i < count; ++i) printf("start %" PRIu16 "\n", starts[i]);
+    for (uint32_t i = 0; i < answer[STAPLEHORN_STARTS]; ++i) printf("start %" PRIu16 "\n", starts[i]);
     if (reason != STAPLEHORN_REASON_PASSED) printf("%s\n", staplehorn_reason_text(reason));
     return reason != STAPLEHORN_REASON_PASSED;
 }

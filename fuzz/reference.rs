@@ -1,17 +1,24 @@
 //! The reference behind C signatures, so that the harness can compare both programs on the same bytes.
 
-use staplehorn_reference::{judge, report, statement};
+use staplehorn_reference::{judge, report, sheet, statement};
 use std::slice;
 
 /// # Safety
-/// Each pointer is valid for its length, and the answer for four numbers.
+/// Each pointer is valid for its length, and the answer for five numbers.
 #[no_mangle]
 pub unsafe extern "C" fn reference_judge(sheet: *const u8, length: usize, starts: *mut u16, places: usize, answer: *mut u32) -> u32 {
     let (sheet, starts) = unsafe { (slice::from_raw_parts(sheet, length), slice::from_raw_parts_mut(starts, places)) };
     let a = judge::judge(sheet, starts);
-    let answer = unsafe { slice::from_raw_parts_mut(answer, 4) };
-    answer.copy_from_slice(&[a.reason, a.line as u32, a.held, a.peak]);
+    let count = if a.reason == 0 { allocs(sheet) } else { 0 };
+    let answer = unsafe { slice::from_raw_parts_mut(answer, 5) };
+    answer.copy_from_slice(&[a.reason, a.line as u32, a.held, a.peak, count]);
     a.reason
+}
+
+/// How many allocs a passed sheet has: each has a start.
+fn allocs(sheet: &[u8]) -> u32 {
+    let steps = sheet::steps(sheet).expect("a passed sheet reads");
+    steps.iter().filter(|step| matches!(step.statement, statement::Statement::Alloc { .. })).count() as u32
 }
 
 /// The bytes of the report, as many of them as there is room for; returns how many there are.

@@ -93,30 +93,19 @@ enum staplehorn_answer_field {
     STAPLEHORN_LINE,   /* the line of the reason, from 1; the last line on a pass; 0 for reason 1 */
     STAPLEHORN_HELD,   /* columns held before that line (after it where exit is missing); 0 on a pass and 16 */
     STAPLEHORN_PEAK,   /* the most columns held after any accepted line */
+    STAPLEHORN_STARTS, /* how many starts there are: one for each alloc on a pass, else 0 */
     STAPLEHORN_ANSWER_FIELDS
 };
 
-/* Judges a sheet, and returns its reason. All four places of answer are always written. On a pass the first places of
-   starts are the first columns of the allocs, in their order (each a multiple of 32, at most 480), and the places past them
-   are left as they are. On every refusal, 16 included (fewer places than allocs), all places are left as they are. */
-uint32_t staplehorn_judge(const uint8_t *sheet, size_t sheet_length, uint16_t *starts, size_t starts_length,
-                          uint32_t answer[STAPLEHORN_ANSWER_FIELDS]);
-
-/* No sheet has more allocs. */
+/* No sheet has more allocs: a list of so many places has room for any sheet's starts. */
 enum { STAPLEHORN_MOST_ALLOCS = 4095 };
 
-/* The same with a list that has room for any sheet's starts, so never 16, and with their count: 0 on a refusal. The places past
-   them hold UINT16_MAX afterwards, which is no start. */
-static inline uint32_t staplehorn_judge_counted(const uint8_t *sheet, size_t sheet_length, uint16_t starts[STAPLEHORN_MOST_ALLOCS],
-                                                size_t *count, uint32_t answer[STAPLEHORN_ANSWER_FIELDS]) {
-    size_t i;
-    uint32_t reason;
-    for (i = 0; i < STAPLEHORN_MOST_ALLOCS; ++i) starts[i] = UINT16_MAX;
-    reason = staplehorn_judge(sheet, sheet_length, starts, STAPLEHORN_MOST_ALLOCS, answer);
-    for (*count = 0; *count < STAPLEHORN_MOST_ALLOCS && starts[*count] != UINT16_MAX; ++*count) {
-    }
-    return reason;
-}
+/* Judges a sheet, and returns its reason. All five places of answer are always written. On reason 0 the first
+   answer[STAPLEHORN_STARTS] places of starts are the starts: the first columns of the allocs, in their order (each a multiple
+   of 32, at most 480); the places past them are left as they are. On every refusal, 16 included (fewer places than allocs), all
+   places are left as they are. */
+uint32_t staplehorn_judge(const uint8_t *sheet, size_t sheet_length, uint16_t *starts, size_t starts_length,
+                          uint32_t answer[STAPLEHORN_ANSWER_FIELDS]);
 
 /* What the program foot prints for a sheet: its bytes go to the first places of room, their count to *length, and the
    places past them are left as they are. Returns the sheet's reason, never 16. Room for less than

@@ -17,6 +17,7 @@ SONAME = "libstaplehorn.so.0"
 REPORT_ROOM = 102391
 STATEMENT_ROOM = 2560
 MOST_ALLOCS = 4095
+ANSWER_FIELDS = 5
 
 
 class Reason(enum.IntEnum):
@@ -166,14 +167,12 @@ def _number(value, bits, name):
 
 def judge(sheet):
     """Judges a sheet: Passed, or raises Refused."""
-    mark = 0xFFFF  # larger than any start, so the starts end where it stands
-    starts = (ctypes.c_uint16 * MOST_ALLOCS)(*[mark] * MOST_ALLOCS)
-    answer = (ctypes.c_uint32 * 4)()
+    starts, answer = (ctypes.c_uint16 * MOST_ALLOCS)(), (ctypes.c_uint32 * ANSWER_FIELDS)()
     sheet = bytes(sheet)
     if _c.staplehorn_judge(sheet, len(sheet), starts, MOST_ALLOCS, answer):
-        raise Refused(*answer)
-    found = list(starts)
-    return Passed(answer[1], answer[3], found[: found.index(mark)] if mark in found else found)
+        raise Refused(*answer[:4])
+    _, line, _, peak, count = answer
+    return Passed(line, peak, starts[:count])
 
 
 def report(sheet):

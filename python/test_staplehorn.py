@@ -24,6 +24,7 @@ class Module(unittest.TestCase):
         given = contents("crates/foot/stdin")
         self.assertEqual(s.judge(given), s.Passed(9, 96, [0, 64, 0]))
         self.assertEqual(s.judge(bytearray(given)).starts, [0, 64, 0])
+        self.assertEqual(s.judge(b"sheet\t1\tsm_100a\n0\texit;\n").starts, [])
         self.assertEqual(s.report(given), contents("crates/foot/stdout"))
         leak = self.refused(s.Reason.EXIT, s.judge, contents("examples/leak.sheet"))
         self.assertEqual((leak.line, leak.held, leak.peak), (6, 32, 96))

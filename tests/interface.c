@@ -83,6 +83,7 @@ static void sheets(void) {
     is(answer[STAPLEHORN_LINE], 5, "line");
     is(answer[STAPLEHORN_HELD], 32, "held");
     is(answer[STAPLEHORN_PEAK], 96, "peak");
+    is(answer[STAPLEHORN_STARTS], 0, "count on a refusal");
     is(starts[0] + starts[1] + starts[2], 21, "starts on a refusal");
     is(staplehorn_report((const uint8_t *)sheet, strlen(sheet), room, sizeof room, &length), 15, "report");
     is(length, 11, "length of the report");
@@ -90,17 +91,21 @@ static void sheets(void) {
     is(staplehorn_report((const uint8_t *)sheet, strlen(sheet), room, sizeof room - 1, &length), 19, "short room");
 }
 
-static void counted(void) {
+static void passed(void) {
     const char *sheet = "sheet\t1\tsm_100a\n0\ttcgen05.alloc.cta_group::1.sync.aligned.b32 [t], 64;\n"
-                        "0\ttcgen05.dealloc.cta_group::1.sync.aligned.b32 t, 64;\n0\texit;\n";
+                        "0\ttcgen05.alloc.cta_group::1.sync.aligned.b32 [u], 32;\n"
+                        "0\ttcgen05.dealloc.cta_group::1.sync.aligned.b32 t, 64;\n"
+                        "0\ttcgen05.dealloc.cta_group::1.sync.aligned.b32 u, 32;\n0\texit;\n";
     static uint16_t starts[STAPLEHORN_MOST_ALLOCS];
     uint32_t answer[STAPLEHORN_ANSWER_FIELDS];
-    size_t count = 7;
-    is(staplehorn_judge_counted((const uint8_t *)sheet, strlen(sheet), starts, &count, answer), 0, "judge_counted");
-    is(count, 1, "count");
-    is(starts[0], 0, "start");
-    is(staplehorn_judge_counted((const uint8_t *)sheet, strlen(sheet) - 8, starts, &count, answer), 15, "judge_counted, refused");
-    is(count, 0, "count on a refusal");
+    starts[0] = starts[1] = starts[2] = 7;
+    is(staplehorn_judge((const uint8_t *)sheet, strlen(sheet), starts, STAPLEHORN_MOST_ALLOCS, answer), 0, "judge, passed");
+    is(answer[STAPLEHORN_STARTS], 2, "count");
+    is(starts[0], 0, "first start");
+    is(starts[1], 64, "second start");
+    is(starts[2], 7, "place past the starts");
+    is(staplehorn_judge((const uint8_t *)sheet, strlen(sheet), starts, 1, answer), 16, "judge, one place");
+    is(answer[STAPLEHORN_STARTS], 0, "count on 16");
 }
 
 /* Null is allowed where the length is 0. */
@@ -123,7 +128,7 @@ int main(void) {
     is(staplehorn_version(), STAPLEHORN_VERSION_NUMBER, "version");
     is((uint64_t)strcmp(staplehorn_reason_text(4), "a number is too large"), 0, "reason's text");
     nothing();
-    counted();
+    passed();
     words();
     shared();
     statements();

@@ -20,8 +20,9 @@ fn list_after(entry: &Entry) -> Vec<u16> {
 fn judged(counts: &mut Counts, what: &'static str, side: &impl Side, entry: &Entry) {
     let mut list = vec![BEFORE; entry.places];
     let (reason, answer) = side.judge(&entry.sheet, &mut list);
-    let wanted = (entry.answer[0], entry.answer, list_after(entry));
-    counts.compare(what, entry.answer[0], (reason, answer, list), wanted, || entry.name.clone());
+    let [wanted, line, held, peak] = entry.answer;
+    let all = (wanted, [wanted, line, held, peak, entry.starts.len() as u32], list_after(entry));
+    counts.compare(what, wanted, (reason, answer, list), all, || entry.name.clone());
 }
 
 fn reported(counts: &mut Counts, entry: &Entry) {

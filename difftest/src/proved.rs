@@ -85,9 +85,12 @@ pub fn statement_canonical(text: &[u8], room: &mut [u8]) -> (u32, usize) {
     (reason, length)
 }
 
-/// The reason, and the answer: reason, line, held, peak.
-pub fn judge(sheet: &[u8], starts: &mut [u16]) -> (u32, [u32; 4]) {
-    let mut answer = [UNTOUCHED; 4];
+/// Reason, line, held, peak, and how many starts there are.
+pub type Answer = [u32; c::ANSWER_FIELDS];
+
+/// The reason, and the answer.
+pub fn judge(sheet: &[u8], starts: &mut [u16]) -> (u32, Answer) {
+    let mut answer = [UNTOUCHED; c::ANSWER_FIELDS];
     // SAFETY: numbers, locals and slices alone; each array has the header's size.
     let reason = unsafe { c::staplehorn_judge(sheet.as_ptr(), sheet.len(), starts.as_mut_ptr(), starts.len(), &mut answer) };
     (reason, answer)

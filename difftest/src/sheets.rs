@@ -5,7 +5,7 @@
 use crate::faults::damage;
 use crate::maker::Maker;
 use staplehorn_difftest::counts::Counts;
-use staplehorn_difftest::proved;
+use staplehorn_difftest::proved::{self, Answer};
 use staplehorn_difftest::random::Random;
 use staplehorn_reference::judge::judge;
 use staplehorn_reference::report::report;
@@ -24,8 +24,8 @@ const ROOM: usize = 102_391;
 
 /// What is compared with the reference.
 pub trait Side {
-    /// The value returned, and the four numbers of the answer.
-    fn judge(&self, sheet: &[u8], starts: &mut [u16]) -> (u32, [u32; 4]);
+    /// The value returned, and the five numbers of the answer.
+    fn judge(&self, sheet: &[u8], starts: &mut [u16]) -> (u32, Answer);
     /// The value returned, and the length.
     fn report(&self, sheet: &[u8], room: &mut [u8]) -> (u32, usize);
 }
@@ -34,7 +34,7 @@ pub trait Side {
 pub struct Proved;
 
 impl Side for Proved {
-    fn judge(&self, sheet: &[u8], starts: &mut [u16]) -> (u32, [u32; 4]) {
+    fn judge(&self, sheet: &[u8], starts: &mut [u16]) -> (u32, Answer) {
         proved::judge(sheet, starts)
     }
 
@@ -47,9 +47,10 @@ impl Side for Proved {
 pub struct Reference;
 
 impl Side for Reference {
-    fn judge(&self, sheet: &[u8], starts: &mut [u16]) -> (u32, [u32; 4]) {
+    fn judge(&self, sheet: &[u8], starts: &mut [u16]) -> (u32, Answer) {
         let a = judge(sheet, starts);
-        (a.reason, [a.reason, a.line as u32, a.held, a.peak])
+        let count = if a.reason == 0 { count_allocs(&steps(sheet).expect("a passed sheet reads")) } else { 0 };
+        (a.reason, [a.reason, a.line as u32, a.held, a.peak, count as u32])
     }
 
     fn report(&self, sheet: &[u8], room: &mut [u8]) -> (u32, usize) {
@@ -112,7 +113,7 @@ impl<'a, S: Side> Comparison<'a, S> {
     }
 
     /// Asks both sides and answers what the reference says.
-    fn sheet(&mut self, sheet: &[u8], places: usize) -> [u32; 4] {
+    fn sheet(&mut self, sheet: &[u8], places: usize) -> Answer {
         let all = places + GUARD;
         self.ours[..all].fill(BEFORE);
         self.theirs[..all].fill(BEFORE);
@@ -136,18 +137,20 @@ impl<'a, S: Side> Comparison<'a, S> {
     }
 
     /// Several lists for one sheet.
-    fn lists(&mut self, sheet: &[u8], allocs: usize) -> [u32; 4] {
+    fn lists(&mut self, sheet: &[u8], allocs: usize) -> Answer {
         let lent = self.r.pick(&Lent::ALL);
         self.sheet(sheet, lent.places(allocs))
     }
 
-    /// A sheet that was made to get this answer.
+    /// A sheet that was made to get this reason, line, held and peak.
     fn made(&mut self, sheet: &[u8], allocs: usize, wanted: [u32; 4]) {
         let lent = self.r.pick(&Lent::ALL);
         let places = lent.places(allocs);
         let answer = self.sheet(sheet, places);
-        let wanted = if wanted[0] == 0 && places < allocs { [16, wanted[1], wanted[2], wanted[3]] } else { wanted };
-        self.counts.compare("as made", wanted[0], answer, wanted, || shown(sheet, places));
+        let [reason, line, held, peak] = wanted;
+        let reason = if reason == 0 && places < allocs { 16 } else { reason };
+        let count = if reason == 0 { allocs as u32 } else { 0 };
+        self.counts.compare("as made", reason, answer, [reason, line, held, peak, count], || shown(sheet, places));
     }
 
     fn report(&mut self, sheet: &[u8]) {
@@ -167,7 +170,7 @@ impl<'a, S: Side> Comparison<'a, S> {
     }
 
     /// What is claimed of a passed sheet: the run under its own starts, and under others.
-    fn runs(&mut self, sheet: &[u8], answer: [u32; 4], places: usize) {
+    fn runs(&mut self, sheet: &[u8], answer: Answer, places: usize) {
         if answer[0] != 0 {
             return;
         }
@@ -615,10 +618,10 @@ mod tests {
     const ROUNDS: u64 = 12;
 
     /// The reference with its answer or its list changed.
-    struct Faulty(fn(&[u8], &mut [u16], &mut [u32; 4]));
+    struct Faulty(fn(&[u8], &mut [u16], &mut Answer));
 
     impl Side for Faulty {
-        fn judge(&self, sheet: &[u8], starts: &mut [u16]) -> (u32, [u32; 4]) {
+        fn judge(&self, sheet: &[u8], starts: &mut [u16]) -> (u32, Answer) {
             let (_, mut answer) = Reference.judge(sheet, starts);
             self.0(sheet, starts, &mut answer);
             (answer[0], answer)
@@ -633,7 +636,7 @@ mod tests {
     struct FaultyReport(fn(&mut [u8], &mut (u32, usize)));
 
     impl Side for FaultyReport {
-        fn judge(&self, sheet: &[u8], starts: &mut [u16]) -> (u32, [u32; 4]) {
+        fn judge(&self, sheet: &[u8], starts: &mut [u16]) -> (u32, Answer) {
             Reference.judge(sheet, starts)
         }
 
@@ -648,7 +651,7 @@ mod tests {
     struct OtherReturn;
 
     impl Side for OtherReturn {
-        fn judge(&self, sheet: &[u8], starts: &mut [u16]) -> (u32, [u32; 4]) {
+        fn judge(&self, sheet: &[u8], starts: &mut [u16]) -> (u32, Answer) {
             (0, Reference.judge(sheet, starts).1)
         }
 
@@ -658,7 +661,7 @@ mod tests {
     }
 
     /// What a fault does to an answer and its list, and to a report.
-    type AnswerFault = fn(&[u8], &mut [u16], &mut [u32; 4]);
+    type AnswerFault = fn(&[u8], &mut [u16], &mut Answer);
     type ReportFault = fn(&mut [u8], &mut (u32, usize));
 
     fn is_found(side: &impl Side) -> bool {
@@ -672,7 +675,7 @@ mod tests {
 
     #[test]
     fn faults_in_answers_are_found() {
-        let faults: [(&str, AnswerFault); 9] = [
+        let faults: [(&str, AnswerFault); 11] = [
             ("13 for 12", |_, _, a| {
                 if a[0] == 12 {
                     a[0] = 13
@@ -680,7 +683,7 @@ mod tests {
             }),
             ("11 passed over", |_, _, a| {
                 if a[0] == 11 {
-                    *a = [0, a[1], 0, a[3]]
+                    *a = [0, a[1], 0, a[3], 0]
                 }
             }),
             ("held at exit", |_, _, a| {
@@ -700,22 +703,32 @@ mod tests {
             }),
             ("4,096 lines", |s, _, a| {
                 if count_lines(s) == 4_096 {
-                    *a = [1, 0, 0, 0]
+                    *a = [1, 0, 0, 0, 0]
                 }
             }),
             ("65,536 bytes", |s, _, a| {
                 if s.len() == 65_536 {
-                    *a = [1, 0, 0, 0]
+                    *a = [1, 0, 0, 0, 0]
                 }
             }),
             ("line of 2,048 bytes", |s, _, a| {
                 if Lines::new(s).any(|l| l.bytes.len() == 2_048) {
-                    *a = [2, 2, 0, 0]
+                    *a = [2, 2, 0, 0, 0]
                 }
             }),
             ("16 for a list that is long enough", |_, l, a| {
                 if a[0] == 0 && l.len() == 1 {
                     a[0] = 16
+                }
+            }),
+            ("count of places instead of starts", |_, l, a| {
+                if a[0] == 0 && l.len() == a[4] as usize + 1 {
+                    a[4] += 1
+                }
+            }),
+            ("count on a refusal", |_, _, a| {
+                if a[0] == 16 {
+                    a[4] = 1
                 }
             }),
         ];

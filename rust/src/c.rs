@@ -1,7 +1,7 @@
 //! The declarations of `include/staplehorn.h`, for those who call C themselves. `lib.rs` has a safe function for each.
 
 /// Numbers in the answer for a sheet.
-pub const ANSWER_FIELDS: usize = 4;
+pub const ANSWER_FIELDS: usize = 5;
 /// Fields of an instruction descriptor.
 pub const INSTRUCTION_FIELDS: usize = 13;
 /// Fields of a shared memory descriptor.

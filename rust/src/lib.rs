@@ -73,31 +73,32 @@ pub struct Answer {
     pub line: u32,
     pub held: u32,
     pub peak: u32,
+    /// How many starts there are: one for each alloc on a pass, else 0.
+    pub starts: usize,
 }
 
 /// Judges a sheet.
 pub fn judge(sheet: &[u8]) -> Result<Passed, Refused> {
-    // no start is as large as this mark, so the starts end where it stands
-    const MARK: u16 = u16::MAX;
-    let mut starts = vec![MARK; MOST_ALLOCS];
-    let Answer { reason, line, held, peak } = judge_into(sheet, &mut starts);
+    let mut starts = vec![0; MOST_ALLOCS];
+    let Answer { reason, line, held, peak, starts: count } = judge_into(sheet, &mut starts);
     match reason {
         None => {
-            starts.truncate(starts.iter().position(|&start| start == MARK).unwrap_or(MOST_ALLOCS));
+            starts.truncate(count);
             Ok(Passed { line, peak, starts })
         }
         Some(reason) => Err(Refused { reason, line, held, peak }),
     }
 }
 
-/// Judges a sheet without taking memory. On a pass the front of `starts` has the first column of each alloc, in order, and the
-/// places past them are left as they are; on any refusal, `Reason::Starts` (too few places) included, all places are.
+/// Judges a sheet without taking memory. On a pass the first places of `starts`, as many as the answer says, have the first column
+/// of each alloc, in order, and the places past them are left as they are; on any refusal, `Reason::Starts` (too few places)
+/// included, all places are.
 pub fn judge_into(sheet: &[u8], starts: &mut [u16]) -> Answer {
     let mut answer = [0; c::ANSWER_FIELDS];
     // SAFETY: each pointer is that of a slice or an array of the length given; the lent parts are exclusive.
     unsafe { c::staplehorn_judge(sheet.as_ptr(), sheet.len(), starts.as_mut_ptr(), starts.len(), &mut answer) };
-    let [reason, line, held, peak] = answer;
-    Answer { reason: Reason::from_number(reason), line, held, peak }
+    let [reason, line, held, peak, starts] = answer;
+    Answer { reason: Reason::from_number(reason), line, held, peak, starts: starts as usize }
 }
 
 /// A sheet's report: the bytes that `foot` prints, and the reason that they begin with.

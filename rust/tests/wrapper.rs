@@ -11,7 +11,7 @@ const LEAK: &[u8] = include_bytes!("../../examples/leak.sheet");
 fn a_pass_has_its_starts() {
     assert_eq!(judge(PASSED), Ok(Passed { line: 9, peak: 96, starts: vec![0, 64, 0] }));
     let mut starts = [7; 5];
-    assert_eq!(judge_into(PASSED, &mut starts), Answer { reason: None, line: 9, held: 0, peak: 96 });
+    assert_eq!(judge_into(PASSED, &mut starts), Answer { reason: None, line: 9, held: 0, peak: 96, starts: 3 });
     assert_eq!(starts, [0, 64, 0, 7, 7]);
 }
 
@@ -28,9 +28,9 @@ fn a_refusal_writes_nothing() {
     let leak = Refused { reason: Reason::Exit, line: 6, held: 32, peak: 96 };
     assert_eq!(judge(LEAK), Err(leak));
     assert_eq!(leak.to_string(), "line 6: exit while columns are held, a line after exit, or no exit");
-    assert_eq!(judge_into(LEAK, &mut starts), Answer { reason: Some(Reason::Exit), line: 6, held: 32, peak: 96 });
-    assert_eq!(judge_into(PASSED, &mut starts[..2]), Answer { reason: Some(Reason::Starts), line: 9, held: 0, peak: 96 });
-    assert_eq!(judge_into(b"", &mut []), Answer { reason: Some(Reason::Layout), line: 1, held: 0, peak: 0 });
+    assert_eq!(judge_into(LEAK, &mut starts), Answer { reason: Some(Reason::Exit), line: 6, held: 32, peak: 96, starts: 0 });
+    assert_eq!(judge_into(PASSED, &mut starts[..2]), Answer { reason: Some(Reason::Starts), line: 9, held: 0, peak: 96, starts: 0 });
+    assert_eq!(judge_into(b"", &mut []), Answer { reason: Some(Reason::Layout), line: 1, held: 0, peak: 0, starts: 0 });
     assert_eq!(judge(&[b'x'; 65_537]).unwrap_err().to_string(), "the sheet has over 65,536 bytes or 4,096 lines");
     assert_eq!(starts, [7; MOST_ALLOCS]);
 }

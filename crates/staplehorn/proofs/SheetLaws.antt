@@ -1,18 +1,18 @@
--- The line of an answer is a small number: a sheet that is not too large has at most 4,096 lines. Assumes nothing.
+-- The line of an answer and its count of starts are small numbers: a sheet that is not too large has at most 4,096 lines. Assumes nothing.
 use Prim.Native.Nat.{ℕ, _+_, _-_, _≤_, _<_, _^_}
 use native.Mathlib.Omega.{arith}
-use mathlib.Core.Path.{_≡_, refl, sym}
-use mathlib.Core.Bool.{Bool, true, false, _||_, cond}
+use mathlib.Core.Path.{_≡_, refl}
+use mathlib.Core.Bool.{Bool, true, false, cond}
 use mathlib.Core.List.{List}
-use lib.Dec.{ltb}
+use lib.Dec.{ltb, eqb}
 use lib.ListN.{length}
-use borrow.Author.Tests.{ltb-false}
-use Rattle.laws.proofs.TestLaws.{never}
 use Rattle.lines.specs.Sheet.{lineCount, oversize, headed}
 use Rattle.rules.specs.declared.Answer.{Answer}
-use Rattle.rules.specs.Sheet.{answer, closing, answerAt, answerBy, answerOf, ours, reasonBy, stateBy, startsBy, heldAfter, peakUpTo, stopBy}
+use Rattle.rules.specs.Sheet.{answer, closing, answerAt, answerBy, answerOf, startsOf, ours, reasonBy, stateBy, startsBy, heldAfter, peakUpTo, stopBy}
 use Rattle.rules.proofs.RulesProved.{stop-le}
-use Rattle.judge.specs.Judged.{linesOf, sheetOf, judgedOf}
+use Rattle.progress.proofs.LineLaws.{starts-few}
+use Rattle.judge.specs.Judged.{linesOf, sheetOf, judgedOf, startCount}
+use Rattle.judge.proofs.Whole.{few-lines}
 
 either : (b : Bool) (x y : Answer) (n : ℕ) → x .line ≤ n → y .line ≤ n → cond b x y .line ≤ n
 either true x y n p q = p
@@ -43,15 +43,23 @@ rules-line s room h =
     (at-line s room (lineCount s - 1) stop 4098 (omega (arith, h, stop-le ours (linesOf s) (lineCount s - 1))) (omega (arith, h)))
     (omega arith)
 
-not-second : (a b : Bool) → a || b ≡ false → b ≡ false
-not-second true b h = never (sym h)
-not-second false b h = h
-
 line-by : (large : Bool) (s : List ℕ) (room : ℕ) → oversize s ≡ large → cond large (answer 1 0 0 0) (answerOf (sheetOf s) room) .line ≤ 4098
-unfolding oversize
 line-by true s room h = omega arith
-line-by false s room h = rules-line s room (ltb-false 4096 (lineCount s) (not-second (ltb 65536 (length s)) (ltb 4096 (lineCount s)) h))
+line-by false s room h = rules-line s room (few-lines s h)
 
 pub line-most : (s : List ℕ) (room : ℕ) → judgedOf s room .line ≤ 4098
 unfolding judgedOf
 line-most s room = line-by (oversize s) s room refl
+
+counted : (passed : Bool) (s : List ℕ) → lineCount s ≤ 4096 → cond passed (length (startsOf (sheetOf s))) 0 ≤ 4096
+counted true s h = omega (arith, h, starts-few (linesOf s) (lineCount s - 1))
+counted false s h = omega arith
+
+count-by : (large : Bool) (s : List ℕ) (room : ℕ) → oversize s ≡ large
+    → cond (eqb (cond large (answer 1 0 0 0) (answerOf (sheetOf s) room) .reason) 0) (length (startsOf (sheetOf s))) 0 ≤ 4096
+count-by true s room h = omega arith
+count-by false s room h = counted (eqb (answerOf (sheetOf s) room .reason) 0) s (few-lines s h)
+
+pub count-most : (s : List ℕ) (room : ℕ) → startCount s room ≤ 4096
+unfolding startCount judgedOf
+count-most s room = count-by (oversize s) s room refl

@@ -242,10 +242,11 @@ mod behind {
         reason
     }
 
+    /// The reference does not count its starts.
     #[inline(never)]
-    pub unsafe extern "C" fn judge(sheet: *const u8, length: usize, starts: *mut u16, places: usize, answer: *mut [u32; 4]) -> u32 {
+    pub unsafe extern "C" fn judge(sheet: *const u8, length: usize, starts: *mut u16, places: usize, answer: *mut [u32; 5]) -> u32 {
         let a = judge::judge(std::slice::from_raw_parts(sheet, length), std::slice::from_raw_parts_mut(starts, places));
-        *answer = [a.reason, a.line as u32, a.held, a.peak];
+        *answer = [a.reason, a.line as u32, a.held, a.peak, 0];
         a.reason
     }
 
@@ -366,7 +367,7 @@ fn main() {
                 let f = if proved { c::staplehorn_judge } else { behind::judge };
                 Box::new(move || {
                     (0..calls).fold(0, |s, _| {
-                        let mut answer = [0; 4];
+                        let mut answer = [0; 5];
                         // SAFETY: numbers, locals and slices alone; each array has the header's size.
                         let reason = unsafe { f(t.as_ptr(), t.len(), starts.as_mut_ptr(), starts.len(), &mut answer) };
                         assert_eq!(reason, 0, "a sheet to be measured passes");
