@@ -1,4 +1,4 @@
--- Registers, lanes and columns of an access (document 01, 'Registers and cells'), and reason 5's test. Assumes nothing.
+-- Registers, lanes and columns of an access (docs/FORMAT.md, 'Registers and cells'), and reason 5's test. Assumes nothing.
 use Prim.Native.Nat.{ℕ, _*_}
 use mathlib.Core.Bool.{Bool, _||_, not}
 use mathlib.Core.List.{[], _∷_}
