@@ -51,6 +51,6 @@ putText room at text = cond (leb (at + length text) (length room)) (sets room at
 unfoldable pub putEnd : ℕ → ℕ → List ℕ → ℕ
 putEnd n at text = cond (leb (at + length text) n) (at + length text) at
 
--- room for the report of any sheet (`report-fits` of crate printed): a first line of at most 84 bytes; on a pass at most 30, and at most 4,094 rows of 25
+-- room for the report of any sheet (`report-fits` of crate printed): a first line of at most 16 bytes, and at most 4,095 rows of 25
 abbrev pub reportRoom : ℕ
 reportRoom = 102391

@@ -191,7 +191,7 @@ mmaReason x =
     ∷ statement 1 (Multiply (record { ws = x .0; kind = F16; d = x .3; a = x .4; b = name 4; metadata = x .5; idesc = name 2; predicate = name 5 }))
     ∷ [])
 
--- M 128 and N 64; the same sparse; N 32, 256 and 264; M 32
+-- M 128 and N 64
 abbrev pub m128n64 : ℕ
 m128n64 = 0x08100010
 
