@@ -101,8 +101,7 @@ pub fn is_counted(t: Statement) -> bool
     ensures { λ r. ⌜ r ≡ counted t ⌝ }
 {
     match t {
-        Statement::Load(a) => !is_miscounted(a),
-        Statement::Store(a) => !is_miscounted(a),
+        Statement::Load(a) | Statement::Store(a) => !is_miscounted(a),
         _ => true,
     }
 }

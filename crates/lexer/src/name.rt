@@ -120,7 +120,7 @@ pub fn name_at(s: &[u8], at: usize) -> Taken
     let hi = h.value;
     let e = h.end;
     if e < at + 8 {
-        if shaped(x, e - at - 1) {
+        if is_letter(x) | (at + 1 < e) {
             return got(hi, 0, e);
         }
         return none(at);

@@ -104,17 +104,16 @@ fn book(
     if booked.reason != 0 {
         return quiet(status, booked.reason);
     }
-    let next = booked.next;
-    let h = next.hi;
-    let l = next.lo;
-    let c = next.columns;
+    let h = booked.next.hi;
+    let l = booked.next.lo;
+    let c = booked.next.columns;
     *hi = h;
     *lo = l;
     *columns = c;
     let kept = Status {
-        fixed: next.fixed,
-        warp: next.warp,
-        relinquished: next.relinquished,
+        fixed: booked.next.fixed,
+        warp: booked.next.warp,
+        relinquished: booked.next.relinquished,
         exited: status.exited,
     };
     Step {

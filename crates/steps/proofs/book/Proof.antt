@@ -11,7 +11,7 @@ returns : tie.Need-returns
 returns c = book-refused _ _ _ _ _ _ _ (c .before .if1 .taken) _ (c .quiet .ensures)
 
 returns-2 : tie.Need-returns-2
-returns-2 c = book-made _ _ _ _ _ _ _ (c .before .before .before .before .if1 .left)
+returns-2 c = book-made _ _ _ _ _ _ _ (c .before .before .before .if1 .left)
 
 pub book-spec : {M : Type 1} → statement M
 book-spec = tie.close (tie.spec quiet-requires returns returns-2)
