@@ -11,7 +11,7 @@ use lib.ListN.{length, getD, take, drop, drop-of-length-le, length-take}
 use lib.Seq.{drop-cons, drop-drop, take-all, take-take, length-take-le, getD-drop}
 use lib.Pow.{pow-add, pow-mono}
 use lib.Dec.{ltb, leb, eqb}
-use borrow.Author.Tests.{lt-ltb, le-leb, lt-leb, leb-true}
+use borrow.Author.Tests.{lt-ltb, le-ltb, le-leb, lt-leb, leb-true}
 use Rattle.tokens.specs.declared.Name.{Name}
 use Rattle.tokens.specs.Bytes.{between, letter, wordByte, runLen, all, tokenLen, tokenOf, afterToken}
 use Rattle.tokens.specs.Names.{sigil, isName, byteDigits, packed, noName}
@@ -169,17 +169,30 @@ module _ (s : List ℕ) (at : ℕ) where
         pub short-end : e ≡ at + tokenLen (drop at s)
         short-end = omega (arith, token-by, ends)
 
-        pub short-none : shape (getD s at 0) (e - at - 1) ≡ false → record { ok = false; value = noName; rest = drop at s } ≡ nameThere (drop at s)
-        short-none k = rw (there, ends, k)
+        -- what starts as a name does is one where it starts with a letter or goes on
+        short-shape : shape (getD s at 0) (e - at - 1) ≡ (letter (getD s at 0) || ltb (at + 1) e)
+        short-shape = rw (le-leb (e - at - 1) 15 (omega arith), and-true (letter (getD s at 0) || sigil (getD s at 0) && ltb 0 (e - at - 1)), more (decLe e (at + 1))) (sym (by (letter (getD s at 0)) (sigil (getD s at 0)) (ltb (at + 1) e) start))
+          where
+            more : Dec (e ≤ at + 1) → ltb 0 (e - at - 1) ≡ ltb (at + 1) e
+            more (yes p) = rw (le-ltb (at + 1) e p) (le-ltb 0 (e - at - 1) (omega arith))
+            more (no p) = rw (lt-ltb (at + 1) e (omega arith)) (lt-ltb 0 (e - at - 1) (omega arith))
 
-        pub short-name : shape (getD s at 0) (e - at - 1) ≡ true
+            by : (l g t : Bool) → (l || g) ≡ true → (l || t) ≡ (l || g && t)
+            by true g t h = refl
+            by false true t h = refl
+            by false false t h = absurd (true≢false (sym h))
+
+        pub short-none : (letter (getD s at 0) || ltb (at + 1) e) ≡ false → record { ok = false; value = noName; rest = drop at s } ≡ nameThere (drop at s)
+        short-none k = rw (there, ends, short-shape, k)
+
+        pub short-name : (letter (getD s at 0) || ltb (at + 1) e) ≡ true
             → record { ok = true; value = record { hi = byteDigits (getD s at 0) (take (wordsLen 7 (drop (at + 1) s)) (drop (at + 1) s)); lo = 0 }; rest = drop e s } ≡ nameThere (drop at s)
         short-name k =
             let m = drop (at + 1) s in
             let p : min 7 (e - at - 1) ≡ e - at - 1 = omega arith in
             let q : at + 1 + (e - at - 1) ≡ e = omega arith in
             let n : length (take (e - at - 1) m) ≤ 7 = omega (arith, length-take (e - at - 1) m) in
-            rw (there, ends, k, p, drop-drop (e - at - 1) (at + 1) s, q, ← pack-short (getD s at 0) (take (e - at - 1) m) n)
+            rw (there, ends, short-shape, k, p, drop-drop (e - at - 1) (at + 1) s, q, ← pack-short (getD s at 0) (take (e - at - 1) m) n)
 
       -- the run goes on after the first word; e is where it ends, or the second word does
       module _ (long : at + 8 ≤ at + 1 + wordsLen 7 (drop (at + 1) s)) (e : ℕ) (t : e ≡ at + 8 + wordsLen 8 (drop (at + 8) s)) where

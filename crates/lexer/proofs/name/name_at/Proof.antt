@@ -43,14 +43,11 @@ pack-requires c κs = (omega arith, omega arith, omega (arith, c .before .before
 add-if3 : tie.Need-add-if3
 add-if3 c = search needs
 
-sub-shaped : tie.Need-sub-shaped
-sub-shaped c = search needs
+is-letter-requires : tie.Need-is-letter-requires
+is-letter-requires c κs = search needs
 
-sub-shaped-2 : tie.Need-sub-shaped-2
-sub-shaped-2 c = search needs
-
-shaped-requires : tie.Need-shaped-requires
-shaped-requires c κs = search needs
+add-if4 : tie.Need-add-if4
+add-if4 c = search needs
 
 got-requires : tie.Need-got-requires
 got-requires c κs = search needs
@@ -62,7 +59,7 @@ returns-3 c =
     let p = c .before .before .before .before .before .before .before .before .before .if1 .left in
     let q = sym (c .before .before .before .before .before .before .before .starts .ensures) ∙ not-false _ (c .before .before .before .before .before .before .if2 .left) in
     rw (c .got .ensures, h .ensures .0, c .before .before .before .before .before .wide .ensures) (
-      short-name (a .s .now) (a .at) p q (h .result .end) (h .ensures .1) (c .before .before .before .if3 .taken) (sym (c .before .before .shaped .ensures) ∙ c .before .if4 .taken),
+      short-name (a .s .now) (a .at) p q (h .result .end) (h .ensures .1) (c .before .before .before .if3 .taken) (rw (c .before .before .is-letter .ensures) at (c .before .if4 .taken)),
       short-end (a .s .now) (a .at) p q (h .result .end) (h .ensures .1) (c .before .before .before .if3 .taken),
     )
 
@@ -75,7 +72,7 @@ returns-4 c =
     let h = c .before .before .before .before .pack in
     let p = c .before .before .before .before .before .before .before .before .before .if1 .left in
     let q = sym (c .before .before .before .before .before .before .before .starts .ensures) ∙ not-false _ (c .before .before .before .before .before .before .if2 .left) in
-    let k = sym (c .before .before .shaped .ensures) ∙ c .before .if4 .left in
+    let k = rw (c .before .before .is-letter .ensures) at (c .before .if4 .left) in
     rw (c .none3 .ensures) (short-none (a .s .now) (a .at) p q (h .result .end) (h .ensures .1) (c .before .before .before .if3 .taken) k, refl)
 
 add-pack-2 : tie.Need-add-pack-2
@@ -137,9 +134,8 @@ name-at-spec =
     wide-requires
     pack-requires
     add-if3
-    sub-shaped
-    sub-shaped-2
-    shaped-requires
+    is-letter-requires
+    add-if4
     got-requires
     returns-3
     none-requires-3
