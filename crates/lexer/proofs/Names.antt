@@ -8,7 +8,7 @@ use mathlib.Core.Path.{_≡_, refl, sym, ap, _∙_}
 use mathlib.Core.List.{List, [], _∷_}
 use mathlib.Core.Bool.{Bool, true, false, _&&_, _||_, true≢false, cond}
 use lib.ListN.{length, getD, take, drop, drop-of-length-le, length-take}
-use lib.Seq.{drop-cons, drop-drop, take-all, take-take, length-take-le, getD-drop}
+use lib.Seq.{drop-cons, drop-drop, take-all, take-nil, take-take, length-take-le, getD-drop}
 use lib.Pow.{pow-add, pow-mono}
 use lib.Dec.{ltb, leb, eqb}
 use borrow.Author.Tests.{lt-ltb, le-leb, lt-leb, leb-true}
@@ -18,8 +18,9 @@ use Rattle.tokens.specs.Names.{sigil, isName, byteDigits, packed, noName}
 use Rattle.tokens.specs.Cursors.{Rest, Took, on, off, nameHere}
 use Rattle.lexer.specs.Runs.{wordsLen, thereBy, nameThere}
 use mathlib.Core.Bool.{and-false, and-true}
-use Rattle.laws.proofs.BoolLaws.{and-split}
+use Rattle.laws.proofs.BoolLaws.{and-split, or-neither}
 use Rattle.tokens.proofs.Runs.{run-le, run-step}
+use Rattle.tokens.proofs.Names.{name-path}
 use Rattle.lexer.proofs.Laws.{word-0}
 
 -- ---- packing
@@ -54,10 +55,6 @@ pack-short : (x : ℕ) (u : List ℕ) → length u ≤ 7 → record { hi = byteD
 unfolding packed
 pack-short x u h = rw (take-all 7 u h, drop-of-length-le u h, zero-add x)
 
-take-nil : (n : ℕ) → take {A = ℕ} n [] ≡ []
-take-nil zero = refl
-take-nil (suc n) = refl
-
 drop-take : (k n : ℕ) (l : List ℕ) → drop k (take (k + n) l) ≡ take n (drop k l)
 drop-take zero n l = rw (zero-add n)
 drop-take (suc k) n [] = rw (suc-add k n) (sym (take-nil n))
@@ -66,14 +63,11 @@ drop-take (suc k) n (x ∷ l) = rw (suc-add k n) (drop-take k n l)
 first-byte : (x : ℕ) (u : List ℕ) → byteDigits 0 (x ∷ u) ≡ byteDigits x u
 first-byte x u = rw (zero-add x)
 
-same-parts : (a b c d : ℕ) → a ≡ b → c ≡ d → _≡_ {A = Name} (record { hi = a; lo = c }) (record { hi = b; lo = d })
-same-parts a b c d p q = rw (p, q)
-
 pack-long : (x n : ℕ) (m : List ℕ) → record { hi = byteDigits x (take 7 m); lo = byteDigits 0 (take n (drop 7 m)) } ≡ packed (x ∷ take (7 + n) m)
 unfolding packed
 pack-long x n m =
     let u = take (7 + n) m in
-    same-parts (byteDigits x (take 7 m)) (byteDigits 0 (x ∷ take 7 u)) (byteDigits 0 (take n (drop 7 m))) (byteDigits 0 (drop 7 u))
+    name-path (byteDigits x (take 7 m)) (byteDigits 0 (x ∷ take 7 u)) (byteDigits 0 (take n (drop 7 m))) (byteDigits 0 (drop 7 u))
     (sym (first-byte x (take 7 u) ∙ ap (byteDigits x) (take-take 7 (7 + n) m (omega arith))))
     (ap (byteDigits 0) (sym (drop-take 7 n m)))
 
@@ -117,10 +111,6 @@ run-split f (suc k) (x ∷ l) h = by (f x) (run-split f k l) h
     by false r h = absurd (omega arith)
 
 -- ---- a token that starts as a name does
-or-parts : (a b : Bool) → (a || b) ≡ false → (a ≡ false) × (b ≡ false)
-or-parts true b h = absurd (true≢false h)
-or-parts false b h = (refl, h)
-
 start-word : (x : ℕ) → (letter x || sigil x) ≡ true → (wordByte x || eqb x 37) ≡ true
 unfolding wordByte sigil
 start-word x h = by (letter x) (between 48 57 x) (eqb x 95) (eqb x 36) (eqb x 37) h
@@ -141,7 +131,7 @@ there-by x m h = rw (start-word x h, length-take-le (runLen wordByte m) m (run-l
 
 there-not : (x : ℕ) (m : List ℕ) → (letter x || sigil x) ≡ false → nameThere (x ∷ m) ≡ record { ok = false; value = noName; rest = x ∷ m }
 unfolding nameThere tokenOf tokenLen isName
-there-not x m h = let p = or-parts (letter x) (sigil x) h in rw (p .0, p .1)
+there-not x m h = let p = or-neither (letter x) (sigil x) h in rw (p .0, p .1)
 
 -- ---- the token at a position
 module _ (s : List ℕ) (at : ℕ) where
