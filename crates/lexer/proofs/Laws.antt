@@ -1,12 +1,11 @@
 -- Laws of runs, tokens and digits, which the functions' proofs cite. Assumes nothing.
 use Prim.Native.Nat.{ℕ, suc, _+_, _-_, _<_, _≤_}
-use native.Mathlib.Numerals.{add-one}
 use native.Mathlib.Omega.{arith}
 use native.Mathlib.Decide.{decLe}
-use mathlib.Core.Path.{_≡_, refl, ap, _∙_, sym}
-use mathlib.Core.List.{List, [], _∷_}
-use mathlib.Core.Bool.{true≢false, Bool, true, false, _&&_, _||_, cond}
-use lib.ListN.{length, getD, drop, drop-of-length-le, length-drop}
+use mathlib.Core.Path.{_≡_, refl, ap, _∙_}
+use mathlib.Core.List.{List}
+use mathlib.Core.Bool.{Bool, true, false, _&&_, _||_, cond}
+use lib.ListN.{length, drop, drop-of-length-le, length-drop}
 use lib.Seq.{drop-cons, drop-drop}
 use lib.Dec.{leb, eqb}
 use borrow.Author.Tests.{eq-eqb, ne-eqb, le-leb, lt-leb}
@@ -15,6 +14,7 @@ use Rattle.tokens.specs.Numbers.{digitOf}
 use Rattle.tokens.specs.declared.Cursor.{Cursor}
 use Rattle.tokens.specs.Cursors.{Rest, seen}
 use Rattle.tokens.proofs.Runs.{run-le}
+use Rattle.tokens.proofs.Lengths.{token-le}
 use Rattle.lexer.specs.Places.{within}
 
 -- ---- classes
@@ -119,15 +119,6 @@ unfolding blank
 blank-is x h = eq-eqb x 32 h
 
 -- ---- tokens, in the words of the code
-token-le : (l : List ℕ) → tokenLen l ≤ length l
-unfolding tokenLen
-token-le [] = omega arith
-token-le (x ∷ l) = by (wordByte x || eqb x 37)
-  where
-    by : (b : Bool) → suc (cond b (runLen wordByte l) 0) ≤ suc (length l)
-    by true = omega (arith, run-le wordByte l)
-    by false = omega arith
-
 -- past the blanks
 pub blank-law : (s : List ℕ) (at i : ℕ) → i ≡ at + runLen blank (drop at s) → drop i s ≡ afterBlanks (drop at s)
 unfolding afterBlanks

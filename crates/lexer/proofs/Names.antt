@@ -1,25 +1,26 @@
 -- Laws of runs of word bytes, and of a token that is a name or none, which the functions' proofs cite. Assumes nothing.
-use Prim.Native.Nat.{ℕ, zero, suc, _+_, _*_, _-_, _^_, _<_, _≤_, min}
+use Prim.Native.Nat.{ℕ, suc, _+_, _*_, _-_, _^_, _<_, _≤_, min}
 use native.Mathlib.Numerals.{add-one}
-use native.Mathlib.Nat.{zero-add, suc-add}
+use native.Mathlib.Nat.{zero-add}
 use native.Mathlib.Omega.{arith}
 use native.Mathlib.Decide.{decLe}
 use mathlib.Core.Path.{_≡_, refl, sym, ap, _∙_}
-use mathlib.Core.List.{List, [], _∷_}
+use mathlib.Core.List.{List, _∷_}
 use mathlib.Core.Bool.{Bool, true, false, _&&_, _||_, true≢false, cond}
 use lib.ListN.{length, getD, take, drop, drop-of-length-le, length-take}
-use lib.Seq.{drop-cons, drop-drop, take-all, take-nil, take-take, length-take-le, getD-drop}
+use lib.Seq.{drop-cons, drop-drop, take-all, take-take, length-take-le, getD-drop}
 use lib.Pow.{pow-add, pow-mono}
 use lib.Dec.{ltb, leb, eqb}
 use borrow.Author.Tests.{lt-ltb, le-leb, lt-leb, leb-true}
 use Rattle.tokens.specs.declared.Name.{Name}
-use Rattle.tokens.specs.Bytes.{between, letter, wordByte, runLen, all, tokenLen, tokenOf, afterToken}
+use Rattle.tokens.specs.Bytes.{between, letter, wordByte, runLen, tokenLen, tokenOf, afterToken}
 use Rattle.tokens.specs.Names.{sigil, isName, byteDigits, packed, noName}
 use Rattle.tokens.specs.Cursors.{Rest, Took, on, off, nameHere}
 use Rattle.lexer.specs.Runs.{wordsLen, thereBy, nameThere}
 use mathlib.Core.Bool.{and-false, and-true}
 use Rattle.laws.proofs.BoolLaws.{and-split, or-neither}
-use Rattle.tokens.proofs.Runs.{run-le, run-step}
+use Rattle.laws.proofs.ListLaws.{drop-take}
+use Rattle.tokens.proofs.Runs.{run-le, run-step, all-run, run-next, run-in, run-split}
 use Rattle.tokens.proofs.Names.{name-path}
 use Rattle.lexer.proofs.Laws.{word-0}
 
@@ -55,11 +56,6 @@ pack-short : (x : ℕ) (u : List ℕ) → length u ≤ 7 → record { hi = byteD
 unfolding packed
 pack-short x u h = rw (take-all 7 u h, drop-of-length-le u h, zero-add x)
 
-drop-take : (k n : ℕ) (l : List ℕ) → drop k (take (k + n) l) ≡ take n (drop k l)
-drop-take zero n l = rw (zero-add n)
-drop-take (suc k) n [] = rw (suc-add k n) (sym (take-nil n))
-drop-take (suc k) n (x ∷ l) = rw (suc-add k n) (drop-take k n l)
-
 first-byte : (x : ℕ) (u : List ℕ) → byteDigits 0 (x ∷ u) ≡ byteDigits x u
 first-byte x u = rw (zero-add x)
 
@@ -69,46 +65,7 @@ pack-long x n m =
     let u = take (7 + n) m in
     name-path (byteDigits x (take 7 m)) (byteDigits 0 (x ∷ take 7 u)) (byteDigits 0 (take n (drop 7 m))) (byteDigits 0 (drop 7 u))
     (sym (first-byte x (take 7 u) ∙ ap (byteDigits x) (take-take 7 (7 + n) m (omega arith))))
-    (ap (byteDigits 0) (sym (drop-take 7 n m)))
-
--- ---- runs
-all-run : (f : ℕ → Bool) (l : List ℕ) → all f (take (runLen f l) l) ≡ true
-all-run f [] = refl
-all-run f (x ∷ l) = by (f x) refl (all-run f l)
-  where
-    by : (b : Bool) → f x ≡ b → all f (take (runLen f l) l) ≡ true → all f (take (cond b (suc (runLen f l)) 0) (x ∷ l)) ≡ true
-    by true e h = rw e h
-    by false e h = refl
-
-run-next : (f : ℕ → Bool) → f 0 ≡ false → (l : List ℕ) → f (getD l (runLen f l) 0) ≡ false
-run-next f z [] = z
-run-next f z (x ∷ l) = by (f x) refl (run-next f z l)
-  where
-    by : (b : Bool) → f x ≡ b → f (getD l (runLen f l) 0) ≡ false → f (getD (x ∷ l) (cond b (suc (runLen f l)) 0) 0) ≡ false
-    by true e h = h
-    by false e h = e
-
-run-in : (f : ℕ → Bool) (l : List ℕ) (k : ℕ) → k < runLen f l → f (getD l k 0) ≡ true
-run-in f [] k h = absurd (omega arith)
-run-in f (x ∷ l) zero h = by (f x) refl h
-  where
-    by : (b : Bool) → f x ≡ b → 0 < cond b (suc (runLen f l)) 0 → f x ≡ true
-    by true e h = e
-    by false e h = absurd (omega arith)
-run-in f (x ∷ l) (suc k) h = by (f x) (run-in f l k) h
-  where
-    by : (b : Bool) → (k < runLen f l → f (getD l k 0) ≡ true) → suc k < cond b (suc (runLen f l)) 0 → f (getD l k 0) ≡ true
-    by true r h = r (omega arith)
-    by false r h = absurd (omega arith)
-
-run-split : (f : ℕ → Bool) (k : ℕ) (l : List ℕ) → k ≤ runLen f l → runLen f l ≡ k + runLen f (drop k l)
-run-split f zero l h = omega arith
-run-split f (suc k) [] h = absurd (omega arith)
-run-split f (suc k) (x ∷ l) h = by (f x) (run-split f k l) h
-  where
-    by : (b : Bool) → (k ≤ runLen f l → runLen f l ≡ k + runLen f (drop k l)) → suc k ≤ cond b (suc (runLen f l)) 0 → cond b (suc (runLen f l)) 0 ≡ suc k + runLen f (drop k l)
-    by true r h = omega (arith, r (omega arith))
-    by false r h = absurd (omega arith)
+    (let e : 7 + n - 7 ≡ n = omega arith in rw (drop-take 7 (7 + n) m, e))
 
 -- ---- a token that starts as a name does
 start-word : (x : ℕ) → (letter x || sigil x) ≡ true → (wordByte x || eqb x 37) ≡ true

@@ -10,14 +10,14 @@ use mathlib.Core.Bool.{Bool, true, false, _&&_, _||_, not, true≢false, cond}
 use lib.ListN.{length, getD, take, drop, drop-of-length-le}
 use lib.Seq.{drop-cons, drop-drop, length-take-le, getD-drop}
 use lib.Dec.{ltb, leb, eqb}
-use borrow.Author.Tests.{eq-eqb, ne-eqb, le-leb, lt-leb, lt-ltb, le-ltb, ltb-true, ltb-false, leb-true, eqb-true, not-true}
+use borrow.Author.Tests.{eq-eqb, ne-eqb, le-leb, lt-leb, lt-ltb, le-ltb, ltb-true, ltb-false, not-true}
 use Rattle.tokens.specs.declared.Numeral.{Numeral}
-use Rattle.tokens.specs.Bytes.{between, wordByte, runLen, all, tokenLen, tokenOf, afterToken}
+use Rattle.tokens.specs.Bytes.{wordByte, runLen, all, tokenLen, tokenOf, afterToken}
 use Rattle.tokens.specs.Numbers.{digitOf, isDigit, hexMark, zeroLed, someDigits, isNumber, valueOf, numeralOf, fitted, noNumeral, positional}
 use Rattle.tokens.specs.Cursors.{Rest, on, off, numberHere}
 use Rattle.lexer.specs.Runs.{baseOf, digitsLen, digitsAfter, wholeRun, runNumeral, numeralLen}
 use mathlib.Core.Bool.{and-false}
-use Rattle.laws.proofs.BoolLaws.{and-split, not-or}
+use Rattle.laws.proofs.BoolLaws.{not-or}
 use Rattle.tokens.proofs.Runs.{run-stop, run-past, run-le}
 use Rattle.tokens.proofs.Classes.{figure-word, digit-word, x-word}
 use Rattle.lexer.proofs.Laws.{word-0}

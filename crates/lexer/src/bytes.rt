@@ -19,7 +19,7 @@ pub fn digit_of(x: u8) -> u8
         if b'f' < x {
             return 16;
         }
-        return x - 87;
+        return x - (b'a' - 10);
     }
     if x < b'A' {
         return 16;
@@ -27,7 +27,7 @@ pub fn digit_of(x: u8) -> u8
     if b'F' < x {
         return 16;
     }
-    x - 55
+    x - (b'A' - 10)
 }
 
 // A byte of a name or a number.
