@@ -8,12 +8,16 @@ use mathlib.Core.Bool.{Bool, true, false, _&&_, _||_, cond}
 use lib.ListN.{length, getD, take, drop, length-drop}
 use lib.Dec.{leb, eqb}
 use borrow.Author.Tests.{eqb-true, leb-true, le-leb}
-use Rattle.laws.proofs.BoolLaws.{never, and-split}
-use Rattle.tokens.specs.Bytes.{all}
-use Rattle.lines.specs.Sheet.{textOf, endedOf, rest, after, countFrom, lineCount, warpByte, warpOf, plain, laidOut, Content, fault, laid, contentOf, contentAfter, headed, bodyAt, lineAt, After, contentSeen}
+use Rattle.laws.proofs.BoolLaws.{never}
+use Rattle.laws.proofs.TestLaws.{bit-le}
+use Rattle.tokens.specs.Text.{tab, lf}
+use Rattle.lines.specs.Sheet.{textOf, rest, after, countFrom, lineCount, warpByte, warpOf, laidOut, Content, fault, laid, contentOf, contentAfter, headed, bodyAt, lineAt, After, contentSeen}
 use Rattle.lines.specs.declared.Line.{Line}
 use Rattle.lines.specs.Written.{Written}
-use Rattle.lines.proofs.SheetLaws.{count-line, count-none, bit-le, header-inside, header-after, header-counted, line-seen, line-inside, line-next, line-after, line-counted}
+use Rattle.lines.proofs.LineLaws.{count-line, count-none}
+use Rattle.lines.proofs.LayoutLaws.{laid-parts}
+use Rattle.lines.proofs.HeaderLaws.{header-inside, header-after, header-counted}
+use Rattle.lines.proofs.SheetLaws.{line-seen, line-inside, line-next, line-after, line-counted}
 
 -- ---- a line
 
@@ -30,21 +34,16 @@ statementIn fault = []
 statementIn (laid w t) = t
 
 -- the text of a line that is laid out: its mark, a tab, its statement
-text-by : (t : List ℕ) → warpByte (getD t 0 0) ≡ true → eqb (getD t 1 0) 9 ≡ true → t ≡ getD t 0 0 ∷ (9 ∷ drop 2 t)
+text-by : (t : List ℕ) → warpByte (getD t 0 0) ≡ true → eqb (getD t 1 0) tab ≡ true → t ≡ getD t 0 0 ∷ (tab ∷ drop 2 t)
 unfolding warpByte
 text-by [] a b = never a
 text-by (x ∷ []) a b = never b
-text-by (x ∷ (y ∷ t)) a b = ap (λ (z : ℕ). x ∷ (z ∷ t)) (eqb-true y 9 b)
+text-by (x ∷ (y ∷ t)) a b = ap (λ (z : ℕ). x ∷ (z ∷ t)) (eqb-true y tab b)
 
 laid-written : (l : List ℕ) → laidOut l ≡ true → Written l (warpOf (getD (textOf l) 0 0)) (drop 2 (textOf l))
-unfolding laidOut
 laid-written l h =
-    let t = textOf l in
-    let a = and-split (warpByte (getD t 0 0) && eqb (getD t 1 0) 9 && all plain (drop 2 t) && endedOf l) (leb (length t) 2048) h in
-    let b = and-split (warpByte (getD t 0 0) && eqb (getD t 1 0) 9 && all plain (drop 2 t)) (endedOf l) (a .0) in
-    let d = and-split (warpByte (getD t 0 0) && eqb (getD t 1 0) 9) (all plain (drop 2 t)) (b .0) in
-    let e = and-split (warpByte (getD t 0 0)) (eqb (getD t 1 0) 9) (d .0) in
-    record { mark = getD t 0 0; line = text-by t (e .0) (e .1); marks = e .0; names = refl; shown = d .1; ended = b .1; short = leb-true (length t) 2048 (a .1) }
+    let a = laid-parts l h in
+    record { mark = getD (textOf l) 0 0; line = text-by (textOf l) (a .0) (a .1); marks = a .0; names = refl; shown = a .2; ended = a .3; short = a .4 }
 
 written-by : (l : List ℕ) (b : Bool) (w : ℕ) (t : List ℕ) → laidOut l ≡ b
     → cond b (laid (warpOf (getD (textOf l) 0 0)) (drop 2 (textOf l))) fault ≡ laid w t → Written l w t
@@ -91,7 +90,7 @@ line-there (suc k) (x ∷ l) h = line-there k (rest (x ∷ l)) (let z : lineCoun
 count-from-le : (b : Bool) (l : List ℕ) → countFrom b l ≤ length l
 unfolding countFrom
 count-from-le b [] = omega arith
-count-from-le b (x ∷ l) = omega (arith, count-from-le (eqb x 10) l, bit-le b)
+count-from-le b (x ∷ l) = omega (arith, count-from-le (eqb x lf) l, bit-le b)
 
 pub count-le : (l : List ℕ) → lineCount l ≤ length l
 unfolding lineCount
