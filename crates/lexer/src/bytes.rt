@@ -5,6 +5,13 @@ ghost use lib.ListN.{getD, drop};
 ghost use Rattle.tokens.specs.Bytes.{wordByte, opcodeByte, blank, runLen};
 ghost use Rattle.tokens.specs.Numbers.{digitOf};
 
+// A byte as a wider number.
+pub fn wide(x: u8) -> u64
+    ensures { λ r. ⌜ r ≡ x ⌝ }
+{
+    x as u64
+}
+
 // The value of a digit; 16 for any other byte.
 pub fn digit_of(x: u8) -> u8
     ensures { λ r. ⌜ r ≡ digitOf x ⌝ }

@@ -1,5 +1,6 @@
 // Numbers of any length, read in one pass.
 use crate::bytes::digit_of;
+use crate::bytes::wide;
 use crate::bytes::word_at;
 ghost use mathlib.Core.Path.{_≡_};
 ghost use Prim.Native.Nat.{_+_, _*_, _^_, _<_};
@@ -17,12 +18,6 @@ pub struct Digits {
     pub over: bool,
     pub value: u64,
     pub end: usize,
-}
-
-fn wide(x: u8) -> u64
-    ensures { λ r. ⌜ r ≡ x ⌝ }
-{
-    x as u64
 }
 
 // The base: 16 or 10.

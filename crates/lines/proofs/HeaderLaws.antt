@@ -4,14 +4,14 @@ use native.Mathlib.Omega.{arith}
 use native.Mathlib.Numerals.{add-one}
 use mathlib.Core.Path.{_≡_, refl, sym, ap, _∙_}
 use mathlib.Core.List.{List, [], _∷_, _++_}
-use mathlib.Core.Bool.{Bool, true, false, _&&_, and-false}
+use mathlib.Core.Bool.{Bool, true, false, not, _&&_, _||_, and-false}
 use lib.ListN.{length, getD, drop, drop-of-length-le}
 use lib.Seq.{drop-cons}
 use lib.Dec.{eqb}
-use borrow.Author.Tests.{eq-eqb, ne-eqb, ltb-true, eqb-true}
-use Rattle.laws.proofs.BoolLaws.{and-split, and-swap}
+use borrow.Author.Tests.{eq-eqb, ne-eqb, ltb-true, eqb-true, not-true}
+use Rattle.laws.proofs.BoolLaws.{and-split, and-swap, or-neither}
 use Rattle.tokens.specs.Text.{lf}
-use Rattle.tokens.specs.Bytes.{sameBytes}
+use Rattle.tokens.specs.Bytes.{all, sameBytes}
 use Rattle.tokens.proofs.Bytes.{same-eq}
 use Rattle.lines.specs.Sheet.{upto, textOf, endedOf, rest, after, lineCount, header, bodyAt, headed}
 use Rattle.lines.proofs.LineLaws.{text-cons, ended-cons, text-lf, ended-lf, text-length, count-line}
@@ -28,10 +28,12 @@ unfolding matchAt
 match-shift [] i x l = refl
 match-shift (y ∷ m) i x l = ap (λ (b : Bool). eqb (getD l i 0) y && b) (match-shift m (suc i) x l)
 
--- no byte of a list is 0 or an LF
-abbrev Shown : List ℕ → Type 0
-Shown [] = Unit
-Shown (y ∷ m) = ((eqb 0 y ≡ false) × (eqb lf y ≡ false)) × Shown m
+-- a byte that is neither 0 nor an LF
+abbrev shown : ℕ → Bool
+shown y = not (eqb 0 y || eqb lf y)
+
+shown-parts : (y : ℕ) (m : List ℕ) → all shown (y ∷ m) ≡ true → ((eqb 0 y ≡ false) × (eqb lf y ≡ false)) × (all shown m ≡ true)
+shown-parts y m h = let a = and-split (shown y) (all shown m) h in (or-neither (eqb 0 y) (eqb lf y) (not-true (eqb 0 y || eqb lf y) (a .0)), a .1)
 
 module _ (s y : ℕ) (l m : List ℕ) (z : eqb lf y ≡ false) (k : matchAt (m ++ lf ∷ []) 0 l ≡ (endedOf l && sameBytes (textOf l) m)) where
   head-by : (t : Bool) → eqb s lf ≡ t → (eqb s y && matchAt (m ++ lf ∷ []) 0 l) ≡ (endedOf (s ∷ l) && sameBytes (textOf (s ∷ l)) (y ∷ m))
@@ -43,12 +45,14 @@ last-by s l true e = rw (text-lf s l e, ended-lf s l e, e)
 last-by s l false e = rw (text-cons s l e, and-false, e)
 
 -- the bytes of a line and an LF stand at the start exactly when the first line is that line, and ended
-line-is : (w s : List ℕ) → Shown w → matchAt (w ++ lf ∷ []) 0 s ≡ (endedOf s && sameBytes (textOf s) w)
+line-is : (w s : List ℕ) → all shown w ≡ true → matchAt (w ++ lf ∷ []) 0 s ≡ (endedOf s && sameBytes (textOf s) w)
 unfolding matchAt endedOf upto
 line-is [] [] k = refl
 line-is [] (x ∷ l) k = last-by x l (eqb x lf) refl
-line-is (y ∷ m) [] k = rw (k .0 .0)
-line-is (y ∷ m) (x ∷ l) k = ap (λ (b : Bool). eqb x y && b) (match-shift (m ++ lf ∷ []) 0 x l) ∙ head-by x y l m (k .0 .1) (line-is m l (k .1)) (eqb x lf) refl
+line-is (y ∷ m) [] k = rw (shown-parts y m k .0 .0)
+line-is (y ∷ m) (x ∷ l) k =
+    let p = shown-parts y m k in
+    ap (λ (b : Bool). eqb x y && b) (match-shift (m ++ lf ∷ []) 0 x l) ∙ head-by x y l m (p .0 .1) (line-is m l (p .1)) (eqb x lf) refl
 
 -- line 1 with its LF
 abbrev pub headerLine : List ℕ
@@ -56,7 +60,7 @@ headerLine = header ++ lf ∷ []
 
 pub headed-match : (s : List ℕ) → headed s ≡ matchAt headerLine 0 s
 unfolding headed
-headed-match s = sym (line-is header s ((refl, refl), ((refl, refl), ((refl, refl), ((refl, refl), ((refl, refl), ((refl, refl), ((refl, refl), ((refl, refl), ((refl, refl), ((refl, refl), ((refl, refl), ((refl, refl), ((refl, refl), ((refl, refl), ((refl, refl), tt))))))))))))))))
+headed-match s = sym (line-is header s refl)
 
 module _ (h s : List ℕ) (i : ℕ) (k : i < length h) where
   pub match-step : getD s i 0 ≡ getD h i 0 → matchAt (drop i h) i s ≡ matchAt (drop (i + 1) h) (i + 1) s

@@ -4,20 +4,21 @@ use Prim.Native.Nat.{ℕ, suc, _+_, _-_, _<_, _≤_}
 use native.Mathlib.Omega.{arith}
 use mathlib.Core.Path.{_≡_, refl, sym, ap, _∙_, subst}
 use mathlib.Core.List.{List, [], _∷_}
-use mathlib.Core.Bool.{Bool, true, false, _&&_, _||_, cond, and-true, and-false}
+use mathlib.Core.Bool.{Bool, true, false, _&&_, _||_, cond, and-true, and-false, and-assoc}
 use lib.ListN.{length, getD, take, drop, length-drop, take-append-drop}
 use lib.Seq.{drop-cons, drop-drop, length-take-le}
 use lib.Dec.{leb, eqb}
 use borrow.Author.Tests.{ne-eqb, ltb-true, eqb-true, leb-true}
-use Rattle.laws.proofs.BoolLaws.{never, clash, and-split, and-assoc}
+use Rattle.laws.proofs.BoolLaws.{never, clash, and-split}
 use Rattle.tokens.specs.Text.{tab, lf}
 use Rattle.tokens.specs.Bytes.{all, runLen}
 use Rattle.tokens.proofs.Runs.{run-append}
 use Rattle.lines.specs.Sheet.{upto, textOf, endedOf, warpByte, plain, laidOut}
 use Rattle.lines.proofs.LineLaws.{upto-cons, text-cons, ended-cons, upto-lf, text-lf, ended-lf, text-length}
 
--- ---- runs
+-- ---- blocks of 16 bytes
 
+-- a block of bytes that pass is the start of the run
 pub run-block : (f : ℕ → Bool) (s : List ℕ) (i : ℕ) → i + 16 ≤ length s → all f (take 16 (drop i s)) ≡ true → i + 16 + runLen f (drop (i + 16) s) ≡ i + runLen f (drop i s)
 run-block f s i h e =
     let d = drop i s in

@@ -3,7 +3,7 @@
 use Prim.Native.Nat.{ℕ, zero, suc, _+_, _-_, _<_, _≤_}
 use native.Mathlib.Omega.{arith}
 use native.Mathlib.Numerals.{add-one}
-use mathlib.Core.Path.{_≡_, refl, sym, _∙_}
+use mathlib.Core.Path.{_≡_, refl, _∙_}
 use mathlib.Core.List.{List, [], _∷_}
 use mathlib.Core.Bool.{Bool, true, false, cond}
 use lib.ListN.{length, getD, drop, drop-of-length-le}
@@ -64,11 +64,6 @@ unfolding after
 after-suc zero l = refl
 after-suc (suc k) l = after-suc k (rest l)
 
-pub count-past : (l : List ℕ) (b : Bool) → length l ≤ 0 → countFrom b l ≡ 0
-unfolding countFrom
-count-past [] b h = refl
-count-past (x ∷ l) b h = absurd (omega arith)
-
 inside-by : (b : Bool) (l : List ℕ) → countFrom false l ≡ countFrom true (drop (suc (upto l)) l) → 0 + countFrom b l ≡ countFrom true (drop (cond b 0 (suc (upto l))) l)
 inside-by true l h = omega arith
 inside-by false l h = omega arith
@@ -85,18 +80,11 @@ unfolding lineCount countFrom upto rest
 count-line [] h = absurd (omega arith)
 count-line (x ∷ l) h = let e : 0 + countFrom (eqb x lf) l ≡ countFrom true (drop (cond (eqb x lf) 0 (suc (upto l))) l) = inside-by (eqb x lf) l (count-inside l) in omega arith
 
--- no line, no byte
+-- no byte, no line
 pub count-none : (l : List ℕ) → length l ≡ 0 → lineCount l ≡ 0
-unfolding lineCount
-count-none l h = count-past l true (omega arith)
-
--- after all the lines nothing is left
-pub after-all : (n : ℕ) (l : List ℕ) → lineCount l ≡ n → after n l ≡ []
-unfolding after
-after-all zero [] e = refl
-after-all zero (x ∷ l) e = absurd (omega (arith, count-line (x ∷ l) (omega arith)))
-after-all (suc n) [] e = absurd (let z : 0 ≡ suc n = (sym (count-none [] refl) ∙ e) in omega arith)
-after-all (suc n) (x ∷ l) e = after-all n (rest (x ∷ l)) (omega (arith, count-line (x ∷ l) (omega arith)))
+unfolding lineCount countFrom
+count-none [] h = refl
+count-none (x ∷ l) h = absurd (omega arith)
 
 -- ---- how many lines, from how many LFs
 

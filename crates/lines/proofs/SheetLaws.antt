@@ -9,7 +9,7 @@ use lib.ListN.{length, getD, take, drop, drop-of-length-le, length-drop}
 use lib.Seq.{drop-drop, getD-drop, getD-take, take-all}
 use Rattle.laws.proofs.ListLaws.{drop-take}
 use Rattle.lines.specs.declared.Line.{Line}
-use Rattle.lines.specs.Sheet.{upto, textOf, rest, after, lineCount, warpByte, warpOf, laidOut, contentOf, noLine, lineAt, contentSeen}
+use Rattle.lines.specs.Sheet.{upto, textOf, rest, after, lineCount, warpByte, warpOf, laidOut, fault, laid, contentOf, noLine, lineAt, contentSeen}
 use Rattle.lines.proofs.LineLaws.{after-suc, count-line}
 use Rattle.lines.proofs.LayoutLaws.{laid-warp, laid-ended, laid-two}
 
@@ -58,10 +58,17 @@ module _ (s : List ℕ) (at : ℕ) where
 
 -- ---- what a caller of `line_at` knows
 
-module _ (s : List ℕ) (at : ℕ) where
-  abbrev there : Line
-  there = lineAt s at
+-- a line found by places is a layout fault, or its warp and the bytes of its statement
+module _ (s : List ℕ) (r : Line) where
+  pub fault-seen : r .ok ≡ false → contentSeen s r ≡ fault
+  unfolding contentSeen
+  fault-seen h = ap (λ (b : Bool). cond b (laid (r .warp) (take (r .end - r .start) (drop (r .start) s))) fault) h
 
+  pub laid-seen : r .ok ≡ true → contentSeen s r ≡ laid (r .warp) (take (r .end - r .start) (drop (r .start) s))
+  unfolding contentSeen
+  laid-seen h = ap (λ (b : Bool). cond b (laid (r .warp) (take (r .end - r .start) (drop (r .start) s))) fault) h
+
+module _ (s : List ℕ) (at : ℕ) where
   pub line-ok : lineAt s at .ok ≡ laidOut (drop at s)
   unfolding lineAt
   line-ok = ok-by (laidOut (drop at s))

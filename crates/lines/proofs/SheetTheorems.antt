@@ -17,7 +17,7 @@ use Rattle.lines.specs.Written.{Written}
 use Rattle.lines.proofs.LineLaws.{count-line, count-none}
 use Rattle.lines.proofs.LayoutLaws.{laid-parts}
 use Rattle.lines.proofs.HeaderLaws.{header-inside, header-after, header-counted}
-use Rattle.lines.proofs.SheetLaws.{line-seen, line-inside, line-next, line-after, line-counted}
+use Rattle.lines.proofs.SheetLaws.{fault-seen, laid-seen, line-seen, line-inside, line-next, line-after, line-counted}
 
 -- ---- a line
 
@@ -86,6 +86,14 @@ line-there zero (x ∷ l) h = omega arith
 line-there (suc k) [] h = absurd (let z : lineCount [] ≡ 0 = count-none [] refl in omega arith)
 line-there (suc k) (x ∷ l) h = line-there k (rest (x ∷ l)) (let z : lineCount (x ∷ l) ≡ suc (lineCount (rest (x ∷ l))) = count-line (x ∷ l) (omega arith) in omega arith)
 
+-- and no other: after all the lines nothing is left
+pub after-all : (n : ℕ) (l : List ℕ) → lineCount l ≡ n → after n l ≡ []
+unfolding after
+after-all zero [] e = refl
+after-all zero (x ∷ l) e = absurd (omega (arith, count-line (x ∷ l) (omega arith)))
+after-all (suc n) [] e = absurd (let z : 0 ≡ suc n = (sym (count-none [] refl) ∙ e) in omega arith)
+after-all (suc n) (x ∷ l) e = after-all n (rest (x ∷ l)) (omega (arith, count-line (x ∷ l) (omega arith)))
+
 -- at most one line for each byte
 count-from-le : (b : Bool) (l : List ℕ) → countFrom b l ≤ length l
 unfolding countFrom
@@ -111,13 +119,12 @@ module _ (s : List ℕ) (k at : ℕ) (p : After s k at) (r : Line) (e : r ≡ li
   pub all-done : length s ≤ at → k ≡ lineCount s
   all-done h = omega (arith, p .counted, count-none (drop at s) (omega (arith, length-drop at s)))
 
-  content-seen : contentSeen s r ≡ contentAfter k s
-  content-seen = ap (contentSeen s) e ∙ (line-seen s at ∙ ap contentOf (p .here))
+  content-is : contentAfter k s ≡ contentSeen s r
+  content-is = sym (ap (contentSeen s) e ∙ (line-seen s at ∙ ap contentOf (p .here)))
 
   -- a line that is not ok is a layout fault
   pub step-fault : r .ok ≡ false → contentAfter k s ≡ fault
-  unfolding contentSeen
-  step-fault h = let z : cond (r .ok) (laid (r .warp) (take (r .end - r .start) (drop (r .start) s))) fault ≡ contentAfter k s = content-seen in sym (rw h at z)
+  step-fault h = content-is ∙ fault-seen s r h
 
   module _ (h : r .ok ≡ true) where
     ok-there : lineAt s at .ok ≡ true
@@ -125,8 +132,7 @@ module _ (s : List ℕ) (k at : ℕ) (p : After s k at) (r : Line) (e : r ≡ li
 
     -- a line that is ok is its warp and the bytes of its statement
     pub step-laid : contentAfter k s ≡ laid (r .warp) (take (r .end - r .start) (drop (r .start) s))
-    unfolding contentSeen
-    step-laid = let z : cond (r .ok) (laid (r .warp) (take (r .end - r .start) (drop (r .start) s))) fault ≡ contentAfter k s = content-seen in sym (rw h at z)
+    step-laid = content-is ∙ laid-seen s r h
 
     pub step-warp : r .warp ≤ 3
     step-warp =
