@@ -1,7 +1,7 @@
 -- Descriptors, words and requests that are given whole: one table under one claim. Assumes nothing.
 use Prim.Native.Nat.{ℕ}
 use mathlib.Core.Path.{_≡_}
-use mathlib.Core.Bool.{Bool, false}
+use mathlib.Core.Bool.{false}
 use mathlib.Core.List.{List, [], _∷_}
 use Rattle.instruction.specs.Instruction as I
 use Rattle.shared_memory.specs.Shared as S

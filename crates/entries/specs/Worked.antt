@@ -6,6 +6,7 @@ use mathlib.Core.Bool.{Bool, true, false}
 use mathlib.Core.List.{List, [], _∷_, map}
 use mathlib.Core.Option.{Option, none, some}
 use Rattle.laws.specs.Layout.{pack}
+use Rattle.laws.specs.Worked.{Gives}
 use Rattle.instruction.specs.Instruction as I
 use Rattle.instruction.specs.Descriptor.{Dtype, Element}
 use Rattle.instruction.specs.declared.Kind.{Kind}
@@ -20,10 +21,6 @@ Row C A B = C × List A × B
 -- a function gives each case of each row the row's answer
 abbrev pub Right : {C A B : Type 0} → (C → A → B) → List (Row C A B) → Type 0
 Right f rows = map (λ row. map (f (row .0)) (row .1)) rows ≡ map (λ row. map (λ _. row .2) (row .1)) rows
-
--- a function gives each case its answer
-abbrev pub Gives : {A B : Type 0} → (A → B) → List (A × B) → Type 0
-Gives f rows = map (λ row. f (row .0)) rows ≡ map (λ row. row .1) rows
 
 -- ---- instruction descriptors. The fields by codes: dtype, the two types, M and N, with nothing else set
 abbrev pub coded : ℕ → ℕ → ℕ → ℕ → ℕ → Fields

@@ -1,17 +1,19 @@
 -- A row of tokens stops at the first token at which it cannot go on: one induction over the row, for every row whose branches begin with different tokens. Assumes nothing.
-use Prim.Native.Nat.{ℕ, suc, _≤_, _<_}
+use Prim.Native.Nat.{ℕ, suc, _<_}
+use native.Mathlib.Nat.{add-zero}
 use native.Mathlib.Omega.{arith}
 use mathlib.Core.Path.{_≡_, refl, sym, ap, _∙_}
 use mathlib.Core.List.{List, [], _∷_, _++_, append-assoc}
 use mathlib.Core.Bool.{Bool, true, false, cond}
 use lib.ListN.{length, getD, take, drop, take-append-drop}
-use lib.Seq.{take-at, drop-at, length-take-le}
+use lib.Seq.{take-at, drop-at, length-take-le, getD-drop}
 use lib.Dec.{eqb}
 use borrow.Author.Tests.{ne-eqb, eqb-true}
 use Rattle.tokens.specs.Bytes.{letter, wordByte, blank, runLen, afterBlanks, tokenLen, tokenOf, afterToken}
 use Rattle.grammar.specs.Claims.{After, here, past}
-use Rattle.laws.proofs.BoolLaws.{never}
-use Rattle.tokens.proofs.Runs.{run-le}
+use Rattle.laws.proofs.BoolLaws.{never, cond-same}
+use Rattle.tokens.proofs.Runs.{run-le, run-all, all-run, run-next}
+use Rattle.tokens.proofs.Lengths.{token-le}
 use Rattle.grammar.proofs.Lexing.{starts, token-parts}
 
 -- ---- rows
@@ -52,20 +54,10 @@ head-none f [] h = refl
 head-none f (x ∷ y) h = rw h
 
 run-replay : (f : ℕ → Bool) (z y : List ℕ) → f (getD y 0 0) ≡ false → runLen f (take (runLen f z) z ++ y) ≡ runLen f z
-run-replay f [] y h = head-none f y h
-run-replay f (x ∷ z) y h = go (f x) refl (run-replay f z y h)
-  where
-    go : (b : Bool) → f x ≡ b → runLen f (take (runLen f z) z ++ y) ≡ runLen f z → runLen f (take (cond b (suc (runLen f z)) 0) (x ∷ z) ++ y) ≡ cond b (suc (runLen f z)) 0
-    go true e i = rw (e, i)
-    go false e i = head-none f y h
+run-replay f z y h = run-all f (take (runLen f z) z) y (all-run f z) (head-none f y h) ∙ length-take-le (runLen f z) z (run-le f z)
 
 pub run-stops : (f : ℕ → Bool) (z : List ℕ) → f 0 ≡ false → f (getD (drop (runLen f z) z) 0 0) ≡ false
-run-stops f [] h = h
-run-stops f (x ∷ z) h = go (f x) refl (run-stops f z h)
-  where
-    go : (b : Bool) → f x ≡ b → f (getD (drop (runLen f z) z) 0 0) ≡ false → f (getD (drop (cond b (suc (runLen f z)) 0) (x ∷ z)) 0 0) ≡ false
-    go true e i = i
-    go false e i = e
+run-stops f z h = rw (getD-drop (runLen f z) z 0 0, add-zero (runLen f z)) (run-next f h z)
 
 -- ---- blanks
 blanks : List ℕ → List ℕ
@@ -118,15 +110,6 @@ pub token-ends : (b : List ℕ) → Seam b (afterToken b)
 unfolding afterToken tokenLen wordByte letter
 token-ends [] w = refl
 token-ends (x ∷ z) w = rw w (run-stops wordByte z refl)
-
-token-le : (b : List ℕ) → tokenLen b ≤ length b
-unfolding tokenLen
-token-le [] = omega arith
-token-le (x ∷ l) = go (starts x)
-  where
-    go : (b : Bool) → suc (cond b (runLen wordByte l) 0) ≤ suc (length l)
-    go true = omega (arith, run-le wordByte l)
-    go false = omega arith
 
 len-replay : (b y : List ℕ) → 0 < length b → Seam b y → tokenLen (tokenOf b ++ y) ≡ tokenLen b
 unfolding tokenOf tokenLen
@@ -200,10 +183,6 @@ easy-light : (g : Row) → Light (easy g)
 easy-light end f a b = b
 easy-light (one f g) k a b = a
 easy-light (branch f g h) k a b = easy-light h k a b
-
-cond-same : (b : Bool) (n : ℕ) → cond b n n ≡ n
-cond-same true n = refl
-cond-same false n = refl
 
 abbrev Past : Kind → Row → Row → Type 0
 Past f g r = (x : List ℕ) → f .test (tokenOf (afterBlanks x)) ≡ true → reads r x ≡ reads g (afterToken (afterBlanks x))

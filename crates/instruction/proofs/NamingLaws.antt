@@ -8,11 +8,11 @@ use mathlib.Core.Option.{Option, none, some, Option·some-injective, Option·non
 use native.Mathlib.Omega.{arith}
 use lib.Dec.{eqb}
 use borrow.Author.Tests.{eqb-true, eqb-false}
-use Rattle.laws.specs.Tests.{all}
+use Rattle.laws.specs.Tests.{all, bit}
 use Rattle.laws.specs.Layout.{bits, ranges}
 use Rattle.laws.proofs.TestLaws.{and-split, find-passes, Each, each}
 use Rattle.laws.proofs.LayoutLaws.{Inside, within}
-use Rattle.instruction.specs.Instruction.{layout, kindNumber, kindOf, code, ofKind, elements, dtypeCode, dtypes, dtypeOf, elementOf, bit, values, numbers, filled, named3, named, rules}
+use Rattle.instruction.specs.Instruction.{layout, kindNumber, kindOf, code, ofKind, elements, dtypeCode, dtypes, dtypeOf, elementOf, values, numbers, filled, named3, named, rules}
 use Rattle.instruction.specs.declared.Kind.{Kind}
 use Rattle.instruction.specs.Descriptor.{Dtype, Element, Instruction}
 use Rattle.instruction.specs.declared.Fields.{Fields}

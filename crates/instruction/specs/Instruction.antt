@@ -6,7 +6,7 @@ use mathlib.Core.List.{List, [], _∷_}
 use mathlib.Core.Option.{Option, none, some}
 use lib.Dec.{eqb, leb}
 use lib.ListN.{getD}
-use Rattle.laws.specs.Tests.{all, among, find}
+use Rattle.laws.specs.Tests.{all, among, find, bit}
 use Rattle.laws.specs.Layout.{Part, plain, scaled, fixed, ranges, pack}
 use Rattle.laws.specs.Format.{readBy, wordBy}
 use Rattle.laws.specs.Rules.{Rule, rule, firstBroken}
@@ -104,10 +104,6 @@ dtypeOf c = find (λ d. eqb c (dtypeCode d)) dtypes
 
 abbrev pub elementOf : Kind → ℕ → Option Element
 elementOf kind c = find (λ t. ofKind kind t && eqb c (code t)) elements
-
-abbrev pub bit : Bool → ℕ
-bit true = 1
-bit false = 0
 
 -- the fields of a descriptor as numbers
 abbrev pub fields : Instruction → Fields

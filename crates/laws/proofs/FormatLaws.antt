@@ -1,13 +1,13 @@
 -- Reading and writing undo each other in every format whose layout tiles its word, whose descriptors that keep the rule are named by their own
 -- numbers, and in which numbers in range are those of the descriptor that they name. Assumes nothing.
 use Prim.Native.Nat.{ℕ, _^_, _<_}
-use mathlib.Core.Path.{_≡_, refl, ap, sym, _∙_, subst}
-use mathlib.Core.Bool.{Bool, true, false, _&&_, cond}
+use mathlib.Core.Path.{_≡_, refl, sym, _∙_, subst}
+use mathlib.Core.Bool.{Bool, true, _&&_, cond}
 use mathlib.Core.List.{List}
 use mathlib.Core.Option.{Option, none, some}
 use Rattle.laws.specs.Tests.{all}
 use Rattle.laws.specs.Layout.{Part, says, stands, ranges, pack, tiles}
-use Rattle.laws.specs.Format.{kept, readBy, wordBy}
+use Rattle.laws.specs.Format.{readBy, wordBy}
 use Rattle.laws.proofs.TestLaws.{and-split, chosen, cond-and, cond-same}
 use Rattle.laws.proofs.LayoutLaws.{packed, unpacked}
 

@@ -1,8 +1,8 @@
 -- The two laws of every layout. Each is shown for the parts taken off from the low end, where a word is a quotient and a remainder at a time; the
 -- tiling carries it to the bits that the layout names. Assumes nothing.
-use Prim.Native.Nat.{ℕ, zero, suc, _+_, _-_, _*_, _/_, _%_, _^_, _≤_, _<_}
-use mathlib.Core.Path.{_≡_, refl, ap, sym, _∙_, subst}
-use mathlib.Core.Bool.{Bool, true, false, _&&_}
+use Prim.Native.Nat.{ℕ, suc, _+_, _-_, _*_, _/_, _%_, _^_, _≤_, _<_}
+use mathlib.Core.Path.{_≡_, refl, ap, sym, _∙_}
+use mathlib.Core.Bool.{Bool, true, _&&_}
 use mathlib.Core.List.{List, [], _∷_}
 use native.Mathlib.Nat.{div-one, sub-zero, mul-one, sub-self, mod-lt, mul-comm, mul-assoc, add-comm, add-mul, mul-div-cancel, mul-mod-left, mul-le-mul-right, div-le-of-le-mul, div-add-mod'}
 use native.Mathlib.Omega.{arith}
@@ -11,7 +11,7 @@ use lib.Dec.{eqb, leb, ltb}
 use lib.Pow.{pow-pos, pow-add, high, low, split, shr-shr, shr-lt, le-ones, lt-of-le-ones}
 use borrow.Author.Tests.{eqb-true, leb-true, ltb-true, eq-eqb, le-leb}
 use Rattle.laws.specs.Tests.{all}
-use Rattle.laws.specs.Layout.{Part, plain, scaled, fixed, width, bits, says, stands, ranges, pack, tiles}
+use Rattle.laws.specs.Layout.{Part, plain, scaled, fixed, width, says, stands, ranges, pack, tiles}
 use Rattle.laws.proofs.TestLaws.{never, and-split, Each, each, all-of}
 
 -- what a number says by the parts taken off from its low end, the tests of its fixed parts, and the number of a list

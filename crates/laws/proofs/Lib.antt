@@ -1,4 +1,5 @@
 pub mod BoolLaws
+pub mod ListLaws
 pub mod TestLaws
 pub mod LayoutLaws
 pub mod FormatLaws

@@ -1,11 +1,16 @@
 -- What a list of tests says of its parts, and a search of what it finds. Assumes nothing.
-use Prim.Native.Nat.{ℕ}
+use Prim.Native.Nat.{_≤_}
+use native.Mathlib.Omega.{arith}
 use mathlib.Core.Path.{_≡_, refl, sym, subst}
 use mathlib.Core.Bool.{Bool, true, false, _&&_, _||_, cond}
 use mathlib.Core.List.{List, [], _∷_}
-use mathlib.Core.Option.{Option, none, some, Option·some-injective, Option·none-ne-some}
-use Rattle.laws.specs.Tests.{all, allFrom, find, isSome}
+use mathlib.Core.Option.{Option, some, Option·some-injective, Option·none-ne-some}
+use Rattle.laws.specs.Tests.{all, allFrom, find, bit, isSome}
 pub use Rattle.laws.proofs.BoolLaws.{never, and-split, and-join, cond-and, cond-same, chosen}
+
+pub bit-le : (b : Bool) → bit b ≤ 1
+bit-le true = omega arith
+bit-le false = omega arith
 
 -- every test of the list holds
 abbrev pub Each : List Bool → Type 0

@@ -2,7 +2,7 @@
 -- Two laws hold of every layout that tiles the word (proofs/LayoutLaws.antt): the word of numbers in range says those numbers, and a word whose
 -- fixed parts stand is the word of what it says. Assumes nothing.
 use Prim.Native.Nat.{ℕ, suc, _+_, _-_, _*_, _/_, _%_, _^_}
-use mathlib.Core.Bool.{Bool, true, false, _&&_}
+use mathlib.Core.Bool.{Bool, false, _&&_}
 use mathlib.Core.List.{List, [], _∷_}
 use lib.Dec.{eqb, leb, ltb}
 

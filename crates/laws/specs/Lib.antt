@@ -2,3 +2,4 @@ pub mod Tests
 pub mod Layout
 pub mod Format
 pub mod Rules
+pub mod Worked

@@ -1,4 +1,4 @@
--- Tests joined from the left, as the code's `&` and `|` join them. Assumes nothing.
+-- Tests joined from the left, as the code's `&` and `|` join them; a test as a number; a search. Assumes nothing.
 use Prim.Native.Nat.{ℕ}
 use mathlib.Core.Bool.{Bool, true, false, _&&_, _||_, cond}
 use mathlib.Core.List.{List, [], _∷_}
@@ -27,6 +27,11 @@ among x (y ∷ ys) = amongFrom (eqb x y) x ys
 abbrev pub find : {A : Type 0} → (A → Bool) → List A → Option A
 find test [] = none
 find test (x ∷ xs) = cond (test x) (some x) (find test xs)
+
+-- a test as a number
+abbrev pub bit : Bool → ℕ
+bit true = 1
+bit false = 0
 
 -- something was found
 abbrev pub isSome : {A : Type 0} → Option A → Bool

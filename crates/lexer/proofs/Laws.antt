@@ -1,12 +1,11 @@
 -- Laws of runs, tokens and digits, which the functions' proofs cite. Assumes nothing.
 use Prim.Native.Nat.{ℕ, suc, _+_, _-_, _<_, _≤_}
-use native.Mathlib.Numerals.{add-one}
 use native.Mathlib.Omega.{arith}
 use native.Mathlib.Decide.{decLe}
-use mathlib.Core.Path.{_≡_, refl, ap, _∙_, sym}
-use mathlib.Core.List.{List, [], _∷_}
-use mathlib.Core.Bool.{true≢false, Bool, true, false, _&&_, _||_, cond}
-use lib.ListN.{length, getD, drop, drop-of-length-le, length-drop}
+use mathlib.Core.Path.{_≡_, refl, ap, _∙_}
+use mathlib.Core.List.{List}
+use mathlib.Core.Bool.{Bool, true, false, _&&_, _||_, cond, and-true, or-false}
+use lib.ListN.{length, drop, drop-of-length-le, length-drop}
 use lib.Seq.{drop-cons, drop-drop}
 use lib.Dec.{leb, eqb}
 use borrow.Author.Tests.{eq-eqb, ne-eqb, le-leb, lt-leb}
@@ -15,51 +14,30 @@ use Rattle.tokens.specs.Numbers.{digitOf}
 use Rattle.tokens.specs.declared.Cursor.{Cursor}
 use Rattle.tokens.specs.Cursors.{Rest, seen}
 use Rattle.tokens.proofs.Runs.{run-le}
+use Rattle.tokens.proofs.Lengths.{token-le}
 use Rattle.lexer.specs.Places.{within}
 
--- ---- classes
-one-of : (b : Bool) → b ≡ (((b || false) || false) || false)
-one-of true = refl
-one-of false = refl
-
-two-of : (a b : Bool) → (a || b) ≡ (((a && true) || false) || b)
-two-of true b = refl
-two-of false b = refl
-
-in-two : (a b : Bool) → (a || b) ≡ ((((a || false) || false) || b) || false)
-in-two true b = refl
-in-two false true = refl
-in-two false false = refl
-
-or-no : (b : Bool) → b ≡ (b || false)
-or-no true = refl
-or-no false = refl
-
--- the classes of a byte, by the ranges that the code tests: from 97 on, up to the digits, and between
+-- ---- the classes of a byte, by the ranges that the code tests: from 97 on, up to the digits, and between
 module _ (x : ℕ) where
   pub word-high : 97 ≤ x → leb x 122 ≡ wordByte x
   unfolding wordByte letter
   word-high h =
-      rw (le-leb 65 x (omega arith), lt-leb x 90 (omega arith), le-leb 97 x h, le-leb 48 x (omega arith), lt-leb x 57 (omega arith), ne-eqb x 95 (omega arith), ne-eqb x 36 (omega arith))
-      (one-of (leb x 122))
+      simp (le-leb 65 x (omega arith), lt-leb x 90 (omega arith), le-leb 97 x h, le-leb 48 x (omega arith), lt-leb x 57 (omega arith), ne-eqb x 95 (omega arith), ne-eqb x 36 (omega arith), or-false)
 
   pub word-low : x ≤ 57 → (leb 48 x || eqb x 36) ≡ wordByte x
   unfolding wordByte letter
   word-low h =
-      rw (lt-leb 65 x (omega arith), lt-leb 97 x (omega arith), le-leb x 57 h, ne-eqb x 95 (omega arith))
-      (two-of (leb 48 x) (eqb x 36))
+      simp (lt-leb 65 x (omega arith), lt-leb 97 x (omega arith), le-leb x 57 h, ne-eqb x 95 (omega arith), and-true, or-false)
 
   pub word-mid : 57 < x → x < 97 → (leb 65 x && leb x 90 || eqb x 95) ≡ wordByte x
   unfolding wordByte letter
   word-mid g h =
-      rw (lt-leb 97 x h, le-leb 48 x (omega arith), lt-leb x 57 g, ne-eqb x 36 (omega arith))
-      (in-two (leb 65 x && leb x 90) (eqb x 95))
+      simp (lt-leb 97 x h, le-leb 48 x (omega arith), lt-leb x 57 g, ne-eqb x 36 (omega arith), or-false)
 
   pub opcode-high : 97 ≤ x → leb x 122 ≡ opcodeByte x
   unfolding opcodeByte letter
   opcode-high h =
-      rw (le-leb 65 x (omega arith), lt-leb x 90 (omega arith), le-leb 97 x h, le-leb 48 x (omega arith), lt-leb x 57 (omega arith), ne-eqb x 95 (omega arith), ne-eqb x 46 (omega arith), ne-eqb x 58 (omega arith))
-      (one-of (leb x 122) ∙ or-no _)
+      simp (le-leb 65 x (omega arith), lt-leb x 90 (omega arith), le-leb 97 x h, le-leb 48 x (omega arith), lt-leb x 57 (omega arith), ne-eqb x 95 (omega arith), ne-eqb x 46 (omega arith), ne-eqb x 58 (omega arith), or-false)
 
   pub opcode-low : x ≤ 58 → (leb 48 x || eqb x 46) ≡ opcodeByte x
   unfolding opcodeByte letter
@@ -68,15 +46,13 @@ module _ (x : ℕ) where
       go : Dec (x ≤ 57)
           → (leb 48 x || eqb x 46) ≡ (((((leb 65 x && leb x 90 || leb 97 x && leb x 122) || leb 48 x && leb x 57) || eqb x 95) || eqb x 46) || eqb x 58)
       go (yes p) =
-          rw (lt-leb 65 x (omega arith), lt-leb 97 x (omega arith), le-leb x 57 p, ne-eqb x 95 (omega arith), ne-eqb x 58 (omega arith))
-          (two-of (leb 48 x) (eqb x 46) ∙ or-no _)
+          simp (lt-leb 65 x (omega arith), lt-leb 97 x (omega arith), le-leb x 57 p, ne-eqb x 95 (omega arith), ne-eqb x 58 (omega arith), and-true, or-false)
       go (no q) = let e : x ≡ 58 = omega arith in rw e
 
   pub opcode-mid : 58 < x → x < 97 → (leb 65 x && leb x 90 || eqb x 95) ≡ opcodeByte x
   unfolding opcodeByte letter
   opcode-mid g h =
-      rw (lt-leb 97 x h, le-leb 48 x (omega arith), lt-leb x 57 (omega arith), ne-eqb x 46 (omega arith), ne-eqb x 58 (omega arith))
-      (in-two (leb 65 x && leb x 90) (eqb x 95) ∙ or-no _)
+      simp (lt-leb 97 x h, le-leb 48 x (omega arith), lt-leb x 57 (omega arith), ne-eqb x 46 (omega arith), ne-eqb x 58 (omega arith), or-false)
 
   pub digit-09 : 48 ≤ x → x ≤ 57 → x - 48 ≡ digitOf x
   unfolding digitOf
@@ -119,15 +95,6 @@ unfolding blank
 blank-is x h = eq-eqb x 32 h
 
 -- ---- tokens, in the words of the code
-token-le : (l : List ℕ) → tokenLen l ≤ length l
-unfolding tokenLen
-token-le [] = omega arith
-token-le (x ∷ l) = by (wordByte x || eqb x 37)
-  where
-    by : (b : Bool) → suc (cond b (runLen wordByte l) 0) ≤ suc (length l)
-    by true = omega (arith, run-le wordByte l)
-    by false = omega arith
-
 -- past the blanks
 pub blank-law : (s : List ℕ) (at i : ℕ) → i ≡ at + runLen blank (drop at s) → drop i s ≡ afterBlanks (drop at s)
 unfolding afterBlanks

@@ -1,11 +1,11 @@
 -- Laws of runs of word bytes, and of a token that is a name or none, which the functions' proofs cite. Assumes nothing.
-use Prim.Native.Nat.{ℕ, zero, suc, _+_, _*_, _-_, _^_, _<_, _≤_, min}
+use Prim.Native.Nat.{ℕ, suc, _+_, _*_, _-_, _^_, _<_, _≤_, min}
 use native.Mathlib.Numerals.{add-one}
-use native.Mathlib.Nat.{zero-add, suc-add}
+use native.Mathlib.Nat.{zero-add}
 use native.Mathlib.Omega.{arith}
 use native.Mathlib.Decide.{decLe}
 use mathlib.Core.Path.{_≡_, refl, sym, ap, _∙_}
-use mathlib.Core.List.{List, [], _∷_}
+use mathlib.Core.List.{List, _∷_}
 use mathlib.Core.Bool.{Bool, true, false, _&&_, _||_, true≢false, cond}
 use lib.ListN.{length, getD, take, drop, drop-of-length-le, length-take}
 use lib.Seq.{drop-cons, drop-drop, take-all, take-take, length-take-le, getD-drop}
@@ -13,13 +13,15 @@ use lib.Pow.{pow-add, pow-mono}
 use lib.Dec.{ltb, leb, eqb}
 use borrow.Author.Tests.{lt-ltb, le-ltb, le-leb, lt-leb, leb-true}
 use Rattle.tokens.specs.declared.Name.{Name}
-use Rattle.tokens.specs.Bytes.{between, letter, wordByte, runLen, all, tokenLen, tokenOf, afterToken}
+use Rattle.tokens.specs.Bytes.{between, letter, wordByte, runLen, tokenLen, tokenOf, afterToken}
 use Rattle.tokens.specs.Names.{sigil, isName, byteDigits, packed, noName}
 use Rattle.tokens.specs.Cursors.{Rest, Took, on, off, nameHere}
 use Rattle.lexer.specs.Runs.{wordsLen, thereBy, nameThere}
 use mathlib.Core.Bool.{and-false, and-true}
-use Rattle.laws.proofs.BoolLaws.{and-split}
-use Rattle.tokens.proofs.Runs.{run-le, run-step}
+use Rattle.laws.proofs.BoolLaws.{and-split, or-neither}
+use Rattle.laws.proofs.ListLaws.{drop-take}
+use Rattle.tokens.proofs.Runs.{run-le, run-step, all-run, run-next, run-in, run-split}
+use Rattle.tokens.proofs.Names.{name-path}
 use Rattle.lexer.proofs.Laws.{word-0}
 
 -- ---- packing
@@ -54,73 +56,18 @@ pack-short : (x : ℕ) (u : List ℕ) → length u ≤ 7 → record { hi = byteD
 unfolding packed
 pack-short x u h = rw (take-all 7 u h, drop-of-length-le u h, zero-add x)
 
-take-nil : (n : ℕ) → take {A = ℕ} n [] ≡ []
-take-nil zero = refl
-take-nil (suc n) = refl
-
-drop-take : (k n : ℕ) (l : List ℕ) → drop k (take (k + n) l) ≡ take n (drop k l)
-drop-take zero n l = rw (zero-add n)
-drop-take (suc k) n [] = rw (suc-add k n) (sym (take-nil n))
-drop-take (suc k) n (x ∷ l) = rw (suc-add k n) (drop-take k n l)
-
 first-byte : (x : ℕ) (u : List ℕ) → byteDigits 0 (x ∷ u) ≡ byteDigits x u
 first-byte x u = rw (zero-add x)
-
-same-parts : (a b c d : ℕ) → a ≡ b → c ≡ d → _≡_ {A = Name} (record { hi = a; lo = c }) (record { hi = b; lo = d })
-same-parts a b c d p q = rw (p, q)
 
 pack-long : (x n : ℕ) (m : List ℕ) → record { hi = byteDigits x (take 7 m); lo = byteDigits 0 (take n (drop 7 m)) } ≡ packed (x ∷ take (7 + n) m)
 unfolding packed
 pack-long x n m =
     let u = take (7 + n) m in
-    same-parts (byteDigits x (take 7 m)) (byteDigits 0 (x ∷ take 7 u)) (byteDigits 0 (take n (drop 7 m))) (byteDigits 0 (drop 7 u))
+    name-path (byteDigits x (take 7 m)) (byteDigits 0 (x ∷ take 7 u)) (byteDigits 0 (take n (drop 7 m))) (byteDigits 0 (drop 7 u))
     (sym (first-byte x (take 7 u) ∙ ap (byteDigits x) (take-take 7 (7 + n) m (omega arith))))
-    (ap (byteDigits 0) (sym (drop-take 7 n m)))
-
--- ---- runs
-all-run : (f : ℕ → Bool) (l : List ℕ) → all f (take (runLen f l) l) ≡ true
-all-run f [] = refl
-all-run f (x ∷ l) = by (f x) refl (all-run f l)
-  where
-    by : (b : Bool) → f x ≡ b → all f (take (runLen f l) l) ≡ true → all f (take (cond b (suc (runLen f l)) 0) (x ∷ l)) ≡ true
-    by true e h = rw e h
-    by false e h = refl
-
-run-next : (f : ℕ → Bool) → f 0 ≡ false → (l : List ℕ) → f (getD l (runLen f l) 0) ≡ false
-run-next f z [] = z
-run-next f z (x ∷ l) = by (f x) refl (run-next f z l)
-  where
-    by : (b : Bool) → f x ≡ b → f (getD l (runLen f l) 0) ≡ false → f (getD (x ∷ l) (cond b (suc (runLen f l)) 0) 0) ≡ false
-    by true e h = h
-    by false e h = e
-
-run-in : (f : ℕ → Bool) (l : List ℕ) (k : ℕ) → k < runLen f l → f (getD l k 0) ≡ true
-run-in f [] k h = absurd (omega arith)
-run-in f (x ∷ l) zero h = by (f x) refl h
-  where
-    by : (b : Bool) → f x ≡ b → 0 < cond b (suc (runLen f l)) 0 → f x ≡ true
-    by true e h = e
-    by false e h = absurd (omega arith)
-run-in f (x ∷ l) (suc k) h = by (f x) (run-in f l k) h
-  where
-    by : (b : Bool) → (k < runLen f l → f (getD l k 0) ≡ true) → suc k < cond b (suc (runLen f l)) 0 → f (getD l k 0) ≡ true
-    by true r h = r (omega arith)
-    by false r h = absurd (omega arith)
-
-run-split : (f : ℕ → Bool) (k : ℕ) (l : List ℕ) → k ≤ runLen f l → runLen f l ≡ k + runLen f (drop k l)
-run-split f zero l h = omega arith
-run-split f (suc k) [] h = absurd (omega arith)
-run-split f (suc k) (x ∷ l) h = by (f x) (run-split f k l) h
-  where
-    by : (b : Bool) → (k ≤ runLen f l → runLen f l ≡ k + runLen f (drop k l)) → suc k ≤ cond b (suc (runLen f l)) 0 → cond b (suc (runLen f l)) 0 ≡ suc k + runLen f (drop k l)
-    by true r h = omega (arith, r (omega arith))
-    by false r h = absurd (omega arith)
+    (let e : 7 + n - 7 ≡ n = omega arith in rw (drop-take 7 (7 + n) m, e))
 
 -- ---- a token that starts as a name does
-or-parts : (a b : Bool) → (a || b) ≡ false → (a ≡ false) × (b ≡ false)
-or-parts true b h = absurd (true≢false h)
-or-parts false b h = (refl, h)
-
 start-word : (x : ℕ) → (letter x || sigil x) ≡ true → (wordByte x || eqb x 37) ≡ true
 unfolding wordByte sigil
 start-word x h = by (letter x) (between 48 57 x) (eqb x 95) (eqb x 36) (eqb x 37) h
@@ -141,7 +88,7 @@ there-by x m h = rw (start-word x h, length-take-le (runLen wordByte m) m (run-l
 
 there-not : (x : ℕ) (m : List ℕ) → (letter x || sigil x) ≡ false → nameThere (x ∷ m) ≡ record { ok = false; value = noName; rest = x ∷ m }
 unfolding nameThere tokenOf tokenLen isName
-there-not x m h = let p = or-parts (letter x) (sigil x) h in rw (p .0, p .1)
+there-not x m h = let p = or-neither (letter x) (sigil x) h in rw (p .0, p .1)
 
 -- ---- the token at a position
 module _ (s : List ℕ) (at : ℕ) where

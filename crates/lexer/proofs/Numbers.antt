@@ -10,14 +10,14 @@ use mathlib.Core.Bool.{Bool, true, false, _&&_, _||_, not, true≢false, cond}
 use lib.ListN.{length, getD, take, drop, drop-of-length-le}
 use lib.Seq.{drop-cons, drop-drop, length-take-le, getD-drop}
 use lib.Dec.{ltb, leb, eqb}
-use borrow.Author.Tests.{eq-eqb, ne-eqb, le-leb, lt-leb, lt-ltb, le-ltb, ltb-true, ltb-false, leb-true, eqb-true, not-true}
+use borrow.Author.Tests.{eq-eqb, ne-eqb, le-leb, lt-leb, lt-ltb, le-ltb, ltb-true, ltb-false, not-true}
 use Rattle.tokens.specs.declared.Numeral.{Numeral}
-use Rattle.tokens.specs.Bytes.{between, wordByte, runLen, all, tokenLen, tokenOf, afterToken}
+use Rattle.tokens.specs.Bytes.{wordByte, runLen, all, tokenLen, tokenOf, afterToken}
 use Rattle.tokens.specs.Numbers.{digitOf, isDigit, hexMark, zeroLed, someDigits, isNumber, valueOf, numeralOf, fitted, noNumeral, positional}
 use Rattle.tokens.specs.Cursors.{Rest, on, off, numberHere}
 use Rattle.lexer.specs.Runs.{baseOf, digitsLen, digitsAfter, wholeRun, runNumeral, numeralLen}
 use mathlib.Core.Bool.{and-false}
-use Rattle.laws.proofs.BoolLaws.{and-split}
+use Rattle.laws.proofs.BoolLaws.{not-or}
 use Rattle.tokens.proofs.Runs.{run-stop, run-past, run-le}
 use Rattle.tokens.proofs.Classes.{figure-word, digit-word, x-word}
 use Rattle.lexer.proofs.Laws.{word-0}
@@ -140,15 +140,11 @@ some-by at n = go (decLe n 0)
     go (yes p) = rw (le-ltb 0 n p, le-leb (at + n) at (omega arith))
     go (no q) = rw (lt-ltb 0 n (omega arith), lt-leb (at + n) at (omega arith))
 
-neither : (a b : Bool) → (not a && not b) ≡ not (a || b)
-neither true b = refl
-neither false b = refl
-
 whole-by : (base : ℕ) (s : List ℕ) (at e : ℕ) → e ≡ at + digitsLen base (drop at s) → wholeRun base (drop at s) ≡ not (leb e at || wordByte (getD s e 0))
 unfolding wholeRun
 whole-by base s at e h =
     rw (h, getD-drop at s (digitsLen base (drop at s)) 0, some-by at (digitsLen base (drop at s)))
-    (neither (leb (at + digitsLen base (drop at s)) at) (wordByte (getD s (at + digitsLen base (drop at s)) 0)))
+    (sym (not-or (leb (at + digitsLen base (drop at s)) at) (wordByte (getD s (at + digitsLen base (drop at s)) 0))))
 
 module _ (base : ℕ) (s : List ℕ) (at e : ℕ) (h : e ≡ at + digitsLen base (drop at s)) where
   pub whole-none : (leb e at || wordByte (getD s e 0)) ≡ true → noNumeral ≡ runNumeral base (drop at s)

@@ -5,6 +5,13 @@ ghost use lib.ListN.{getD, drop};
 ghost use Rattle.tokens.specs.Bytes.{wordByte, opcodeByte, blank, runLen};
 ghost use Rattle.tokens.specs.Numbers.{digitOf};
 
+// A byte as a wider number.
+pub fn wide(x: u8) -> u64
+    ensures { λ r. ⌜ r ≡ x ⌝ }
+{
+    x as u64
+}
+
 // The value of a digit; 16 for any other byte.
 pub fn digit_of(x: u8) -> u8
     ensures { λ r. ⌜ r ≡ digitOf x ⌝ }
@@ -19,7 +26,7 @@ pub fn digit_of(x: u8) -> u8
         if b'f' < x {
             return 16;
         }
-        return x - 87;
+        return x - (b'a' - 10);
     }
     if x < b'A' {
         return 16;
@@ -27,7 +34,7 @@ pub fn digit_of(x: u8) -> u8
     if b'F' < x {
         return 16;
     }
-    x - 55
+    x - (b'A' - 10)
 }
 
 // A byte of a name or a number.

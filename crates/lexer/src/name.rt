@@ -1,5 +1,6 @@
 // Names, packed.
 use crate::bytes::is_word;
+use crate::bytes::wide;
 use crate::bytes::word_at;
 use tokens::Name;
 ghost use mathlib.Core.Path.{_≡_};
@@ -10,12 +11,6 @@ ghost use lib.Dec.{ltb, leb};
 ghost use Rattle.tokens.specs.Bytes.{letter, tokenLen};
 ghost use Rattle.tokens.specs.Names.{sigil, byteDigits, noName};
 ghost use Rattle.lexer.specs.Runs.{wordsLen, nameIn, nameThere};
-
-fn wide(x: u8) -> u64
-    ensures { λ r. ⌜ r ≡ x ⌝ }
-{
-    x as u64
-}
 
 pub fn is_letter(x: u8) -> bool
     ensures { λ r. ⌜ r ≡ letter x ⌝ }

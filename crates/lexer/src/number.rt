@@ -1,11 +1,13 @@
 // Numbers of any length, read in one pass.
 use crate::bytes::digit_of;
+use crate::bytes::wide;
 use crate::bytes::word_at;
 ghost use mathlib.Core.Path.{_≡_};
 ghost use Prim.Native.Nat.{_+_, _*_, _^_, _<_};
 ghost use mathlib.Core.Bool.{true, _||_};
 ghost use lib.ListN.{getD, drop};
 ghost use lib.Dec.{ltb, eqb};
+ghost use Rattle.tokens.specs.Text.{byte};
 ghost use Rattle.tokens.specs.Bytes.{runLen, tokenLen, tokenOf};
 ghost use Rattle.tokens.specs.Numbers.{isDigit, fitted, numeralOf};
 ghost use Rattle.lexer.specs.Runs.{baseOf, numeralIn, digitsLen, digitsAfter, runNumeral, numeralLen};
@@ -16,12 +18,6 @@ pub struct Digits {
     pub over: bool,
     pub value: u64,
     pub end: usize,
-}
-
-fn wide(x: u8) -> u64
-    ensures { λ r. ⌜ r ≡ x ⌝ }
-{
-    x as u64
 }
 
 // The base: 16 or 10.
@@ -101,7 +97,7 @@ fn run(s: &[u8], at: usize, hex: bool) -> Digits
 
 // Whether x or X stands at a position.
 fn x_at(s: &[u8], at: usize) -> bool
-    ensures { λ r. ⌜ r ≡ (eqb (getD (now (s .entry)) at 0) 120 || eqb (getD (now (s .entry)) at 0) 88) ⌝ }
+    ensures { λ r. ⌜ r ≡ (eqb (getD (now (s .entry)) at 0) (byte "x") || eqb (getD (now (s .entry)) at 0) (byte "X")) ⌝ }
 {
     if s.len() <= at {
         return false;

@@ -1,3 +1,6 @@
+pub mod LineLaws
+pub mod LayoutLaws
+pub mod HeaderLaws
 pub mod SheetLaws
 pub mod SheetTheorems
 pub mod Examples

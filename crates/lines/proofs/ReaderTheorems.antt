@@ -2,12 +2,13 @@
 -- out leads from after k lines to after k + 1. So from line 2 on, if each line is laid out, each comes in turn, and then the sheet's end. Assumes nothing.
 use Prim.Native.Nat.{ℕ, zero, suc, _+_, _-_, _<_}
 use native.Mathlib.Omega.{arith}
-use mathlib.Core.Path.{_≡_, refl, sym, ap, _∙_, subst}
+use mathlib.Core.Path.{_≡_, refl, ap, _∙_, subst}
 use mathlib.Core.List.{List, [], _∷_}
 use mathlib.Core.Bool.{true}
 use lib.ListN.{length, drop, length-drop}
 use Rattle.lines.specs.Sheet.{after, lineCount, laidOut, headed, bodyAt, contentOf, contentAfter, contentSeen, lineAt, placeAfter, After}
-use Rattle.lines.proofs.SheetLaws.{count-line, line-ok, line-seen}
+use Rattle.lines.proofs.LineLaws.{count-line}
+use Rattle.lines.proofs.SheetLaws.{line-ok, line-seen}
 use Rattle.lines.proofs.SheetTheorems.{after-header, step-after}
 
 -- with no line there is no byte

@@ -8,12 +8,16 @@ use mathlib.Core.Bool.{Bool, true, false, _&&_, _||_, cond}
 use lib.ListN.{length, getD, take, drop, length-drop}
 use lib.Dec.{leb, eqb}
 use borrow.Author.Tests.{eqb-true, leb-true, le-leb}
-use Rattle.laws.proofs.BoolLaws.{never, and-split}
-use Rattle.tokens.specs.Bytes.{all}
-use Rattle.lines.specs.Sheet.{textOf, endedOf, rest, after, countFrom, lineCount, warpByte, warpOf, plain, laidOut, Content, fault, laid, contentOf, contentAfter, headed, bodyAt, lineAt, After, contentSeen}
+use Rattle.laws.proofs.BoolLaws.{never}
+use Rattle.laws.proofs.TestLaws.{bit-le}
+use Rattle.tokens.specs.Text.{tab, lf}
+use Rattle.lines.specs.Sheet.{textOf, rest, after, countFrom, lineCount, warpByte, warpOf, laidOut, Content, fault, laid, contentOf, contentAfter, headed, bodyAt, lineAt, After, contentSeen}
 use Rattle.lines.specs.declared.Line.{Line}
 use Rattle.lines.specs.Written.{Written}
-use Rattle.lines.proofs.SheetLaws.{count-line, count-none, bit-le, header-inside, header-after, header-counted, line-seen, line-inside, line-next, line-after, line-counted}
+use Rattle.lines.proofs.LineLaws.{count-line, count-none}
+use Rattle.lines.proofs.LayoutLaws.{laid-parts}
+use Rattle.lines.proofs.HeaderLaws.{header-inside, header-after, header-counted}
+use Rattle.lines.proofs.SheetLaws.{fault-seen, laid-seen, line-seen, line-inside, line-next, line-after, line-counted}
 
 -- ---- a line
 
@@ -30,21 +34,16 @@ statementIn fault = []
 statementIn (laid w t) = t
 
 -- the text of a line that is laid out: its mark, a tab, its statement
-text-by : (t : List ℕ) → warpByte (getD t 0 0) ≡ true → eqb (getD t 1 0) 9 ≡ true → t ≡ getD t 0 0 ∷ (9 ∷ drop 2 t)
+text-by : (t : List ℕ) → warpByte (getD t 0 0) ≡ true → eqb (getD t 1 0) tab ≡ true → t ≡ getD t 0 0 ∷ (tab ∷ drop 2 t)
 unfolding warpByte
 text-by [] a b = never a
 text-by (x ∷ []) a b = never b
-text-by (x ∷ (y ∷ t)) a b = ap (λ (z : ℕ). x ∷ (z ∷ t)) (eqb-true y 9 b)
+text-by (x ∷ (y ∷ t)) a b = ap (λ (z : ℕ). x ∷ (z ∷ t)) (eqb-true y tab b)
 
 laid-written : (l : List ℕ) → laidOut l ≡ true → Written l (warpOf (getD (textOf l) 0 0)) (drop 2 (textOf l))
-unfolding laidOut
 laid-written l h =
-    let t = textOf l in
-    let a = and-split (warpByte (getD t 0 0) && eqb (getD t 1 0) 9 && all plain (drop 2 t) && endedOf l) (leb (length t) 2048) h in
-    let b = and-split (warpByte (getD t 0 0) && eqb (getD t 1 0) 9 && all plain (drop 2 t)) (endedOf l) (a .0) in
-    let d = and-split (warpByte (getD t 0 0) && eqb (getD t 1 0) 9) (all plain (drop 2 t)) (b .0) in
-    let e = and-split (warpByte (getD t 0 0)) (eqb (getD t 1 0) 9) (d .0) in
-    record { mark = getD t 0 0; line = text-by t (e .0) (e .1); marks = e .0; names = refl; shown = d .1; ended = b .1; short = leb-true (length t) 2048 (a .1) }
+    let a = laid-parts l h in
+    record { mark = getD (textOf l) 0 0; line = text-by (textOf l) (a .0) (a .1); marks = a .0; names = refl; shown = a .2; ended = a .3; short = a .4 }
 
 written-by : (l : List ℕ) (b : Bool) (w : ℕ) (t : List ℕ) → laidOut l ≡ b
     → cond b (laid (warpOf (getD (textOf l) 0 0)) (drop 2 (textOf l))) fault ≡ laid w t → Written l w t
@@ -87,11 +86,19 @@ line-there zero (x ∷ l) h = omega arith
 line-there (suc k) [] h = absurd (let z : lineCount [] ≡ 0 = count-none [] refl in omega arith)
 line-there (suc k) (x ∷ l) h = line-there k (rest (x ∷ l)) (let z : lineCount (x ∷ l) ≡ suc (lineCount (rest (x ∷ l))) = count-line (x ∷ l) (omega arith) in omega arith)
 
+-- and no other: after all the lines nothing is left
+pub after-all : (n : ℕ) (l : List ℕ) → lineCount l ≡ n → after n l ≡ []
+unfolding after
+after-all zero [] e = refl
+after-all zero (x ∷ l) e = absurd (omega (arith, count-line (x ∷ l) (omega arith)))
+after-all (suc n) [] e = absurd (let z : 0 ≡ suc n = (sym (count-none [] refl) ∙ e) in omega arith)
+after-all (suc n) (x ∷ l) e = after-all n (rest (x ∷ l)) (omega (arith, count-line (x ∷ l) (omega arith)))
+
 -- at most one line for each byte
 count-from-le : (b : Bool) (l : List ℕ) → countFrom b l ≤ length l
 unfolding countFrom
 count-from-le b [] = omega arith
-count-from-le b (x ∷ l) = omega (arith, count-from-le (eqb x 10) l, bit-le b)
+count-from-le b (x ∷ l) = omega (arith, count-from-le (eqb x lf) l, bit-le b)
 
 pub count-le : (l : List ℕ) → lineCount l ≤ length l
 unfolding lineCount
@@ -112,13 +119,12 @@ module _ (s : List ℕ) (k at : ℕ) (p : After s k at) (r : Line) (e : r ≡ li
   pub all-done : length s ≤ at → k ≡ lineCount s
   all-done h = omega (arith, p .counted, count-none (drop at s) (omega (arith, length-drop at s)))
 
-  content-seen : contentSeen s r ≡ contentAfter k s
-  content-seen = ap (contentSeen s) e ∙ (line-seen s at ∙ ap contentOf (p .here))
+  content-is : contentAfter k s ≡ contentSeen s r
+  content-is = sym (ap (contentSeen s) e ∙ (line-seen s at ∙ ap contentOf (p .here)))
 
   -- a line that is not ok is a layout fault
   pub step-fault : r .ok ≡ false → contentAfter k s ≡ fault
-  unfolding contentSeen
-  step-fault h = let z : cond (r .ok) (laid (r .warp) (take (r .end - r .start) (drop (r .start) s))) fault ≡ contentAfter k s = content-seen in sym (rw h at z)
+  step-fault h = content-is ∙ fault-seen s r h
 
   module _ (h : r .ok ≡ true) where
     ok-there : lineAt s at .ok ≡ true
@@ -126,8 +132,7 @@ module _ (s : List ℕ) (k at : ℕ) (p : After s k at) (r : Line) (e : r ≡ li
 
     -- a line that is ok is its warp and the bytes of its statement
     pub step-laid : contentAfter k s ≡ laid (r .warp) (take (r .end - r .start) (drop (r .start) s))
-    unfolding contentSeen
-    step-laid = let z : cond (r .ok) (laid (r .warp) (take (r .end - r .start) (drop (r .start) s))) fault ≡ contentAfter k s = content-seen in sym (rw h at z)
+    step-laid = content-is ∙ laid-seen s r h
 
     pub step-warp : r .warp ≤ 3
     step-warp =

@@ -1,12 +1,13 @@
 -- The sheet: its limits, its lines by number, and what a line is. Assumes nothing.
-use Rattle.tokens.specs.Text.{byte, bytes}
 use Prim.Native.Nat.{ℕ, zero, suc, _+_, _-_, _≤_}
 use mathlib.Core.Path.{_≡_}
 use mathlib.Core.List.{List, [], _∷_}
 use mathlib.Core.Bool.{Bool, true, false, _&&_, _||_, cond}
 use lib.ListN.{length, getD, take, drop}
 use lib.Dec.{ltb, leb, eqb}
-use Rattle.tokens.specs.Bytes.{between, all}
+use Rattle.laws.specs.Tests.{bit}
+use Rattle.tokens.specs.Text.{byte, bytes, tab, lf}
+use Rattle.tokens.specs.Bytes.{between, sameBytes, all}
 use Rattle.lines.specs.declared.Line.{Line}
 
 -- ---- lines end in LF
@@ -14,7 +15,7 @@ use Rattle.lines.specs.declared.Line.{Line}
 -- how many bytes stand before the first LF, or before the end
 unfoldable pub upto : List ℕ → ℕ
 upto [] = 0
-upto (x ∷ l) = cond (eqb x (byte "\n")) 0 (suc (upto l))
+upto (x ∷ l) = cond (eqb x lf) 0 (suc (upto l))
 
 -- the first line, without its LF
 unfoldable pub textOf : List ℕ → List ℕ
@@ -33,14 +34,10 @@ unfoldable pub after : ℕ → List ℕ → List ℕ
 after zero l = l
 after (suc k) l = after k (rest l)
 
-abbrev pub bit : Bool → ℕ
-bit true = 1
-bit false = 0
-
 -- how many lines: one for each byte at which a line begins, the first and each one after an LF
 unfoldable pub countFrom : Bool → List ℕ → ℕ
 countFrom begins [] = 0
-countFrom begins (x ∷ l) = bit begins + countFrom (eqb x (byte "\n")) l
+countFrom begins (x ∷ l) = bit begins + countFrom (eqb x lf) l
 
 unfoldable pub lineCount : List ℕ → ℕ
 lineCount l = countFrom true l
@@ -48,7 +45,7 @@ lineCount l = countFrom true l
 -- how many LFs
 unfoldable pub lfs : List ℕ → ℕ
 lfs [] = 0
-lfs (x ∷ l) = bit (eqb x (byte "\n")) + lfs l
+lfs (x ∷ l) = bit (eqb x lf) + lfs l
 
 -- ---- line 1
 
@@ -59,13 +56,6 @@ header = bytes "sheet\t1\tsm_100a"
 -- where line 2 starts: after the header and its LF
 abbrev pub bodyAt : ℕ
 bodyAt = suc (length header)
-
--- two lists have the same bytes
-unfoldable pub sameBytes : List ℕ → List ℕ → Bool
-sameBytes [] [] = true
-sameBytes [] (y ∷ m) = false
-sameBytes (x ∷ l) [] = false
-sameBytes (x ∷ l) (y ∷ m) = eqb x y && sameBytes l m
 
 -- line 1 is exactly the header
 unfoldable pub headed : List ℕ → Bool
@@ -81,15 +71,15 @@ warpByte x = between (byte "0") (byte "3") x || eqb x (byte "*")
 unfoldable pub warpOf : ℕ → ℕ
 warpOf x = cond (eqb x (byte "*")) 0 (x - byte "0")
 
--- a byte of a statement
+-- a byte of a statement: a space, and all that print
 unfoldable pub plain : ℕ → Bool
-plain x = between 32 126 x
+plain x = between (byte " ") (byte "~") x
 
 -- the layout of a line after the first: a warp byte, a tab, bytes of a statement alone, an LF, and at most 2,048 bytes before that
 unfoldable pub laidOut : List ℕ → Bool
 laidOut l =
     warpByte (getD (textOf l) 0 0)
-    && eqb (getD (textOf l) 1 0) 9
+    && eqb (getD (textOf l) 1 0) tab
     && all plain (drop 2 (textOf l))
     && endedOf l
     && leb (length (textOf l)) 2048

@@ -4,13 +4,14 @@ use mathlib.Core.Path.{_≡_}
 use mathlib.Core.List.{List, _∷_}
 use mathlib.Core.Bool.{true}
 use lib.ListN.{length}
+use Rattle.tokens.specs.Text.{tab}
 use Rattle.tokens.specs.Bytes.{all}
 use Rattle.lines.specs.Sheet.{textOf, endedOf, warpByte, warpOf, plain}
 
 -- the first line is a mark, a tab and a statement's bytes, which an LF ends; the mark is one of a warp's
 pub record Written (l : List ℕ) (warp : ℕ) (statement : List ℕ) : Type 0 where
   pub mark : ℕ
-  pub line : textOf l ≡ mark ∷ (9 ∷ statement)
+  pub line : textOf l ≡ mark ∷ (tab ∷ statement)
   pub marks : warpByte mark ≡ true
   pub names : warp ≡ warpOf mark
   pub shown : all plain statement ≡ true

@@ -3,8 +3,9 @@ ghost use mathlib.Core.Path.{_≡_};
 ghost use mathlib.Core.Bool.{true, cond};
 ghost use Prim.Native.Nat.{_+_, _<_, _≤_, _^_};
 ghost use lib.ListN.{length, getD, take, drop};
+ghost use Rattle.laws.specs.Tests.{bit};
 ghost use Rattle.tokens.specs.Bytes.{all, runLen};
-ghost use Rattle.lines.specs.Sheet.{bit, upto, lfs, lineCount, oversize, headed, warpByte, warpOf, plain, laidOut, lineAt};
+ghost use Rattle.lines.specs.Sheet.{upto, lfs, lineCount, oversize, headed, warpByte, warpOf, plain, laidOut, lineAt};
 
 // The bytes of line 1, its LF among them: where line 2 starts.
 pub const HEADER: usize = 16;
@@ -131,7 +132,7 @@ fn warp_of(b: u8) -> u8
 fn is_plain(b: u8) -> bool
     ensures { λ r. ⌜ r ≡ plain b ⌝ }
 {
-    (32 <= b) & (b <= 126)
+    (b' ' <= b) & (b <= b'~')
 }
 
 // Whether the 16 bytes from a place on are all 32 to 126. No way out but the end: vector code.

@@ -3,10 +3,11 @@
 use Prim.Native.Nat.{ℕ, zero, suc, _+_, _*_}
 use mathlib.Core.Path.{_≡_}
 use mathlib.Core.Bool.{Bool, true, false, cond}
-use mathlib.Core.List.{List, [], _∷_, _++_, map}
+use mathlib.Core.List.{List, [], _∷_, _++_}
 use mathlib.Core.Option.{none}
 use lib.ListN.{getD, length}
 use Rattle.laws.specs.Rules.{firstBroken}
+use Rattle.laws.specs.Worked.{Gives}
 use Rattle.tokens.specs.declared.Name.{Name}
 use Rattle.instruction.specs.declared.Kind.the-variants.{F16}
 use Rattle.statement.specs.declared.Address.{Address}
@@ -24,10 +25,6 @@ use Rattle.rules.specs.declared.Answer.{Answer}
 use Rattle.rules.specs.State.{State, Allocation, Binding, lowest}
 use Rattle.rules.specs.Reasons.{openRules}
 use Rattle.rules.specs.Sheet.{Line, badLayout, noForm, tooLarge, statement, Sheet, answer, answerOf}
-
--- a function gives each case its answer
-abbrev pub Gives : {A B : Type 0} → (A → B) → List (A × B) → Type 0
-Gives f rows = map (λ row. f (row .0)) rows ≡ map (λ row. row .1) rows
 
 -- ---- lines
 abbrev pub name : ℕ → Name

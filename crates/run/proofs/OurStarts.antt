@@ -26,7 +26,7 @@ use Rattle.rules.specs.State.{State, Allocation, covers, isFree, freeFrom, slot
 use Rattle.rules.specs.Reasons as reasons
 use Rattle.rules.specs.Sheet.{Line, badLayout, noForm, tooLarge, statement, Sheet, ours, lineRules, lineEffect, added, acted, effect, given, startList, stateBy, startsBy, rulesBy, heldAfter, peakUpTo, answerBy, startsOf, placesAfter}
 use Rattle.rules.specs.Claims.{AllKept}
-use Rattle.laws.proofs.BoolLaws.{and-l, and-r, bool, clash}
+use Rattle.laws.proofs.BoolLaws.{and-l, and-r, and-join, not-or, bool, clash}
 use Rattle.rules.proofs.CountingLaws.{every-at, every-all, least-hit, least-below}
 use Rattle.rules.proofs.RuleLaws.{Accepted, accepted, request-kept, releases-kept}
 use Rattle.rules.proofs.Figures.{held-total}
@@ -52,10 +52,6 @@ same-alike (g ∷ a) [] e = absurd e
 same-alike (g ∷ a) (h ∷ b) e = (e .0, e .2, same-alike a b (e .3))
 
 -- a column is free by the rules where it is not held in the run
-not-or : (a b : Bool) → not (a || b) ≡ not a && not b
-not-or true b = refl
-not-or false b = refl
-
 same-free : (a : List Allocation) (b : List Holding) (c : ℕ) → Same a b → isFree a c ≡ not (held b c)
 unfolding isFree held covers within
 same-free [] [] c e = refl
@@ -83,18 +79,15 @@ same-added n v none a b e g = absurd (clash e refl)
 same-added n v (some x) a b e g = (refl, refl, refl, g)
 
 -- ---- the placing
-and-both : (a b : Bool) → a ≡ true → b ≡ true → a && b ≡ true
-and-both a b p q = rw (p, q)
-
 -- a free run from a multiple of 32 may be used
 free-usable : (a : List Allocation) (b : List Holding) (x i : ℕ) → Same a b → freeFrom a x (i * 32) ≡ true → usable b x (i * 32) ≡ true
 unfolding freeFrom usable
 free-usable a b x i e f =
     let top : i * 32 + x ≤ 512 = leb-true (i * 32 + x) 512 (and-l (leb (i * 32 + x) 512) (every (isFree a) (i * 32) x) f) in
     let all = and-r (leb (i * 32 + x) 512) (every (isFree a) (i * 32) x) f in
-    and-both (eqb (i * 32 % 32) 0) (every (λ c. ltb c 512 && not (held b c)) (i * 32) x) (eq-eqb (i * 32 % 32) 0 (omega arith))
+    and-join (eqb (i * 32 % 32) 0) (every (λ c. ltb c 512 && not (held b c)) (i * 32) x) (eq-eqb (i * 32 % 32) 0 (omega arith))
     (every-all (λ c. ltb c 512 && not (held b c)) (i * 32) x
-    (λ c p q. and-both (ltb c 512) (not (held b c)) (lt-ltb c 512 (omega (arith, top, q))) (sym (same-free a b c e) ∙ every-at (isFree a) (i * 32) x c all p q)))
+    (λ c p q. and-join (ltb c 512) (not (held b c)) (lt-ltb c 512 (omega (arith, top, q))) (sym (same-free a b c e) ∙ every-at (isFree a) (i * 32) x c all p q)))
 
 -- and a start that may be used for some columns is a free run
 usable-free-run : (a : List Allocation) (b : List Holding) (x start : ℕ) → Same a b → 0 < x → usable b x start ≡ true → freeFrom a x start ≡ true
@@ -103,7 +96,7 @@ usable-free-run a b zero start e p u = absurd (omega (arith, p))
 usable-free-run a b (suc x) start e p u =
     let end = usable-at b (suc x) start (start + x) u (omega arith) (omega arith) in
     let top : start + x < 512 = ltb-true (start + x) 512 (and-l (ltb (start + x) 512) (not (held b (start + x))) end) in
-    and-both (leb (start + suc x) 512) (every (isFree a) start (suc x)) (le-leb (start + suc x) 512 (omega (arith, top)))
+    and-join (leb (start + suc x) 512) (every (isFree a) start (suc x)) (le-leb (start + suc x) 512 (omega (arith, top)))
     (every-all (isFree a) start (suc x) (λ c q r. same-free a b c e ∙ and-r (ltb c 512) (not (held b c)) (usable-at b (suc x) start c u q r)))
 
 aligned : (b : List Holding) (x start : ℕ) → usable b x start ≡ true → start ≡ start / 32 * 32

@@ -5,6 +5,7 @@ use mathlib.Core.Bool.{Bool, true, false, not, _&&_, _||_, cond}
 use mathlib.Core.List.{List, [], _∷_, _++_}
 use mathlib.Core.Option.{Option, none, some}
 use lib.Dec.{leb, ltb, eqb}
+use Rattle.laws.specs.Tests.{isSome}
 use Rattle.tokens.specs.declared.Name.{Name}
 use Rattle.tokens.specs.Names.{sameName}
 use Rattle.statement.specs.declared.Address.{Address}
@@ -149,13 +150,9 @@ unfoldable pub allLie : List Region → List Holding → Bool
 allLie [] l = true
 allLie (r ∷ rs) l = has (lies r) l && allLie rs l
 
-abbrev pub isThere : Option ℕ → Bool
-isThere none = false
-isThere (some v) = true
-
 -- the number that a statement needs was moved: that under idesc
 unfoldable pub known : List Note → Act → Bool
-known v t = of (mmaIn t) (λ m. isThere (numberOf (m .idesc) v)) true
+known v t = of (mmaIn t) (λ m. isSome (numberOf (m .idesc) v)) true
 
 -- ---- a line
 -- whether a statement can be done: an alloc of a name that is not live, at a start that may be used; a dealloc of a holding of that name and

@@ -1,19 +1,17 @@
 -- Words of opcodes. A word is recognised as an opcode exactly where it is that opcode's; antt computes for each that its word is no other's before it,
 -- and that it has opcode bytes alone. Assumes nothing.
 use Prim.Native.Nat.{ℕ}
-use mathlib.Core.Path.{_≡_, refl, sym, ap, _∙_}
-use mathlib.Core.List.{List, [], _∷_, _++_}
-use mathlib.Core.Bool.{Bool, true, false, _&&_}
+use mathlib.Core.Path.{_≡_, refl}
+use mathlib.Core.List.{List}
+use mathlib.Core.Bool.{Bool, true, false}
 use mathlib.Core.Option.{Option, none, some}
-use lib.Dec.{eqb}
 use native.Mathlib.Omega.{arith}
-use borrow.Author.Tests.{eq-eqb, eqb-true}
 use Rattle.laws.specs.Tests.{find}
-use Rattle.laws.proofs.BoolLaws.{never, and-split}
 use Rattle.laws.proofs.TestLaws.{find-passes}
 use Rattle.instruction.specs.declared.Kind.{Kind}
 use Rattle.instruction.specs.declared.Kind.the-variants.{F16, Tf32, F8f6f4, I8}
-use Rattle.tokens.specs.Bytes.{letter, opcodeByte, all}
+use Rattle.tokens.specs.Bytes.{sameBytes, letter, opcodeByte, all}
+use Rattle.tokens.proofs.Bytes.{same-eq}
 use Rattle.statement.specs.declared.Shape.{Shape}
 use Rattle.statement.specs.declared.Shape.the-variants.{S32x32, S16x64, S16x128, S16x256}
 use Rattle.statement.specs.declared.Num.{Num}
@@ -22,20 +20,7 @@ use Rattle.statement.specs.declared.Opcode.{Opcode}
 use Rattle.statement.specs.declared.Opcode.the-variants.{Mov32, Mov64, Alloc, Dealloc, Relinquish, Load, Store, WaitLoad, WaitStore, FenceBefore, FenceAfter, Multiply, Exit}
 use Rattle.statement.specs.declared.Found.the-variants.{Is, Nothing}
 use Rattle.statement.specs.Forms.{word}
-use Rattle.statement.specs.Opcodes.{sameBytes, opcodes, foundBy, recognise}
-
--- ---- bytes
-pub same-refl : (w : List ℕ) → sameBytes w w ≡ true
-same-refl [] = refl
-same-refl (x ∷ w) = rw (eq-eqb x x refl) (same-refl w)
-
-pub same-eq : (v w : List ℕ) → sameBytes v w ≡ true → v ≡ w
-same-eq [] [] h = refl
-same-eq [] (y ∷ w) h = never h
-same-eq (x ∷ v) [] h = never h
-same-eq (x ∷ v) (y ∷ w) h =
-    let p = and-split (eqb x y) (sameBytes v w) h in
-    rw (eqb-true x y (p .0), same-eq v w (p .1))
+use Rattle.statement.specs.Opcodes.{opcodes, foundBy, recognise}
 
 -- ---- every opcode, one by one
 module _ (P : Opcode → Type 0) where

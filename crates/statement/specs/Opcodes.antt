@@ -1,10 +1,10 @@
 -- The opcodes of the table, and the one whose word is given. Assumes nothing.
 use Prim.Native.Nat.{ℕ}
 use mathlib.Core.List.{List, [], _∷_, _++_}
-use mathlib.Core.Bool.{Bool, true, false, _&&_}
+use mathlib.Core.Bool.{Bool, true, false}
 use mathlib.Core.Option.{Option, none, some}
-use lib.Dec.{eqb}
 use Rattle.laws.specs.Tests.{find}
+use Rattle.tokens.specs.Bytes.{sameBytes}
 use Rattle.instruction.specs.declared.Kind.{Kind}
 use Rattle.instruction.specs.declared.Kind.the-variants.{F16, Tf32, F8f6f4, I8}
 use Rattle.statement.specs.declared.Shape.{Shape}
@@ -44,12 +44,6 @@ opcodes =
     )
 
 -- ---- the opcode of a word
-abbrev pub sameBytes : List ℕ → List ℕ → Bool
-sameBytes [] [] = true
-sameBytes [] (y ∷ m) = false
-sameBytes (x ∷ l) [] = false
-sameBytes (x ∷ l) (y ∷ m) = eqb x y && sameBytes l m
-
 abbrev pub foundBy : Option Opcode → Found
 foundBy none = Nothing
 foundBy (some o) = Is o

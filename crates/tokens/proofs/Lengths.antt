@@ -1,14 +1,26 @@
--- How many bytes names and decimals have. Assumes nothing.
+-- How many bytes tokens, names and decimals have. Assumes nothing.
 use Prim.Native.Nat.{ℕ, zero, suc, _+_, _/_, _%_, _≤_}
 use native.Mathlib.Omega.{arith}
 use mathlib.Core.Path.{_≡_, refl}
 use mathlib.Core.List.{List, [], _∷_}
-use mathlib.Core.Bool.{Bool, true, false, cond}
+use mathlib.Core.Bool.{Bool, true, false, _||_, cond}
 use lib.ListN.{length, length-append}
 use lib.Dec.{eqb}
 use Rattle.tokens.specs.declared.Name.{Name}
+use Rattle.tokens.specs.Text.{byte}
+use Rattle.tokens.specs.Bytes.{wordByte, runLen, tokenLen}
 use Rattle.tokens.specs.Names.{lowBytes, strip, nameBytes}
 use Rattle.tokens.specs.Numbers.{lowDigits, trimmed, decimal}
+use Rattle.tokens.proofs.Runs.{run-le}
+
+pub token-le : (l : List ℕ) → tokenLen l ≤ length l
+unfolding tokenLen
+token-le [] = omega arith
+token-le (x ∷ l) = by (wordByte x || eqb x (byte "%"))
+  where
+    by : (b : Bool) → suc (cond b (runLen wordByte l) 0) ≤ suc (length l)
+    by true = omega (arith, run-le wordByte l)
+    by false = omega arith
 
 pub cond-le : (b : Bool) (l m : List ℕ) (n : ℕ) → length l ≤ n → length m ≤ n → length (cond b l m) ≤ n
 cond-le true l m n p q = p
@@ -45,5 +57,3 @@ digits-length (suc k) v = omega (arith, length-append (lowDigits k (v / 10)) ((4
 pub decimal-short : (v : ℕ) → length (decimal v) ≤ 20
 unfolding decimal
 decimal-short v = omega (arith, trimmed-short (lowDigits 20 v), digits-length 20 v)
-
--- ---- operands

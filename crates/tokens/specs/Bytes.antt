@@ -1,6 +1,6 @@
 -- Bytes by class, and the token at the head of a list of bytes. Assumes nothing.
 use Rattle.tokens.specs.Text.{byte}
-use Prim.Native.Nat.{ℕ, zero, suc}
+use Prim.Native.Nat.{ℕ, suc}
 use mathlib.Core.List.{List, [], _∷_}
 use mathlib.Core.Bool.{Bool, true, false, _&&_, _||_, cond}
 use lib.ListN.{take, drop}
@@ -8,6 +8,13 @@ use lib.Dec.{leb, eqb}
 
 abbrev pub between : ℕ → ℕ → ℕ → Bool
 between a e x = leb a x && leb x e
+
+-- two lists have the same bytes
+abbrev pub sameBytes : List ℕ → List ℕ → Bool
+sameBytes [] [] = true
+sameBytes [] (y ∷ m) = false
+sameBytes (x ∷ l) [] = false
+sameBytes (x ∷ l) (y ∷ m) = eqb x y && sameBytes l m
 
 -- A to Z, a to z
 unfoldable pub letter : ℕ → Bool

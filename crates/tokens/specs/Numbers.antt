@@ -4,13 +4,16 @@ use Prim.Native.Nat.{ℕ, zero, suc, _+_, _-_, _*_, _/_, _%_, _^_}
 use mathlib.Core.List.{List, [], _∷_, _++_}
 use mathlib.Core.Bool.{Bool, true, false, _&&_, _||_, not, cond}
 use lib.ListN.{length, getD, drop}
-use lib.Dec.{ltb, leb, eqb}
+use lib.Dec.{ltb, eqb}
 use Rattle.tokens.specs.declared.Numeral.{Numeral}
 use Rattle.tokens.specs.Bytes.{between, all}
 
--- 0 to 9, A to F, a to f; 16 for any other byte
+-- 0 to 9; A to F and a to f, from 10 on; 16 for any other byte
 unfoldable pub digitOf : ℕ → ℕ
-digitOf x = cond (between (byte "0") (byte "9") x) (x - byte "0") (cond (between (byte "A") (byte "F") x) (x - 55) (cond (between (byte "a") (byte "f") x) (x - 87) 16))
+digitOf x =
+    cond (between (byte "0") (byte "9") x) (x - byte "0")
+    (cond (between (byte "A") (byte "F") x) (x - (byte "A" - 10))
+    (cond (between (byte "a") (byte "f") x) (x - (byte "a" - 10)) 16))
 
 unfoldable pub isDigit : ℕ → ℕ → Bool
 isDigit base x = ltb (digitOf x) base
@@ -45,10 +48,6 @@ noNumeral = record { ok = false; over = false; value = 0 }
 -- the value, or that it is over 2^64 - 1
 unfoldable pub fitted : ℕ → Numeral
 fitted v = cond (ltb v (2 ^ 64)) (record { ok = true; over = false; value = v }) (record { ok = true; over = true; value = 0 })
-
--- the digits after v, if they are digits
-unfoldable pub digitsOf : ℕ → ℕ → List ℕ → Numeral
-digitsOf base v d = cond (all (isDigit base) d) (fitted (positional base v d)) noNumeral
 
 unfoldable pub numeralOf : List ℕ → Numeral
 numeralOf w = cond (isNumber w) (fitted (valueOf w)) noNumeral

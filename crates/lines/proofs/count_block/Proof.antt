@@ -4,8 +4,11 @@ use mathlib.Core.Path.{_≡_}
 use lib.ListN.{getD, drop}
 use lib.Dec.{eqb}
 use native.Mathlib.Omega.{arith}
-use Rattle.lines.specs.Sheet.{bit, lfs}
-use Rattle.lines.proofs.SheetLaws.{lfs-step, bit-le}
+use Rattle.laws.specs.Tests.{bit}
+use Rattle.laws.proofs.TestLaws.{bit-le}
+use Rattle.tokens.specs.Text.{lf}
+use Rattle.lines.specs.Sheet.{lfs}
+use Rattle.lines.proofs.LineLaws.{lfs-step}
 use Rattle.lines.proofs.count_block.Statement.{statement}
 use Rattle.lines.proofs.count_block.Tie as tie
 
@@ -36,8 +39,8 @@ loop-again : tie.Need-loop-again Inv-loop μ-loop
 loop-again c =
     let l = c .before .before .before .loop in
     let s = c .before .before .before .before .before .args .s .now in
-    let e : c .one-if .result ≡ l .n + bit (eqb (getD s (l .i) 0) 10) = c .one-if .ensures in
-    (omega arith, omega (arith, bit-le (eqb (getD s (l .i) 0) 10)), omega (arith, lfs-step s (l .i) (omega arith)))
+    let e : c .one-if .result ≡ l .n + bit (eqb (getD s (l .i) 0) lf) = c .one-if .ensures in
+    (omega arith, omega (arith, bit-le (eqb (getD s (l .i) 0) lf)), omega (arith, lfs-step s (l .i) (omega arith)))
 
 returns : tie.Need-returns Inv-loop μ-loop
 returns c =

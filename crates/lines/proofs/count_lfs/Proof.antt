@@ -5,7 +5,7 @@ use lib.ListN.{length, drop}
 use native.Mathlib.Omega.{arith}
 use borrow.Author.Needs.{needs}
 use Rattle.lines.specs.Sheet.{lfs}
-use Rattle.lines.proofs.SheetLaws.{lfs-past}
+use Rattle.lines.proofs.LineLaws.{lfs-past}
 use Rattle.lines.proofs.count_lfs.Statement.{statement}
 use Rattle.lines.proofs.count_lfs.Tie as tie
 

@@ -2,7 +2,7 @@
 use mathlib.Core.Path.{sym}
 use native.Mathlib.Omega.{arith}
 use borrow.Author.Needs.{needs}
-use Rattle.lines.proofs.SheetLaws.{count-ended, count-open, count-none}
+use Rattle.lines.proofs.LineLaws.{count-ended, count-open, count-none}
 use Rattle.lines.proofs.count_lines.Statement.{statement}
 use Rattle.lines.proofs.count_lines.Tie as tie
 

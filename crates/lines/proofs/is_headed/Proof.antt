@@ -5,7 +5,7 @@ use Prim.Native.Nat.{_-_, _≤_}
 use mathlib.Core.Path.{_≡_, refl, sym, _∙_}
 use lib.ListN.{drop}
 use native.Mathlib.Omega.{arith}
-use Rattle.lines.proofs.SheetLaws.{matchAt, headerLine, headed-match, match-step, match-stop, match-end}
+use Rattle.lines.proofs.HeaderLaws.{matchAt, headerLine, headed-match, match-step, match-stop, match-end}
 use Rattle.lines.proofs.is_headed.Statement.{statement}
 use Rattle.lines.proofs.is_headed.Tie as tie
 

@@ -2,7 +2,7 @@
 -- those of the layout. Assumes nothing.
 use mathlib.Core.Bool.{true, false}
 use borrow.Author.Needs.{needs}
-use Rattle.lines.proofs.SheetLaws.{measured-as}
+use Rattle.lines.proofs.LayoutLaws.{measured-as}
 use Rattle.lines.proofs.laid_length.Statement.{statement}
 use Rattle.lines.proofs.laid_length.Tie as tie
 

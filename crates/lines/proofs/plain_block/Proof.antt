@@ -8,7 +8,7 @@ use native.Mathlib.Nat.{add-zero}
 use borrow.Author.Needs.{needs}
 use Rattle.tokens.specs.Bytes.{all}
 use Rattle.lines.specs.Sheet.{plain}
-use Rattle.lines.proofs.SheetLaws.{all-step, all-end}
+use Rattle.lines.proofs.LayoutLaws.{all-step, all-end}
 use Rattle.lines.proofs.plain_block.Statement.{statement}
 use Rattle.lines.proofs.plain_block.Tie as tie
 

@@ -6,7 +6,7 @@ use native.Mathlib.Omega.{arith}
 use borrow.Author.Tests.{not-false}
 use Rattle.tokens.specs.Bytes.{runLen}
 use Rattle.lines.specs.Sheet.{plain}
-use Rattle.lines.proofs.SheetLaws.{run-block}
+use Rattle.lines.proofs.LayoutLaws.{run-block}
 use Rattle.lines.proofs.plain_blocks.Statement.{statement}
 use Rattle.lines.proofs.plain_blocks.Tie as tie
 

@@ -6,8 +6,8 @@ use native.Mathlib.Omega.{arith}
 use borrow.Author.Needs.{needs}
 use borrow.Author.Tests.{not-true, not-false}
 use Rattle.tokens.specs.Bytes.{runLen}
+use Rattle.tokens.proofs.Runs.{run-step, run-stop, run-past}
 use Rattle.lines.specs.Sheet.{plain}
-use Rattle.lines.proofs.SheetLaws.{run-step, run-stop, run-past}
 use Rattle.lines.proofs.plain_end.Statement.{statement}
 use Rattle.lines.proofs.plain_end.Tie as tie
 

@@ -1,7 +1,7 @@
 -- `lines::warp_of` meets its contract: a warp byte that is not * is at least 48. Assumes nothing.
 use borrow.Author.Tests.{eq-eqb, ne-eqb}
 use Rattle.lines.specs.Sheet.{warpOf}
-use Rattle.lines.proofs.SheetLaws.{warp-digit}
+use Rattle.lines.proofs.LayoutLaws.{warp-digit}
 use Rattle.lines.proofs.warp_of.Statement.{statement}
 use Rattle.lines.proofs.warp_of.Tie as tie
 

@@ -16,6 +16,9 @@ returns-3 c = digit-after-f (c .before .before .before .args .x) (c .if4 .taken)
 sub-result : tie.Need-sub-result
 sub-result c = search needs
 
+sub-result-2 : tie.Need-sub-result-2
+sub-result-2 c = search needs
+
 returns-4 : tie.Need-returns-4
 returns-4 c = digit-af (c .before .before .before .args .x) (c .before .if3 .taken) (c .if4 .left)
 
@@ -25,8 +28,11 @@ returns-5 c = digit-after-9 (c .before .before .before .args .x) (c .before .bef
 returns-6 : tie.Need-returns-6
 returns-6 c = digit-after-F (c .before .before .before .before .args .x) (c .if6 .taken) (c .before .before .if3 .left)
 
-sub-result-2 : tie.Need-sub-result-2
-sub-result-2 c = search needs
+sub-result-3 : tie.Need-sub-result-3
+sub-result-3 c = search needs
+
+sub-result-4 : tie.Need-sub-result-4
+sub-result-4 c = search needs
 
 returns-7 : tie.Need-returns-7
 returns-7 c = digit-AF (c .before .before .before .before .args .x) (c .before .if5 .left) (c .if6 .left)
@@ -39,8 +45,10 @@ digit-of-spec =
     returns-2
     returns-3
     sub-result
+    sub-result-2
     returns-4
     returns-5
     returns-6
-    sub-result-2
+    sub-result-3
+    sub-result-4
     returns-7)
