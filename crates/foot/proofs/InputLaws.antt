@@ -14,7 +14,7 @@ use mir.Syntax.{w64}
 use mir.Val.{Fits, SFits, toZ, ofZ}
 use mir.ValLaws.{toZ-ofZ}
 use borrow.Author.Tests.{ltb-true, ltb-false, eqb-false, le-leb}
-use Rattle.laws.proofs.TestLaws.{never}
+use Rattle.laws.proofs.BoolLaws.{never, or-neither}
 use Rattle.report.specs.Report.{reportRoom}
 use Rattle.report.proofs.ReportLaws.{put-whole}
 use Rattle.printed.specs.declared.Printed.{Printed}
@@ -58,14 +58,10 @@ Grown n (More m) = (n < m) × (m ≤ 65536)
 Grown n (All m) = m ≤ 65537
 Grown n Failed = Unit
 
-neither : (a b : Bool) → (a || b) ≡ false → (a ≡ false) × (b ≡ false)
-neither true b h = never (sym h)
-neither false b h = (refl, h)
-
 grown-by : (n k : ℕ) (b : Bool) → (eqb k 0 || ltb 65536 (n + k)) ≡ b → n ≤ 65537 → k ≤ 65537 - n → Grown n (takenOf n (pos k))
 grown-by n k true t l m = subst (Grown n) (last-of n k t) (omega (arith, l, m))
 grown-by n k false t l m =
-    let u = neither (eqb k 0) (ltb 65536 (n + k)) t in
+    let u = or-neither (eqb k 0) (ltb 65536 (n + k)) t in
     let e : k ≡ 0 → ⊥ = eqb-false k 0 (u .0) in
     let o : n + k ≤ 65536 = ltb-false 65536 (n + k) (u .1) in
     subst (Grown n) (going-of n k t) (omega (arith, e), omega (arith, o))

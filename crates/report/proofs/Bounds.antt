@@ -11,8 +11,8 @@ use borrow.Author.Tests.{leb-true, leb-false}
 use Rattle.tokens.specs.declared.Name.{Name}
 use Rattle.tokens.specs.Names.{nameBytes}
 use Rattle.tokens.specs.Numbers.{lowDigits, trimmed, decimal}
+use Rattle.tokens.proofs.Lengths.{digits-length, trimmed-short, name-short}
 use Rattle.report.specs.Report.{numbersText, headText, rowText, Reported, rowsText, reportText, reportRoom}
-use Rattle.report.proofs.ReportLaws.{length-digits, trimmed-le, name-short}
 
 -- the n-th power of ten
 abbrev pub ten : ℕ → ℕ
@@ -43,11 +43,11 @@ trim-zero [] h = absurd (omega arith)
 trim-zero (x ∷ l) h = refl
 
 short-by : (b : Bool) (n k v : ℕ) → leb (suc n) k ≡ b → 1 ≤ k → v < ten k → length (trimmed (lowDigits n v)) ≤ k → length (trimmed (lowDigits (suc n) v)) ≤ k
-short-by true n k v e p h f = omega (arith, trimmed-le (lowDigits (suc n) v), length-digits (suc n) v, leb-true (suc n) k e)
+short-by true n k v e p h f = omega (arith, trimmed-short (lowDigits (suc n) v), digits-length (suc n) v, leb-true (suc n) k e)
 short-by false n k v e p h f =
     let m : k ≤ n = omega (arith, leb-false (suc n) k e) in
     let g : v < ten n = omega (arith, ten-grows n k m) in
-    rw (digits-more n v g, trim-zero (lowDigits n v) (omega (arith, length-digits n v))) f
+    rw (digits-more n v g, trim-zero (lowDigits n v) (omega (arith, digits-length n v))) f
 
 digits-short : (n k v : ℕ) → 1 ≤ k → v < ten k → length (trimmed (lowDigits n v)) ≤ k
 unfolding trimmed lowDigits

@@ -1,37 +1,24 @@
 -- Texts put one after another. Assumes nothing.
-use Prim.Native.Nat.{ℕ, zero, suc, _+_, _-_, _/_, _%_, _<_, _≤_}
+use Prim.Native.Nat.{ℕ, suc, _+_, _-_, _/_, _%_, _<_, _≤_}
 use native.Mathlib.Numerals.{add-one}
 use native.Mathlib.Omega.{arith}
-use native.Mathlib.Nat.{add-suc, add-zero, suc-add, zero-add}
+use native.Mathlib.Nat.{zero-add}
 use mathlib.Core.Path.{_≡_, refl, sym, ap, _∙_}
 use mathlib.Core.List.{List, [], _∷_, _++_, append-assoc}
-use mathlib.Core.Bool.{Bool, true, false, cond}
-use lib.ListN.{length, getD, take, drop, set, drop-of-length-le, length-set, length-append, length-drop, take-append-drop}
-use lib.Seq.{drop-cons, getD-set-same, drop-set-lt, sets, sets-eq, length-sets, take-all, take-at, take-take, take-set-le}
-use lib.Dec.{eqb, leb}
+use mathlib.Core.Bool.{true, false}
+use lib.ListN.{length, getD, take, drop, set, drop-of-length-le, length-set, length-append, take-append-drop}
+use lib.Seq.{drop-cons, sets, sets-eq, length-sets, take-at, take-take, take-set-le}
+use lib.Dec.{leb}
 use borrow.Author.Tests.{eq-eqb, ne-eqb, le-leb, lt-leb}
 use Rattle.tokens.specs.declared.Name.{Name}
 use Rattle.tokens.specs.Names.{lowBytes, strip, nameBytes}
 use Rattle.tokens.specs.Numbers.{lowDigits, trimmed, decimal}
+use Rattle.tokens.proofs.Lengths.{digits-length, low-length, decimal-short, name-short}
+use Rattle.laws.proofs.StoreLaws.{sets-append, drop-set, tail-is}
 use Rattle.report.specs.Report.{numbersText, headText, rowText, putText, putEnd}
 use Rattle.report.specs.Pieces.{fieldText}
 
--- ---- bytes put
-
-pub put-step : (b : List ℕ) (at : ℕ) (w : List ℕ) (i : ℕ) → i < length w → sets b (at + i) (drop i w) ≡ sets (set b (at + i) (getD w i 0)) (at + (i + 1)) (drop (i + 1) w)
-put-step b at w i h = rw (add-one i, add-suc at i, drop-cons w i 0 h)
-
-pub sets-append : (l : List ℕ) (i : ℕ) (vs ws : List ℕ) → sets (sets l i vs) (i + length vs) ws ≡ sets l i (vs ++ ws)
-sets-append l i [] ws = rw (add-zero i)
-sets-append l i (a ∷ vs) ws = rw (add-suc i (length vs), ← suc-add i (length vs)) (sets-append (set l i a) (suc i) vs ws)
-
 -- ---- digits, from the back
-
-drop-set : (l : List ℕ) (i x : ℕ) → i < length l → drop i (set l i x) ≡ x ∷ drop (suc i) l
-drop-set l i x h =
-    let g : i < length (set l i x) = rw (length-set l i x) h in
-    let e : i < suc i = omega arith in
-    rw (drop-cons (set l i x) i 0 g, getD-set-same l i x 0 h, drop-set-lt (suc i) l i x e)
 
 pub digit-step : (out : List ℕ) (w i : ℕ) → suc i ≤ length out → lowDigits (suc i) w ++ drop (suc i) out ≡ lowDigits i (w / 10) ++ drop i (set out i (48 + w % 10))
 unfolding lowDigits
@@ -41,17 +28,12 @@ pub digits-end : (out : List ℕ) (w v i : ℕ) → i ≤ 0 → lowDigits i w ++
 unfolding lowDigits
 digits-end out w v i z h = let e : i ≡ 0 = omega arith in rw e at h
 
-pub length-digits : (n v : ℕ) → length (lowDigits n v) ≡ n
-unfolding lowDigits
-length-digits zero v = refl
-length-digits (suc n) v = simp (length-append, length-digits n (v / 10)) (omega arith)
-
 -- places not yet written hold the digits of 0
 pub zeros-left : (out : List ℕ) (i : ℕ) → take (suc i) out ≡ lowDigits (suc i) 0 → take i out ≡ lowDigits i 0
 unfolding lowDigits
 zeros-left out i e =
     let a : take i (take (suc i) out) ≡ take i out = take-take i (suc i) out (omega arith) in
-    sym a ∙ (ap (take i) e ∙ take-at (lowDigits i 0) (48 ∷ []) i (length-digits i 0))
+    sym a ∙ (ap (take i) e ∙ take-at (lowDigits i 0) (48 ∷ []) i (digits-length i 0))
 
 pub zeros-stay : (out : List ℕ) (i x : ℕ) → take (suc i) out ≡ lowDigits (suc i) 0 → take i (set out i x) ≡ lowDigits i 0
 zeros-stay out i x e = take-set-le i out i x (omega arith) ∙ zeros-left out i e
@@ -69,11 +51,6 @@ byte-step out w i h = rw (drop-set out i (w % 256) h, append-assoc)
 pub bytes-end : (out : List ℕ) (w v i : ℕ) → i ≤ 0 → lowBytes i w ++ drop i out ≡ lowBytes 8 v → out ≡ lowBytes 8 v
 unfolding lowBytes
 bytes-end out w v i z h = let e : i ≡ 0 = omega arith in rw e at h
-
-pub length-bytes : (n v : ℕ) → length (lowBytes n v) ≡ n
-unfolding lowBytes
-length-bytes zero v = refl
-length-bytes (suc n) v = simp (length-append, length-bytes n (v / 256)) (omega arith)
 
 -- ---- zeros that lead
 
@@ -133,27 +110,9 @@ put-after room at v w h =
 
 -- ---- the pieces of a line
 
--- a slice from a place on, in a list of known length
-tail-is : (d : List ℕ) (n z : ℕ) → length d ≡ n → take (n - z) (drop z d) ≡ drop z d
-tail-is d n z h = take-all (n - z) (drop z d) (omega (arith, length-drop z d))
-
 pub decimal-is : (d : List ℕ) (z v : ℕ) → d ≡ lowDigits 20 v → drop z d ≡ trimmed d → take (20 - z) (drop z d) ≡ decimal v
 unfolding decimal
-decimal-is d z v e h = tail-is d 20 z (ap length e ∙ length-digits 20 v) ∙ (h ∙ ap trimmed e)
-
-pub trimmed-le : (l : List ℕ) → length (trimmed l) ≤ length l
-unfolding trimmed
-trimmed-le [] = omega arith
-trimmed-le (x ∷ []) = omega arith
-trimmed-le (x ∷ (y ∷ l)) = trim-by (eqb x 48) (trimmed-le (y ∷ l))
-  where
-    trim-by : (b : Bool) → length (trimmed (y ∷ l)) ≤ length (y ∷ l) → length (cond b (trimmed (y ∷ l)) (x ∷ (y ∷ l))) ≤ length (x ∷ (y ∷ l))
-    trim-by true h = omega arith
-    trim-by false h = omega arith
-
-pub decimal-short : (v : ℕ) → length (decimal v) ≤ 20
-unfolding decimal
-decimal-short v = omega (arith, trimmed-le (lowDigits 20 v), length-digits 20 v)
+decimal-is d z v e h = tail-is d 20 z (ap length e ∙ digits-length 20 v) ∙ (h ∙ ap trimmed e)
 
 module _ (b t d : List ℕ) (at v mark e z : ℕ) where
   pub field-put : d ≡ lowDigits 20 v → drop z d ≡ trimmed d → e ≡ at + length (take (20 - z) (drop z d)) → t ≡ sets b at (take (20 - z) (drop z d))
@@ -166,20 +125,7 @@ module _ (b t d : List ℕ) (at v mark e z : ℕ) where
       (omega (arith, length-append (decimal v) (mark ∷ [])), rw (n, u) (sets-append b at (decimal v) (mark ∷ [])), omega (arith, decimal-short v))
 
 pub bytes-is : (d : List ℕ) (z v : ℕ) → d ≡ lowBytes 8 v → drop z d ≡ strip d → take (8 - z) (drop z d) ≡ strip (lowBytes 8 v)
-bytes-is d z v e h = tail-is d 8 z (ap length e ∙ length-bytes 8 v) ∙ (h ∙ ap strip e)
-
-strip-le : (l : List ℕ) → length (strip l) ≤ length l
-unfolding strip
-strip-le [] = omega arith
-strip-le (x ∷ l) = strip-by (eqb x 0) (strip-le l)
-  where
-    strip-by : (b : Bool) → length (strip l) ≤ length l → length (cond b (strip l) (x ∷ l)) ≤ length (x ∷ l)
-    strip-by true h = omega arith
-    strip-by false h = omega arith
-
-pub name-short : (n : Name) → length (nameBytes n) ≤ 16
-unfolding nameBytes
-name-short n = omega (arith, length-append (strip (lowBytes 8 (n .hi))) (strip (lowBytes 8 (n .lo))), strip-le (lowBytes 8 (n .hi)), strip-le (lowBytes 8 (n .lo)), length-bytes 8 (n .hi), length-bytes 8 (n .lo))
+bytes-is d z v e h = tail-is d 8 z (ap length e ∙ low-length 8 v) ∙ (h ∙ ap strip e)
 
 -- one more piece after those put from 0 on
 pub put-more : (z t t′ l w : List ℕ) (n n′ : ℕ) → t ≡ sets z 0 l → n ≡ length l → t′ ≡ sets t n w → n′ ≡ n + length w → (t′ ≡ sets z 0 (l ++ w)) × (n′ ≡ length (l ++ w))

@@ -4,10 +4,10 @@ use native.Mathlib.Omega.{arith}
 use mathlib.Core.Path.{_≡_, refl, sym, ap, _∙_}
 use mathlib.Core.List.{List, [], _∷_, _++_, append-assoc, append-nil}
 use mathlib.Core.Bool.{Bool, true, false, cond}
-use lib.ListN.{length, take, drop, length-drop, set, length-append, length-set, drop-of-length-le}
-use lib.Seq.{take-all, drop-cons, getD-set-same, drop-set-lt}
+use lib.ListN.{length, drop, set, length-append, drop-of-length-le}
 use lib.Dec.{eqb}
 use borrow.Author.Tests.{eq-eqb, ne-eqb, eqb-true, eqb-false}
+use Rattle.laws.proofs.StoreLaws.{drop-set}
 use Rattle.tokens.specs.Names.{lowBytes, strip}
 use Rattle.tokens.specs.Numbers.{lowDigits, trimmed, decimal}
 
@@ -79,19 +79,12 @@ module _ (q r : ℕ → ℕ) (z base : ℕ) (q0 : q 0 ≡ 0) (r0 : r 0 ≡ z) (n
   lead-low zero v h = refl
   lead-low (suc k) v h = step-by k v (eqb v 0) (less v (power base k) h) (lead-low k (q v) (less v (power base k) h)) refl
 
--- a place written from the back
-pub back : (l : List ℕ) (i x : ℕ) → i < length l → drop i (set l i x) ≡ x ∷ drop (suc i) l
-back l i x h =
-    let g : i < length (set l i x) = rw (length-set l i x) h in
-    let e : i < suc i = omega arith in
-    rw (drop-cons (set l i x) i 0 g, getD-set-same l i x 0 h, drop-set-lt (suc i) l i x e)
-
 -- one digit more, from the back
 pub digit-step : (q r : ℕ → ℕ) (out : List ℕ) (i w : ℕ) → 0 < i → i ≤ length out → (w ≡ 0 → ⊥) → short q r (i - 1) (q w) ++ drop (i - 1) (set out (i - 1) (r w)) ≡ short q r i w ++ drop i out
 digit-step q r out zero w p h n = absurd (omega arith)
 digit-step q r out (suc i) w p h n =
     let e : suc i - 1 ≡ i = omega arith in
-    rw (e, back out i (r w) h, short-some q r i w n, append-assoc (short q r i (q w)) (r w ∷ []) (drop (suc i) out))
+    rw (e, drop-set out i (r w) h, short-some q r i w n, append-assoc (short q r i (q w)) (r w ∷ []) (drop (suc i) out))
 
 -- no digit left
 pub digit-end : (q r : ℕ → ℕ) (out : List ℕ) (i w : ℕ) → w ≡ 0 → short q r i w ++ drop i out ≡ drop i out
@@ -166,9 +159,3 @@ bytes-start out v e h =
     let g : length out ≤ 8 = omega arith in
     let d : drop 8 out ≡ [] = drop-of-length-le out g in
     ap (λ l. short q256 r256 8 v ++ l) d ∙ append-nil (short q256 r256 8 v) ∙ sym (bytes-law 8 v h)
-
--- what is left of a list is all of it up to the end
-pub tail : (l : List ℕ) (n i : ℕ) → length l ≡ n → take (n - i) (drop i l) ≡ drop i l
-tail l n i e =
-    let g : length (drop i l) ≤ n - i = omega (arith, length-drop i l) in
-    take-all (n - i) (drop i l) g

@@ -4,7 +4,7 @@ use native.Mathlib.Omega.{arith}
 use native.Mathlib.Numerals.{add-one}
 use mathlib.Core.Path.{_≡_, refl, sym, ap, _∙_}
 use mathlib.Core.List.{List, [], _∷_, _++_, append-nil}
-use mathlib.Core.Bool.{Bool, true, false, _&&_, _||_, cond}
+use mathlib.Core.Bool.{Bool, true, false, _&&_, _||_, cond, and-assoc, and-comm}
 use lib.ListN.{length, getD, take, drop, length-append, length-drop, drop-of-length-le}
 use lib.Seq.{take-all, take-at, drop-at, take-append-add, drop-cons}
 use lib.Dec.{ltb, leb, eqb}
@@ -13,14 +13,9 @@ use Rattle.tokens.specs.declared.Name.{Name}
 use Rattle.tokens.specs.Bytes.{letter, wordByte, all}
 use Rattle.tokens.specs.Names.{sigil, isName, byteDigits, packed, lowBytes, strip, nameBytes, nameGiven}
 use Rattle.writer.specs.Outputs.{Out, outSeen, addC, halvesGiven}
-use Rattle.writer.proofs.Laws.{and-assoc, refused, join}
-use Rattle.writer.proofs.Digits.{power, short, q256, r256, less256, bytes-law, tail}
-
-and-comm : (a b : Bool) → (a && b) ≡ (b && a)
-and-comm true true = refl
-and-comm true false = refl
-and-comm false true = refl
-and-comm false false = refl
+use Rattle.laws.proofs.StoreLaws.{tail-is}
+use Rattle.writer.proofs.Laws.{refused, join}
+use Rattle.writer.proofs.Digits.{power, short, q256, r256, less256, bytes-law}
 
 -- two tests that hold together
 eqb-iff : (a b c d : ℕ) → (a ≡ b → c ≡ d) → (c ≡ d → a ≡ b) → eqb a b ≡ eqb c d
@@ -164,7 +159,7 @@ module _ (n : Name) (h l : List ℕ) (a b : ℕ) (ok : Bool) (eh : drop a h ≡ 
     -- one half after the other
     pub name-some : (r : Out) → r ≡ addC (take (8 - b) (drop b l)) true u → r ≡ addC (nameBytes n) (nameGiven n) o
     unfolding nameBytes
-    name-some r q = rw (name-by, e, q, p, tail h 8 a ah, tail l 8 b al, eh, el, join)
+    name-some r q = rw (name-by, e, q, p, tail-is h 8 a ah, tail-is l 8 b al, eh, el, join)
 
     -- the first alone, where the second is empty
     pub name-short : 8 ≤ b → u ≡ addC (nameBytes n) (nameGiven n) o
@@ -172,4 +167,4 @@ module _ (n : Name) (h l : List ℕ) (a b : ℕ) (ok : Bool) (eh : drop a h ≡ 
     name-short g =
         let f : length l ≤ b = omega arith in
         let z : strip (lowBytes 8 (n .lo)) ≡ [] = sym el ∙ drop-of-length-le l f in
-        rw (name-by, e, p, tail h 8 a ah, eh, z, append-nil)
+        rw (name-by, e, p, tail-is h 8 a ah, eh, z, append-nil)

@@ -2,10 +2,9 @@
 use Prim.Native.Nat.{ℕ, suc, _+_, _-_, _<_, _≤_}
 use native.Mathlib.Omega.{arith}
 use native.Mathlib.Numerals.{add-one}
-use native.Mathlib.Nat.{add-suc}
 use mathlib.Core.Path.{_≡_, refl, sym, _∙_}
-use mathlib.Core.List.{List, [], _∷_, _++_, append-assoc, append-nil}
-use mathlib.Core.Bool.{Bool, true, false, _&&_}
+use mathlib.Core.List.{List, [], _++_, append-assoc, append-nil}
+use mathlib.Core.Bool.{Bool, true, false, _&&_, and-false}
 use mathlib.Core.Logic.{_⊎_, inl, inr, ⊎-elim}
 use lib.ListN.{length, getD, take, drop, set, length-append, drop-of-length-le}
 use lib.Seq.{sets, sets-eq, length-sets, take-at, drop-at, drop-drop, drop-cons, length-take-le}
@@ -13,25 +12,6 @@ use lib.Dec.{leb, eqb}
 use borrow.Author.Tests.{le-leb, lt-leb, leb-true, leb-false, eq-eqb, ne-eqb, eqb-true, eqb-false}
 use Rattle.tokens.specs.Bytes.{all}
 use Rattle.writer.specs.Outputs.{Out, wrote, failed, outSeen, addC}
-
-pub and-true : (b : Bool) → (b && true) ≡ b
-and-true true = refl
-and-true false = refl
-
-pub and-false : (b : Bool) → (b && false) ≡ false
-and-false true = refl
-and-false false = refl
-
-pub and-assoc : (a b c : Bool) → ((a && b) && c) ≡ (a && (b && c))
-and-assoc true b c = refl
-and-assoc false b c = refl
-
--- the first of three goes second
-pub and-swap : (a b c : Bool) → (a && ((b && c) && true)) ≡ (b && (a && (c && true)))
-and-swap true true c = refl
-and-swap true false c = refl
-and-swap false true c = refl
-and-swap false false c = refl
 
 -- ---- what is added
 pub add-failed : (w : List ℕ) (b : Bool) (n : ℕ) → addC w b (failed n) ≡ failed n
@@ -114,9 +94,6 @@ refused t w at = ⊎-elim in-room other (shows t at)
     other e = rw (e, seen-failed t, add-failed w false (length t))
 
 -- ---- `put`
-pub put-step : (b : List ℕ) (at : ℕ) (w : List ℕ) (i : ℕ) → i < length w → sets b (at + i) (drop i w) ≡ sets (set b (at + i) (getD w i 0)) (at + (i + 1)) (drop (i + 1) w)
-put-step b at w i h = rw (add-one i, add-suc at i, drop-cons w i 0 h)
-
 -- no room
 pub put-none : (t w : List ℕ) (at : ℕ) → 2560 < at + length w → outSeen t 2561 ≡ addC w true (outSeen t at)
 put-none t w at h = ⊎-elim in-room other (shows t at)

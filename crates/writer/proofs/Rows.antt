@@ -4,7 +4,7 @@ use native.Mathlib.Omega.{arith}
 use native.Mathlib.Numerals.{add-one}
 use mathlib.Core.Path.{_≡_, refl, ap}
 use mathlib.Core.List.{List, [], _∷_, _++_, append-assoc}
-use mathlib.Core.Bool.{Bool, true, false, _&&_}
+use mathlib.Core.Bool.{Bool, true, false, _&&_, and-true, and-false, and-assoc}
 use lib.ListN.{length, getD, take, drop, length-take, drop-of-length-le}
 use lib.Dec.{ltb, leb, eqb}
 use borrow.Author.Tests.{lt-ltb, le-leb, lt-leb, eq-eqb, ne-eqb, eqb-true}
@@ -15,7 +15,8 @@ use Rattle.statement.specs.Forms.{Slot, Values, max32}
 use Rattle.statement.specs.Reading.{paired}
 use Rattle.statement.specs.Canonical.{slotText, slotGiven, moreRowText, rowText, rowGiven, offsetText, moreNamesText, namesText, allNames}
 use Rattle.writer.specs.Outputs.{Out, outSeen, addC, firsts, namesGiven, pairText, moreC}
-use Rattle.writer.proofs.Laws.{join, and-true, and-false, and-assoc, and-swap, add-nothing}
+use Rattle.laws.proofs.BoolLaws.{and-swap}
+use Rattle.writer.proofs.Laws.{join, add-nothing}
 
 -- commas, operands and the semicolon
 more-law : (ks : List Slot) (v : Values ks) (o : Out) → addC (59 ∷ []) true (moreC ks v o) ≡ addC (moreRowText ks v) (rowGiven ks v) o
@@ -142,4 +143,4 @@ load-law w x y e b d o = rw (pair-law (w ++ 32 ∷ []) x y (e && b) d o, append-
 -- and second in a st
 pub store-law : (w x y : List ℕ) (e b d : Bool) (o : Out)
     → addC (59 ∷ []) true (addC y (e && d) (addC (44 ∷ 32 ∷ []) true (addC x b (addC (w ++ 32 ∷ []) true o)))) ≡ addC (w ++ (32 ∷ pairText x y)) (e && (b && (d && true))) o
-store-law w x y e b d o = rw (pair-law (w ++ 32 ∷ []) x y b (e && d) o, append-assoc, and-swap b e d)
+store-law w x y e b d o = rw (pair-law (w ++ 32 ∷ []) x y b (e && d) o, append-assoc, and-assoc e d true, and-swap b e (d && true))

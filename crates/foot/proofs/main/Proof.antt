@@ -1,7 +1,7 @@
 -- `foot::main` is safe and ends: reading is over when it is asked what to print, and that fits the room. Assumes nothing.
 use Prim.Native.Nat.{ℕ, _≤_}
 use native.Mathlib.Nat.{le-refl}
-use mathlib.Core.Path.{_≡_, sym, ap, subst, _∙_}
+use mathlib.Core.Path.{sym, ap, subst, _∙_}
 use lib.ListN.{length, length-replicate}
 use borrow.Author.Needs.{needs}
 use Rattle.foot.proofs.InputLaws.{inside}

@@ -2,7 +2,8 @@
 -- Assumes nothing.
 use mathlib.Core.Path.{ap, _∙_}
 use lib.ListN.{length}
-use Rattle.report.proofs.ReportLaws.{field-put, length-digits}
+use Rattle.tokens.proofs.Lengths.{digits-length}
+use Rattle.report.proofs.ReportLaws.{field-put}
 use borrow.Author.Needs.{needs}
 use Rattle.report.proofs.field.Statement.{statement}
 use Rattle.report.proofs.field.Tie as tie
@@ -11,7 +12,7 @@ digits20-requires : tie.Need-digits20-requires
 digits20-requires c κs = search needs
 
 zeros-requires : tie.Need-zeros-requires
-zeros-requires c κs = ap length (c .before .digits20 .ensures) ∙ length-digits 20 (c .before .before .args .v)
+zeros-requires c κs = ap length (c .before .digits20 .ensures) ∙ digits-length 20 (c .before .before .args .v)
 
 sub-fill : tie.Need-sub-fill
 sub-fill c = search needs

@@ -5,7 +5,7 @@ use lib.ListN.{length, drop, length-set, drop-of-length-le}
 use lib.Seq.{sets}
 use native.Mathlib.Omega.{arith}
 use native.Mathlib.Nat.{add-zero}
-use Rattle.report.proofs.ReportLaws.{put-step}
+use Rattle.laws.proofs.StoreLaws.{put-step}
 use Rattle.report.proofs.fill.Statement.{statement}
 use Rattle.report.proofs.fill.Tie as tie
 

@@ -2,7 +2,8 @@
 -- Assumes nothing.
 use mathlib.Core.Path.{ap, _∙_}
 use lib.ListN.{length}
-use Rattle.report.proofs.ReportLaws.{name-put, length-bytes}
+use Rattle.tokens.proofs.Lengths.{low-length}
+use Rattle.report.proofs.ReportLaws.{name-put}
 use borrow.Author.Needs.{needs}
 use Rattle.report.proofs.name.Statement.{statement}
 use Rattle.report.proofs.name.Tie as tie
@@ -14,10 +15,10 @@ low-bytes-requires-2 : tie.Need-low-bytes-requires-2
 low-bytes-requires-2 c κs = search needs
 
 lead-requires : tie.Need-lead-requires
-lead-requires c κs = ap length (c .before .before .low-bytes .ensures) ∙ length-bytes 8 _
+lead-requires c κs = ap length (c .before .before .low-bytes .ensures) ∙ low-length 8 _
 
 lead-requires-2 : tie.Need-lead-requires-2
-lead-requires-2 c κs = ap length (c .before .before .before .low-bytes2 .ensures) ∙ length-bytes 8 _
+lead-requires-2 c κs = ap length (c .before .before .before .low-bytes2 .ensures) ∙ low-length 8 _
 
 sub-fill : tie.Need-sub-fill
 sub-fill c = search needs

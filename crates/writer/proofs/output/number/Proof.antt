@@ -1,13 +1,14 @@
 -- `writer::output::number` meets its contract: each turn puts the last digit of what is left before the others, and what is left is short enough for the places before it. Assumes nothing.
-use Prim.Native.Nat.{_+_, _-_, _<_, _≤_}
+use Prim.Native.Nat.{_-_, _<_, _≤_}
 use native.Mathlib.Omega.{arith}
 use mathlib.Core.Path.{_≡_, refl, sym, _∙_}
 use mathlib.Core.List.{_++_}
 use lib.ListN.{length, take, drop, length-set}
 use borrow.Author.Tests.{lt-leb, le-leb}
 use borrow.Author.Needs.{needs}
+use Rattle.laws.proofs.StoreLaws.{tail-is}
 use Rattle.tokens.specs.Numbers.{decimal}
-use Rattle.writer.proofs.Digits.{power, short, q10, r10, less10, decimal-law, digit-step, digit-end, power-step, tail}
+use Rattle.writer.proofs.Digits.{power, short, q10, r10, less10, decimal-law, digit-step, digit-end, power-step}
 use Rattle.writer.proofs.Laws.{refused}
 use Rattle.writer.proofs.output.number.Statement.{statement}
 use Rattle.writer.proofs.output.number.Tie as tie
@@ -72,7 +73,7 @@ returns-2 : tie.Need-returns-2 Inv-loop μ-loop
 returns-2 c =
     let a = c .before .before .before .before .before .before .before .args in
     let l = c .before .before .before .before .before .loop in
-    let e : take (20 - l .i) (drop (l .i) (l .out)) ≡ decimal (a .v) = tail (l .out) 20 (l .i) (l .inv .1) ∙ sym (digit-end q10 r10 (l .out) (l .i) (l .w) (c .before .before .before .before .loop-test .left)) ∙ l .inv .3 in
+    let e : take (20 - l .i) (drop (l .i) (l .out)) ≡ decimal (a .v) = tail-is (l .out) 20 (l .i) (l .inv .1) ∙ sym (digit-end q10 r10 (l .out) (l .i) (l .w) (c .before .before .before .before .loop-test .left)) ∙ l .inv .3 in
     rw (le-leb (a .v) (a .limit) (c .before .before .before .before .before .before .if1 .left), ← e) (c .put .ensures)
 
 pub number-spec : {M : Type 1} → statement M

@@ -5,7 +5,8 @@ use native.Mathlib.Nat.{add-zero}
 use mathlib.Core.Path.{_≡_, refl, sym, _∙_}
 use lib.ListN.{length, drop, length-set, drop-of-length-le}
 use lib.Seq.{sets}
-use Rattle.writer.proofs.Laws.{put-step, put-none, put-all}
+use Rattle.laws.proofs.StoreLaws.{put-step}
+use Rattle.writer.proofs.Laws.{put-none, put-all}
 use Rattle.writer.proofs.output.put.Statement.{statement}
 use Rattle.writer.proofs.output.put.Tie as tie
 

@@ -1,5 +1,5 @@
 -- `writer::output::spread` meets its contract: each turn puts the last byte of what is left before the others, and what is left is short enough for the places before it. Assumes nothing.
-use Prim.Native.Nat.{_+_, _-_, _<_, _≤_}
+use Prim.Native.Nat.{_<_, _≤_}
 use native.Mathlib.Omega.{arith}
 use mathlib.Core.Path.{_≡_, sym, _∙_}
 use mathlib.Core.List.{_++_}
