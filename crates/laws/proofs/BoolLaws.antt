@@ -3,6 +3,7 @@
 -- Assumes nothing.
 use mathlib.Core.Path.{_≡_, refl, sym, _∙_}
 use mathlib.Core.Bool.{Bool, true, false, not, _&&_, _||_, cond, and-false, true≢false}
+pub use mathlib.Core.Bool.{and-assoc}
 use mathlib.Core.Logic.{_⊎_, inl, inr}
 
 -- ---- one test

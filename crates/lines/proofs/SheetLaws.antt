@@ -6,27 +6,15 @@ use native.Mathlib.Numerals.{add-one}
 use native.Mathlib.Nat.{add-zero, zero-add}
 use mathlib.Core.Path.{_≡_, refl, sym, ap, _∙_, subst}
 use mathlib.Core.List.{List, [], _∷_, _++_}
-use mathlib.Core.Bool.{Bool, true, false, _&&_, _||_, cond}
+use mathlib.Core.Bool.{Bool, true, false, _&&_, _||_, cond, and-true, and-false}
 use lib.ListN.{length, getD, take, drop, drop-of-length-le, length-drop}
 use lib.Seq.{drop-cons, drop-drop, length-take-le, getD-drop, getD-take, take-all, take-nil}
 use lib.Dec.{ltb, leb, eqb}
 use borrow.Author.Tests.{lt-ltb, le-ltb, eq-eqb, ne-eqb, ltb-true, ltb-false, eqb-true, leb-true}
-use Rattle.laws.proofs.BoolLaws.{never, and-split, and-swap}
+use Rattle.laws.proofs.BoolLaws.{never, and-split, and-swap, and-assoc}
 use Rattle.tokens.specs.Bytes.{all, runLen}
 use Rattle.lines.specs.declared.Line.{Line}
 use Rattle.lines.specs.Sheet.{upto, textOf, endedOf, rest, after, bit, countFrom, lineCount, lfs, header, bodyAt, sameBytes, headed, warpByte, warpOf, plain, laidOut, contentOf, noLine, lineAt, contentSeen}
-
-and-false : (a : Bool) → (a && false) ≡ false
-and-false true = refl
-and-false false = refl
-
-and-true : (a : Bool) → (a && true) ≡ a
-and-true true = refl
-and-true false = refl
-
-and-assoc : (a b c : Bool) → ((a && b) && c) ≡ (a && (b && c))
-and-assoc true b c = refl
-and-assoc false b c = refl
 
 -- ---- the first line
 

@@ -8,6 +8,13 @@ use mathlib.Core.List.{List, [], _∷_}
 abbrev pub byte : Char → ℕ
 byte c = code c
 
+-- the bytes between two parts of a line, and after a line
+abbrev pub tab : ℕ
+tab = byte "\t"
+
+abbrev pub lf : ℕ
+lf = byte "\n"
+
 abbrev pub bytes : String → List ℕ
 bytes []ᵗ = []
 bytes (c ∷ᵗ s) = code c ∷ bytes s
