@@ -12,7 +12,7 @@ use borrow.Author.Tests.{eq-eqb, ne-eqb, eqb-true, eqb-false, ltb-true, ltb-fals
 use Rattle.tokens.specs.declared.Name.{Name}
 use Rattle.tokens.specs.Bytes.{letter, wordByte, all}
 use Rattle.tokens.specs.Names.{sigil, isName, byteDigits, packed, lowBytes, strip, nameBytes, nameGiven}
-use Rattle.writer.specs.Outputs.{Out, outSeen, addC, halvesGiven}
+use Rattle.writer.specs.Outputs.{failedAt, Out, outSeen, addC, halvesGiven}
 use Rattle.laws.proofs.StoreLaws.{tail-is}
 use Rattle.writer.proofs.Laws.{refused, join}
 use Rattle.writer.proofs.Digits.{power, short, q256, r256, less256, bytes-law}
@@ -152,7 +152,7 @@ module _ (n : Name) (h l : List ℕ) (a b : ℕ) (ok : Bool) (eh : drop a h ≡ 
   name-by = rw (is, eh, el) (given-law n hi lo)
 
   -- a name that is not such as reading gives
-  pub name-none : (t : List ℕ) (at : ℕ) → ok ≡ false → outSeen t 2561 ≡ addC (nameBytes n) (nameGiven n) (outSeen t at)
+  pub name-none : (t : List ℕ) (at : ℕ) → ok ≡ false → outSeen t failedAt ≡ addC (nameBytes n) (nameGiven n) (outSeen t at)
   name-none t at e = rw (name-by, e) (refused t (nameBytes n) at)
 
   module _ (ah : length h ≡ 8) (al : length l ≡ 8) (o u : Out) (e : ok ≡ true) (p : u ≡ addC (take (8 - a) (drop a h)) true o) where

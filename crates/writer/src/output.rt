@@ -1,4 +1,4 @@
-// Bytes, numbers and names, put into a buffer. A position over 2,560 says that writing failed.
+// Bytes, numbers and names, put into a buffer. A position past it says that writing failed.
 use tokens::Name;
 ghost use mathlib.Core.Path.{_≡_};
 ghost use mathlib.Core.Bool.{true};
@@ -9,14 +9,19 @@ ghost use lib.Dec.{leb};
 ghost use Rattle.tokens.specs.Names.{nameGiven, nameBytes, lowBytes, strip};
 ghost use Rattle.tokens.specs.Bytes.{wordByte, all};
 ghost use Rattle.tokens.specs.Numbers.{decimal};
-ghost use Rattle.writer.specs.Outputs.{outSeen, addC, halvesGiven};
+ghost use Rattle.writer.specs.Outputs.{capacity, outSeen, addC, halvesGiven};
 
-// Where writing failed.
-pub const FAILED: usize = 2561;
+// How many bytes a buffer has: more than any statement.
+pub const CAPACITY: usize = 2560;
+
+// The position once writing failed.
+pub const FAILED: usize = CAPACITY + 1;
+
+pub type Buffer = [u8; CAPACITY];
 
 // The first n bytes of t, to the first places of room.
-pub fn copy(room: &mut [u8], t: &[u8; 2560], n: usize)
-    requires { ⌜ (n ≤ length (now room)) × (length (now t) ≡ 2560) × (n ≤ 2560) ⌝ }
+pub fn copy(room: &mut [u8], t: &Buffer, n: usize)
+    requires { ⌜ (n ≤ length (now room)) × (length (now t) ≡ capacity) × (n ≤ capacity) ⌝ }
     ensures { λ r. ⌜ now (room .exit) ≡ sets (now (room .entry)) 0 (take n (now (t .entry))) ⌝ }
 {
     let mut i = 0;
@@ -27,14 +32,14 @@ pub fn copy(room: &mut [u8], t: &[u8; 2560], n: usize)
 }
 
 // The bytes w, if there is room.
-pub fn put(t: &mut [u8; 2560], at: usize, w: &[u8]) -> usize
+pub fn put(t: &mut Buffer, at: usize, w: &[u8]) -> usize
     ensures { λ r. ⌜ outSeen (now (t .exit)) r ≡ addC (now (w .entry)) true (outSeen (now (t .entry)) at) ⌝ }
 {
     let n = w.len();
-    if 2560 < n {
+    if CAPACITY < n {
         return FAILED;
     }
-    if 2560 - n < at {
+    if CAPACITY - n < at {
         return FAILED;
     }
     let mut i = 0;
@@ -46,7 +51,7 @@ pub fn put(t: &mut [u8; 2560], at: usize, w: &[u8]) -> usize
 }
 
 // A number up to a limit, in decimal.
-pub fn number(t: &mut [u8; 2560], at: usize, v: u64, limit: u64) -> usize
+pub fn number(t: &mut Buffer, at: usize, v: u64, limit: u64) -> usize
     ensures { λ r. ⌜ outSeen (now (t .exit)) r ≡ addC (decimal v) (leb v limit) (outSeen (now (t .entry)) at) ⌝ }
 {
     if limit < v {
@@ -108,7 +113,7 @@ fn halves(h: &[u8; 8], a: usize, l: &[u8; 8], b: usize) -> bool
 }
 
 // A name, if it is such as reading gives: its first eight bytes, and those after them, if any.
-pub fn name(t: &mut [u8; 2560], at: usize, n: Name) -> usize
+pub fn name(t: &mut Buffer, at: usize, n: Name) -> usize
     ensures { λ r. ⌜ outSeen (now (t .exit)) r ≡ addC (nameBytes n) (nameGiven n) (outSeen (now (t .entry)) at) ⌝ }
 {
     let mut h = [0u8; 8];

@@ -4,6 +4,7 @@ use lib.ListN.{take, replicate, length-replicate}
 use borrow.Author.Needs.{needs}
 use Rattle.statement.specs.Canonical.{countOf}
 use Rattle.statement.specs.Reading.{paired}
+use Rattle.writer.specs.Outputs.{capacity}
 use Rattle.writer.proofs.Answers.{over, composed, not-given, no-room, all-written}
 use Rattle.writer.proofs.write.Statement.{statement}
 use Rattle.writer.proofs.write.Tie as tie
@@ -16,21 +17,21 @@ returns c =
     let a = c .before .before .before .before .before .before .args in
     let ns = paired (take (countOf (a .statement)) (a .hi .now)) (take (countOf (a .statement)) (a .lo .now)) in
     let k = c .before .compose in
-    not-given (a .room .now) (a .statement) ns (over (replicate 2560 0) (k .last .0) (k .result) (a .statement) ns (length-replicate {A = ℕ} 2560 0) (k .ensures) (c .if1 .taken))
+    not-given (a .room .now) (a .statement) ns (over (replicate capacity 0) (k .last .0) (k .result) (a .statement) ns (length-replicate {A = ℕ} capacity 0) (k .ensures) (c .if1 .taken))
 
 returns-2 : tie.Need-returns-2
 returns-2 c =
     let a = c .before .before .before .before .before .before .before .args in
     let ns = paired (take (countOf (a .statement)) (a .hi .now)) (take (countOf (a .statement)) (a .lo .now)) in
     let k = c .before .before .compose in
-    no-room (a .room .now) (a .statement) ns (k .last .0) (k .result) (composed (replicate 2560 0) (k .last .0) (k .result) (a .statement) ns (length-replicate {A = ℕ} 2560 0) (k .ensures) (c .before .if1 .left)) (c .if2 .taken)
+    no-room (a .room .now) (a .statement) ns (k .last .0) (k .result) (composed (replicate capacity 0) (k .last .0) (k .result) (a .statement) ns (length-replicate {A = ℕ} capacity 0) (k .ensures) (c .before .if1 .left)) (c .if2 .taken)
 
 copy-requires : tie.Need-copy-requires
 copy-requires c κs =
     let a = c .before .before .before .before .before .before .before .before .before .args in
     let ns = paired (take (countOf (a .statement)) (a .hi .now)) (take (countOf (a .statement)) (a .lo .now)) in
     let k = c .before .before .before .before .compose in
-    (c .before .before .if2 .left, composed (replicate 2560 0) (k .last .0) (k .result) (a .statement) ns (length-replicate {A = ℕ} 2560 0) (k .ensures) (c .before .before .before .if1 .left) .full, c .before .before .before .if1 .left)
+    (c .before .before .if2 .left, composed (replicate capacity 0) (k .last .0) (k .result) (a .statement) ns (length-replicate {A = ℕ} capacity 0) (k .ensures) (c .before .before .before .if1 .left) .full, c .before .before .before .if1 .left)
 
 same-length : tie.Need-same-length
 same-length c = search needs
@@ -40,7 +41,7 @@ returns-3 c =
     let a = c .before .before .before .before .before .before .before .before .before .before .before .before .args in
     let ns = paired (take (countOf (a .statement)) (a .hi .now)) (take (countOf (a .statement)) (a .lo .now)) in
     let k = c .before .before .before .before .before .before .before .compose in
-    all-written (a .room .now) (a .statement) ns (k .last .0) (k .result) (composed (replicate 2560 0) (k .last .0) (k .result) (a .statement) ns (length-replicate {A = ℕ} 2560 0) (k .ensures) (c .before .before .before .before .before .before .if1 .left)) (c .before .before .copy .last .0) (c .before .before .before .before .before .if2 .left) (c .before .before .copy .ensures)
+    all-written (a .room .now) (a .statement) ns (k .last .0) (k .result) (composed (replicate capacity 0) (k .last .0) (k .result) (a .statement) ns (length-replicate {A = ℕ} capacity 0) (k .ensures) (c .before .before .before .before .before .before .if1 .left)) (c .before .before .copy .last .0) (c .before .before .before .before .before .if2 .left) (c .before .before .copy .ensures)
 
 pub write-spec : {M : Type 1} → statement M
 write-spec =
