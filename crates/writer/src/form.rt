@@ -19,7 +19,7 @@ ghost use Rattle.statement.specs.declared.Statement.the-variants as statement;
 ghost use Rattle.tokens.specs.Names.{nameGiven};
 ghost use Rattle.tokens.specs.Numbers.{decimal};
 ghost use Rattle.tokens.specs.Text.{bytes};
-ghost use Rattle.statement.specs.Forms.{word, shapeText, numText, kindText, option, name, operand};
+ghost use Rattle.statement.specs.Forms.{word, shapeText, numText, option, name, operand};
 ghost use Rattle.statement.specs.Canonical.{opcodeOf, mmaValues, addressText, addressGiven};
 ghost use Rattle.statement.specs.Reading.{paired};
 ghost use Rattle.writer.specs.Outputs.{outSeen, addC, namedText, pairText, moreC, formC};
@@ -45,24 +45,6 @@ fn spelled(t: &mut Buffer, at: usize, p: Spelling) -> usize
     crate::output::put(t, at, &bytes[..n])
 }
 
-fn shape_text(t: &mut Buffer, at: usize, shape: Shape) -> usize
-    ensures { λ r. ⌜ outSeen (now (t .exit)) r ≡ addC (shapeText shape) true (outSeen (now (t .entry)) at) ⌝ }
-{
-    spelled(t, at, spellings::shape(shape))
-}
-
-fn num_text(t: &mut Buffer, at: usize, num: Num) -> usize
-    ensures { λ r. ⌜ outSeen (now (t .exit)) r ≡ addC (numText num) true (outSeen (now (t .entry)) at) ⌝ }
-{
-    spelled(t, at, spellings::num(num))
-}
-
-fn kind_text(t: &mut Buffer, at: usize, kind: Kind) -> usize
-    ensures { λ r. ⌜ outSeen (now (t .exit)) r ≡ addC (kindText kind) true (outSeen (now (t .entry)) at) ⌝ }
-{
-    spelled(t, at, spellings::kind(kind))
-}
-
 // A part that may be left out.
 fn option_text(t: &mut Buffer, at: usize, b: bool, w: &[u8]) -> usize
     ensures { λ r. ⌜ outSeen (now (t .exit)) r ≡ addC (option b (now (w .entry))) true (outSeen (now (t .entry)) at) ⌝ }
@@ -78,8 +60,8 @@ fn access_word(t: &mut Buffer, w: &[u8], shape: Shape, num: Num) -> usize
     ensures { λ r. ⌜ outSeen (now (t .exit)) r ≡ addC ((now (w .entry) ++ (shapeText shape ++ (numText num ++ bytes ".b32"))) ++ bytes " ") true (outSeen (now (t .entry)) 0) ⌝ }
 {
     let a = crate::output::put(t, 0, w);
-    let b = shape_text(t, a, shape);
-    let c = num_text(t, b, num);
+    let b = spelled(t, a, spellings::shape(shape));
+    let c = spelled(t, b, spellings::num(num));
     crate::output::put(t, c, b".b32 ")
 }
 
@@ -117,7 +99,7 @@ fn mma_word(t: &mut Buffer, ws: bool, sp: bool, kind: Kind) -> usize
     let b = option_text(t, a, ws, b".ws");
     let c = option_text(t, b, sp, b".sp");
     let d = crate::output::put(t, c, b".cta_group::1.kind::");
-    let e = kind_text(t, d, kind);
+    let e = spelled(t, d, spellings::kind(kind));
     crate::output::put(t, e, b" ")
 }
 
