@@ -29,7 +29,7 @@ same-size o m n p q = cc
 -- the buffer holds the whole text of a statement such as reading gives
 pub record Composed (u : List ℕ) (n : ℕ) (t : Statement) (regs : List Name) : Type 0 where
   pub is-given : given t regs ≡ true
-  pub full : length u ≡ capacity
+  pub inside : n ≤ length u
   pub text : take n u ≡ textOf t regs
   pub size : length (textOf t regs) ≡ n
 
@@ -56,7 +56,7 @@ module _ (z u : List ℕ) (n : ℕ) (t : Statement) (regs : List Name) (start : 
   stands : n ≤ capacity → given t regs ≡ true → length u ≡ capacity → Composed u n t regs
   stands h g f =
       let s : take n u ≡ textOf t regs = same-text (outSeen u n) (take n u) (textOf t regs) (drop n u) (drop (length (textOf t regs)) z) (seen-wrote u n f h) (shown g) in
-      record { is-given = g; full = f; text = s; size = ap length (sym s) ∙ length-take-le n u (omega arith) }
+      record { is-given = g; inside = omega arith; text = s; size = ap length (sym s) ∙ length-take-le n u (omega arith) }
 
   -- else it is given, and stands there
   pub composed : n ≤ capacity → Composed u n t regs

@@ -15,7 +15,7 @@ use Rattle.tokens.specs.Names.{sigil, isName, byteDigits, packed, lowBytes, str
 use Rattle.writer.specs.Outputs.{failedAt, Out, outSeen, addC, halvesGiven}
 use Rattle.laws.proofs.StoreLaws.{tail-is}
 use Rattle.writer.proofs.Laws.{refused, join}
-use Rattle.writer.proofs.Digits.{power, short, q256, r256, less256, bytes-law}
+use Rattle.pieces.proofs.DigitLaws.{power, short, q256, r256, less256, bytes-law}
 
 -- two tests that hold together
 eqb-iff : (a b c d : ℕ) → (a ≡ b → c ≡ d) → (c ≡ d → a ≡ b) → eqb a b ≡ eqb c d

@@ -1,12 +1,12 @@
 -- Laws of bytes put one after another. Assumes nothing.
-use Prim.Native.Nat.{ℕ, suc, _+_, _-_, _<_, _≤_}
+use Prim.Native.Nat.{ℕ, _+_, _<_, _≤_}
 use native.Mathlib.Omega.{arith}
 use native.Mathlib.Numerals.{add-one}
 use mathlib.Core.Path.{_≡_, refl, sym, _∙_}
 use mathlib.Core.List.{List, [], _++_, append-assoc, append-nil}
 use mathlib.Core.Bool.{Bool, true, false, _&&_, and-false}
 use mathlib.Core.Logic.{_⊎_, inl, inr, ⊎-elim}
-use lib.ListN.{length, getD, take, drop, set, length-append, drop-of-length-le}
+use lib.ListN.{length, getD, take, drop, length-append, drop-of-length-le}
 use lib.Seq.{sets, sets-eq, length-sets, take-at, drop-at, drop-drop, drop-cons, length-take-le}
 use lib.Dec.{leb, eqb}
 use borrow.Author.Tests.{le-leb, lt-leb, leb-true, leb-false, eq-eqb, ne-eqb, eqb-true, eqb-false}
@@ -133,17 +133,6 @@ put-all t w at h = by (eqb (length t) capacity) refl
         let e : length t ≡ capacity → ⊥ = eqb-false (length t) capacity p in
         let f : length (sets t at w) ≡ capacity → ⊥ = λ q. e (sym (length-sets t at w) ∙ q) in
         rw (seen-other (sets t at w) (at + length w) f, seen-other t at e, add-failed w true (length t), length-sets t at w)
-
--- ---- `copy`
--- one byte more
-pub copy-step : (r t : List ℕ) (n i : ℕ) → i < n → n ≤ length t → sets r i (take (n - i) (drop i t)) ≡ sets (set r i (getD t i 0)) (i + 1) (take (n - (i + 1)) (drop (i + 1) t))
-copy-step r t n i h g =
-    let e : n - i ≡ suc (n - (i + 1)) = omega arith in
-    rw (e, drop-cons t i 0 (omega arith), add-one i)
-
--- no byte left
-pub copy-end : (r t : List ℕ) (n i : ℕ) → n ≤ i → sets r i (take (n - i) (drop i t)) ≡ r
-copy-end r t n i h = let e : n - i ≡ 0 = omega arith in rw e
 
 -- ---- `all_words`
 module _ (f : ℕ → Bool) (d : List ℕ) (i : ℕ) where

@@ -72,6 +72,6 @@ pub fn write(statement: Statement, hi: &[u64], lo: &[u64], room: &mut [u8]) -> W
     if room.len() < n {
         return Written::Refused(reasons::ROOM);
     }
-    output::copy(room, &t, n);
+    pieces::fill(room, 0, &t[..n]);
     Written::Length(n)
 }

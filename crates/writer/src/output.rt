@@ -3,13 +3,12 @@ use tokens::Name;
 ghost use mathlib.Core.Path.{_≡_};
 ghost use mathlib.Core.Bool.{true};
 ghost use Prim.Native.Nat.{_≤_};
-ghost use lib.ListN.{length, take, drop};
-ghost use lib.Seq.{sets};
+ghost use lib.ListN.{length, drop};
 ghost use lib.Dec.{leb};
-ghost use Rattle.tokens.specs.Names.{nameGiven, nameBytes, lowBytes, strip};
+ghost use Rattle.tokens.specs.Names.{nameGiven, nameBytes};
 ghost use Rattle.tokens.specs.Bytes.{wordByte, all};
 ghost use Rattle.tokens.specs.Numbers.{decimal};
-ghost use Rattle.writer.specs.Outputs.{capacity, outSeen, addC, halvesGiven};
+ghost use Rattle.writer.specs.Outputs.{outSeen, addC, halvesGiven};
 
 // How many bytes a buffer has: more than any statement.
 pub const CAPACITY: usize = 2560;
@@ -18,18 +17,6 @@ pub const CAPACITY: usize = 2560;
 pub const FAILED: usize = CAPACITY + 1;
 
 pub type Buffer = [u8; CAPACITY];
-
-// The first n bytes of t, to the first places of room.
-pub fn copy(room: &mut [u8], t: &Buffer, n: usize)
-    requires { ⌜ (n ≤ length (now room)) × (length (now t) ≡ capacity) × (n ≤ capacity) ⌝ }
-    ensures { λ r. ⌜ now (room .exit) ≡ sets (now (room .entry)) 0 (take n (now (t .entry))) ⌝ }
-{
-    let mut i = 0;
-    while i < n {
-        room[i] = t[i];
-        i += 1;
-    }
-}
 
 // The bytes w, if there is room.
 pub fn put(t: &mut Buffer, at: usize, w: &[u8]) -> usize
@@ -42,12 +29,7 @@ pub fn put(t: &mut Buffer, at: usize, w: &[u8]) -> usize
     if CAPACITY - n < at {
         return FAILED;
     }
-    let mut i = 0;
-    while i < n {
-        t[at + i] = w[i];
-        i += 1;
-    }
-    at + n
+    pieces::fill(t, at, w)
 }
 
 // A number up to a limit, in decimal.
@@ -58,30 +40,8 @@ pub fn number(t: &mut Buffer, at: usize, v: u64, limit: u64) -> usize
         return FAILED;
     }
     let mut out = [b'0'; 20];
-    out[19] = b'0' + (v % 10) as u8;
-    let mut i = 19;
-    let mut w = v / 10;
-    while w != 0 {
-        i -= 1;
-        out[i] = b'0' + (w % 10) as u8;
-        w = w / 10;
-    }
+    let i = pieces::digits(&mut out, v);
     put(t, at, &out[i..])
-}
-
-// The bytes of v at the end of out, the highest first and no zero before it; answers where they begin.
-fn spread(out: &mut [u8; 8], v: u64) -> usize
-    requires { ⌜ length (now out) ≡ 8 ⌝ }
-    ensures { λ r. ⌜ (r ≤ 8) × (length (now (out .exit)) ≡ 8) × (drop r (now (out .exit)) ≡ strip (lowBytes 8 v)) ⌝ }
-{
-    let mut i = 8;
-    let mut w = v;
-    while w != 0 {
-        i -= 1;
-        out[i] = (w % 256) as u8;
-        w = w / 256;
-    }
-    i
 }
 
 // Whether each byte from a position on is a word byte.
@@ -118,8 +78,8 @@ pub fn name(t: &mut Buffer, at: usize, n: Name) -> usize
 {
     let mut h = [0u8; 8];
     let mut l = [0u8; 8];
-    let a = spread(&mut h, n.hi);
-    let b = spread(&mut l, n.lo);
+    let a = pieces::spread(&mut h, n.hi);
+    let b = pieces::spread(&mut l, n.lo);
     if !halves(&h, a, &l, b) {
         return FAILED;
     }

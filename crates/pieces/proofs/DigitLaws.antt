@@ -159,3 +159,9 @@ bytes-start out v e h =
     let g : length out ≤ 8 = omega arith in
     let d : drop 8 out ≡ [] = drop-of-length-le out g in
     ap (λ l. short q256 r256 8 v ++ l) d ∙ append-nil (short q256 r256 8 v) ∙ sym (bytes-law 8 v h)
+
+pub digits-start : (out : List ℕ) (v : ℕ) → length out ≡ 20 → v < 2 ^ 64 → short q10 r10 19 (v / 10) ++ drop 19 (set out 19 (48 + v % 10)) ≡ decimal v
+digits-start out v e h =
+    let g : length out ≤ 20 = omega arith in
+    let d : drop 20 out ≡ [] = drop-of-length-le out g in
+    rw (drop-set out 19 (48 + v % 10) (omega arith), d) (sym (decimal-law v h))
