@@ -8,6 +8,7 @@ use lib.ListN.{length, drop, set, length-append, drop-of-length-le}
 use lib.Dec.{eqb}
 use borrow.Author.Tests.{eq-eqb, ne-eqb, eqb-true, eqb-false}
 use Rattle.laws.proofs.StoreLaws.{drop-set}
+use Rattle.tokens.specs.Text.{byte}
 use Rattle.tokens.specs.Names.{lowBytes, strip}
 use Rattle.tokens.specs.Numbers.{lowDigits, trimmed, decimal}
 
@@ -123,7 +124,7 @@ abbrev pub q10 : ℕ → ℕ
 q10 v = v / 10
 
 abbrev pub r10 : ℕ → ℕ
-r10 v = 48 + v % 10
+r10 v = byte "0" + v % 10
 
 pub less10 : (v m : ℕ) → v < 10 * m → v / 10 < m
 less10 v m h = omega arith
@@ -133,25 +134,25 @@ unfolding lowDigits
 low-digits zero v = refl
 low-digits (suc k) v = rw (low-digits k (v / 10))
 
-trimmed-last : (l : List ℕ) (x : ℕ) → trimmed (l ++ x ∷ []) ≡ lead 48 l ++ x ∷ []
+trimmed-last : (l : List ℕ) (x : ℕ) → trimmed (l ++ x ∷ []) ≡ lead (byte "0") l ++ x ∷ []
 unfolding trimmed
 trimmed-last [] x = refl
-trimmed-last (y ∷ []) x = by (eqb y 48)
+trimmed-last (y ∷ []) x = by (eqb y (byte "0"))
   where
     by : (b : Bool) → cond b (x ∷ []) (y ∷ (x ∷ [])) ≡ cond b [] (y ∷ []) ++ x ∷ []
     by true = refl
     by false = refl
-trimmed-last (y ∷ (u ∷ l)) x = by (eqb y 48) (trimmed-last (u ∷ l) x)
+trimmed-last (y ∷ (u ∷ l)) x = by (eqb y (byte "0")) (trimmed-last (u ∷ l) x)
   where
-    by : (b : Bool) → trimmed (u ∷ (l ++ x ∷ [])) ≡ lead 48 (u ∷ l) ++ x ∷ [] → cond b (trimmed (u ∷ (l ++ x ∷ []))) (y ∷ (u ∷ (l ++ x ∷ []))) ≡ cond b (lead 48 (u ∷ l)) (y ∷ (u ∷ l)) ++ x ∷ []
+    by : (b : Bool) → trimmed (u ∷ (l ++ x ∷ [])) ≡ lead (byte "0") (u ∷ l) ++ x ∷ [] → cond b (trimmed (u ∷ (l ++ x ∷ []))) (y ∷ (u ∷ (l ++ x ∷ []))) ≡ cond b (lead (byte "0") (u ∷ l)) (y ∷ (u ∷ l)) ++ x ∷ []
     by true e = e
     by false e = refl
 
-pub decimal-law : (v : ℕ) → v < 2 ^ 64 → decimal v ≡ short q10 r10 19 (v / 10) ++ (48 + v % 10) ∷ []
+pub decimal-law : (v : ℕ) → v < 2 ^ 64 → decimal v ≡ short q10 r10 19 (v / 10) ++ (byte "0" + v % 10) ∷ []
 unfolding decimal lowDigits
 decimal-law v h =
     let g : v / 10 < power 10 19 = omega arith in
-    trimmed-last (lowDigits 19 (v / 10)) (48 + v % 10) ∙ ap (λ l. lead 48 l ++ (48 + v % 10) ∷ []) (low-digits 19 (v / 10)) ∙ ap (λ l. l ++ (48 + v % 10) ∷ []) (lead-low q10 r10 48 10 refl refl (λ v a b. omega arith) less10 19 (v / 10) g)
+    trimmed-last (lowDigits 19 (v / 10)) (byte "0" + v % 10) ∙ ap (λ l. lead (byte "0") l ++ (byte "0" + v % 10) ∷ []) (low-digits 19 (v / 10)) ∙ ap (λ l. l ++ (byte "0" + v % 10) ∷ []) (lead-low q10 r10 (byte "0") 10 refl refl (λ v a b. omega arith) less10 19 (v / 10) g)
 
 -- ---- where the loops begin
 pub bytes-start : (out : List ℕ) (v : ℕ) → length out ≡ 8 → v < 2 ^ 64 → short q256 r256 8 v ++ drop 8 out ≡ strip (lowBytes 8 v)
@@ -160,8 +161,8 @@ bytes-start out v e h =
     let d : drop 8 out ≡ [] = drop-of-length-le out g in
     ap (λ l. short q256 r256 8 v ++ l) d ∙ append-nil (short q256 r256 8 v) ∙ sym (bytes-law 8 v h)
 
-pub digits-start : (out : List ℕ) (v : ℕ) → length out ≡ 20 → v < 2 ^ 64 → short q10 r10 19 (v / 10) ++ drop 19 (set out 19 (48 + v % 10)) ≡ decimal v
+pub digits-start : (out : List ℕ) (v : ℕ) → length out ≡ 20 → v < 2 ^ 64 → short q10 r10 19 (v / 10) ++ drop 19 (set out 19 (byte "0" + v % 10)) ≡ decimal v
 digits-start out v e h =
     let g : length out ≤ 20 = omega arith in
     let d : drop 20 out ≡ [] = drop-of-length-le out g in
-    rw (drop-set out 19 (48 + v % 10) (omega arith), d) (sym (decimal-law v h))
+    rw (drop-set out 19 (byte "0" + v % 10) (omega arith), d) (sym (decimal-law v h))

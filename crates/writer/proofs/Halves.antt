@@ -8,29 +8,20 @@ use mathlib.Core.Bool.{Bool, true, false, _&&_, _||_, cond, and-assoc, and-comm}
 use lib.ListN.{length, getD, take, drop, length-append, length-drop, drop-of-length-le}
 use lib.Seq.{take-all, take-at, drop-at, take-append-add, drop-cons}
 use lib.Dec.{ltb, leb, eqb}
-use borrow.Author.Tests.{eq-eqb, ne-eqb, eqb-true, eqb-false, ltb-true, ltb-false}
+use borrow.Author.Tests.{eq-eqb, ne-eqb, eqb-true, eqb-false}
 use Rattle.tokens.specs.declared.Name.{Name}
 use Rattle.tokens.specs.Bytes.{letter, wordByte, all}
 use Rattle.tokens.specs.Names.{sigil, isName, byteDigits, packed, lowBytes, strip, nameBytes, nameGiven}
 use Rattle.writer.specs.Outputs.{failedAt, Out, outSeen, addC, halvesGiven}
+use Rattle.tokens.proofs.Lengths.{strip-short, low-length}
+use Rattle.laws.proofs.BoolLaws.{same-test}
 use Rattle.laws.proofs.StoreLaws.{tail-is}
 use Rattle.writer.proofs.Laws.{refused, join}
 use Rattle.pieces.proofs.DigitLaws.{power, short, q256, r256, less256, bytes-law}
 
 -- two tests that hold together
 eqb-iff : (a b c d : ℕ) → (a ≡ b → c ≡ d) → (c ≡ d → a ≡ b) → eqb a b ≡ eqb c d
-eqb-iff a b c d f g = by (eqb a b) refl
-  where
-    by : (t : Bool) → eqb a b ≡ t → eqb a b ≡ eqb c d
-    by true e = e ∙ sym (eq-eqb c d (f (eqb-true a b e)))
-    by false e = e ∙ sym (ne-eqb c d (λ h. eqb-false a b e (g h)))
-
-less-than : (m n : ℕ) → m ≤ n → (m ≡ n → ⊥) → m < n
-less-than m n g f = by (ltb m n) refl
-  where
-    by : (b : Bool) → ltb m n ≡ b → m < n
-    by true e = ltb-true m n e
-    by false e = let h : n ≤ m = ltb-false m n e in absurd (f (omega arith))
+eqb-iff a b c d f g = same-test (eqb a b) (eqb c d) (λ e. eq-eqb c d (f (eqb-true a b e))) (λ e. eq-eqb a b (g (eqb-true c d e)))
 
 all-append : (f : ℕ → Bool) (l m : List ℕ) → all f (l ++ m) ≡ (all f l && all f m)
 all-append f [] m = refl
@@ -82,20 +73,12 @@ Led (d ∷ ds) = 0 < d
 
 led-by : (x : ℕ) (l : List ℕ) (b : Bool) → eqb x 0 ≡ b → Led (strip l) → Led (cond b (strip l) (x ∷ l))
 led-by x l true e h = h
-led-by x l false e h = less-than 0 x (omega arith) (λ f. eqb-false x 0 e (sym f))
+led-by x l false e h = omega (arith, eqb-false x 0 e)
 
 led : (l : List ℕ) → Led (strip l)
 unfolding strip
 led [] = tt
 led (x ∷ l) = led-by x l (eqb x 0) refl (led l)
-
-short-length : (q r : ℕ → ℕ) (k v : ℕ) → length (short q r k v) ≤ k
-short-length q r zero v = omega arith
-short-length q r (suc k) v = by (eqb v 0) (short-length q r k (q v))
-  where
-    by : (b : Bool) → length (short q r k (q v)) ≤ k → length (cond b [] (short q r k (q v) ++ r v ∷ [])) ≤ suc k
-    by true h = omega arith
-    by false h = omega (arith, length-append (short q r k (q v)) (r v ∷ []))
 
 short-value : (k v : ℕ) → v < power 256 k → byteDigits 0 (short q256 r256 k v) ≡ v
 short-value zero v h = omega arith
@@ -106,8 +89,8 @@ short-value (suc k) v h = by (eqb v 0) refl (short-value k (v / 256) (less256 v 
     by false e i = append-digits 0 (short q256 r256 k (v / 256)) ((v % 256) ∷ []) ∙ ap (λ n. n * 256 + v % 256) i ∙ omega arith
 
 -- a number's bytes
-pub half-length : (v : ℕ) → v < 2 ^ 64 → length (strip (lowBytes 8 v)) ≤ 8
-half-length v h = rw (bytes-law 8 v h) (short-length q256 r256 8 v)
+half-length : (v : ℕ) → length (strip (lowBytes 8 v)) ≤ 8
+half-length v = omega (arith, strip-short (lowBytes 8 v), low-length 8 v)
 
 half-value : (v : ℕ) → v < 2 ^ 64 → byteDigits 0 (strip (lowBytes 8 v)) ≡ v
 half-value v h = rw (bytes-law 8 v h) (short-value 8 v h)
@@ -136,14 +119,14 @@ same x y hi lo h p q d = by (eqb (length x) 8) refl
   where
     by : (b : Bool) → eqb (length x) 8 ≡ b → Same x y hi lo ≡ (b || eqb (length y) 0)
     by true e = same-full x y hi lo p q (eqb-true (length x) 8 e)
-    by false e = same-short x y hi lo p q d (less-than (length x) 8 h (eqb-false (length x) 8 e))
+    by false e = same-short x y hi lo p q d (omega (arith, eqb-false (length x) 8 e))
 
 pub given-law : (n : Name) → n .hi < 2 ^ 64 → n .lo < 2 ^ 64 → nameGiven n ≡ halvesGiven (strip (lowBytes 8 (n .hi))) (strip (lowBytes 8 (n .lo)))
 unfolding nameGiven halvesGiven nameBytes packed
 given-law n a b =
     let x = strip (lowBytes 8 (n .hi)) in
     let y = strip (lowBytes 8 (n .lo)) in
-    let e : Same x y (n .hi) (n .lo) ≡ (eqb (length x) 8 || eqb (length y) 0) = same x y (n .hi) (n .lo) (half-length (n .hi) a) (half-value (n .hi) a) (half-value (n .lo) b) (led (lowBytes 8 (n .lo))) in
+    let e : Same x y (n .hi) (n .lo) ≡ (eqb (length x) 8 || eqb (length y) 0) = same x y (n .hi) (n .lo) (half-length (n .hi)) (half-value (n .hi) a) (half-value (n .lo) b) (led (lowBytes 8 (n .lo))) in
     rw e (and-comm (isName (x ++ y)) (eqb (length x) 8 || eqb (length y) 0))
 
 -- ---- `name`: h from a on and l from b on are the two halves
