@@ -106,7 +106,7 @@ module _ (n : ℕ) (sheet : List ℕ) (z : ℤ) (fits : SFits w64 z) (e : length
 -- ---- what is printed
 
 -- a room that is large enough has the report in its first places
-pub shown : (s room t : List ℕ) (p : Printed) → 102391 ≤ length room → p ≡ printedOf s (length room) → t ≡ roomAfter s room → p .length ≤ reportRoom
+pub shown : (s room t : List ℕ) (p : Printed) → reportRoom ≤ length room → p ≡ printedOf s (length room) → t ≡ roomAfter s room → p .length ≤ reportRoom
     → (p .length ≡ length (reportOf s)) × (take (p .length) t ≡ reportOf s)
 unfolding printedOf roomAfter
 shown s room t p h a b f =

@@ -5,6 +5,7 @@ ghost use Prim.Native.Nat.{_-_, _≤_};
 ghost use mathlib.Core.Path.{_≡_};
 ghost use lib.ListN.{length, take};
 ghost use Rattle.libc.specs.Io.{Moved};
+ghost use Rattle.report.specs.Report.{reportRoom};
 ghost use Rattle.foot.specs.Input.{takenOf, Over, shownOf};
 
 // How reading stands after so many bytes: more are to be read, all came, or a read failed.
@@ -50,7 +51,7 @@ fn read_sheet(sheet: &mut [u8]) -> Input
 
 // Puts what is printed into the room, and gives its length.
 fn output(input: Input, sheet: &[u8], room: &mut [u8]) -> usize
-    requires { ⌜ Over (length (now sheet)) input × (102391 ≤ length (now room)) ⌝ }
+    requires { ⌜ Over (length (now sheet)) input × (reportRoom ≤ length (now room)) ⌝ }
     ensures { λ r. ⌜ r ≡ length (shownOf input (now (sheet .entry))) ⌝ }
     ensures { λ r. ⌜ take r (now (room .exit)) ≡ shownOf input (now (sheet .entry)) ⌝ }
 {
@@ -66,7 +67,7 @@ fn output(input: Input, sheet: &[u8], room: &mut [u8]) -> usize
 
 fn main() {
     let mut sheet = [0u8; 65537];
-    let mut room = [0u8; 102391];
+    let mut room = [0u8; report::ROOM];
     let input = read_sheet(&mut sheet);
     let length = output(input, &sheet, &mut room);
     io::write_all(STDOUT_FILENO, &room[..length]);

@@ -3,3 +3,4 @@ pub mod ListLaws
 pub mod TestLaws
 pub mod LayoutLaws
 pub mod FormatLaws
+pub mod StoreLaws

@@ -4,7 +4,7 @@ use Prim.Native.Nat.{ℕ, zero, suc, _+_, _-_, _*_, _<_, _≤_}
 use native.Mathlib.Omega.{arith}
 use mathlib.Core.Path.{_≡_, refl, sym, ap, _∙_, subst}
 use mathlib.Core.List.{List, [], _∷_, _++_, append-nil}
-use mathlib.Core.Bool.{Bool, true, false, cond, _||_}
+use mathlib.Core.Bool.{Bool, true, false, cond}
 use mathlib.Core.Option.{none, some}
 use mathlib.Core.Logic.{inl}
 use lib.ListN.{length, getD, drop, replicate, length-append, length-replicate, List·getD-append, List·getD-eq-default}
@@ -12,6 +12,7 @@ use lib.Seq.{sets, sets-eq, getD-append-add, getD-drop}
 use lib.Count.{ones}
 use lib.Dec.{eqb, leb, ltb}
 use borrow.Author.Tests.{leb-true, ltb-true, ltb-false, eqb-true, eq-eqb, ne-eqb}
+use Rattle.laws.proofs.BoolLaws.{or-neither}
 use Rattle.laws.proofs.TestLaws.{never, each}
 use Rattle.tokens.specs.Numbers.{decimal}
 use Rattle.request.specs.Request.{legal}
@@ -29,7 +30,8 @@ use Rattle.progress.specs.Going.{seen}
 use Rattle.judge.specs.Judged.{linesOf, sheetOf, judgedOf, startsAfter}
 use Rattle.report.specs.Report.{Reported, headText, rowsText, reportText, reportRoom}
 use Rattle.report.specs.Pieces.{fieldText}
-use Rattle.report.proofs.ReportLaws.{decimal-short, head-is}
+use Rattle.tokens.proofs.Lengths.{decimal-short}
+use Rattle.report.proofs.ReportLaws.{head-is}
 use Rattle.report.proofs.Bounds.{Small, rows-short, decimal-below}
 use Rattle.printed.specs.Printed.{rowOf, rowsUpTo, rowsOf, answered, reportOf}
 use Rattle.printed.proofs.RowLaws.{rows-count}
@@ -40,10 +42,6 @@ judged-by : (b : Bool) (a : Answer) → cond b (answer 1 0 0 0) a .reason ≡ 0 
 judged-by true a e = absurd (omega (arith, e))
 judged-by false a e = refl
 
-large-by : (a b : Bool) → (a || b) ≡ false → b ≡ false
-large-by true b e = never (sym e)
-large-by false b e = e
-
 module _ (s : List ℕ) (room : ℕ) (h : judgedOf s room .reason ≡ 0) where
   pub not-large : oversize s ≡ false
   unfolding judgedOf
@@ -51,7 +49,7 @@ module _ (s : List ℕ) (room : ℕ) (h : judgedOf s room .reason ≡ 0) where
 
   pub lines-most : lineCount s ≤ 4096
   unfolding oversize
-  lines-most = ltb-false 4096 (lineCount s) (large-by (ltb 65536 (length s)) (ltb 4096 (lineCount s)) not-large)
+  lines-most = ltb-false 4096 (lineCount s) (or-neither (ltb 65536 (length s)) (ltb 4096 (lineCount s)) not-large .1)
 
   judged-is : judgedOf s room ≡ answerOf (sheetOf s) room
   unfolding judgedOf

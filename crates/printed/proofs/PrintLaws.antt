@@ -16,7 +16,8 @@ use Rattle.rules.specs.Sheet.{startsOf}
 use Rattle.rules.specs.Claims.{Passing}
 use Rattle.judge.specs.Judged.{linesOf, sheetOf, judgedOf, startsAfter}
 use Rattle.report.specs.Report.{Reported, headText, rowsText, putText, putEnd, reportRoom}
-use Rattle.report.proofs.ReportLaws.{sets-append, put-fits}
+use Rattle.laws.proofs.StoreLaws.{sets-append}
+use Rattle.report.proofs.ReportLaws.{put-fits}
 use Rattle.printed.specs.declared.Printed.{Printed}
 use Rattle.printed.specs.Printed.{rowsUpTo, rowsOf, answered, reportOf, printedOf, roomAfter}
 use Rattle.printed.proofs.PassLaws.{zeros, headOf, head-any, report-refused, report-passed, report-fits, rows-from-zeros, starts-left, starts-fit}

@@ -28,7 +28,8 @@ use Rattle.rules.specs.Sheet.{Line, badLayout, noForm, tooLarge, statement, lin
 use Rattle.progress.specs.Going.{seen}
 use Rattle.judge.specs.Judged.{linesOf}
 use Rattle.report.specs.Report.{Reported, rowText, rowsText, putText, putEnd}
-use Rattle.report.proofs.ReportLaws.{sets-append, put-fits}
+use Rattle.laws.proofs.StoreLaws.{sets-append}
+use Rattle.report.proofs.ReportLaws.{put-fits}
 use Rattle.printed.specs.declared.Asked.{Asked}
 use Rattle.printed.specs.Allocs.{noAlloc, allocOf, allocIn}
 use Rattle.printed.specs.Printed.{rowOf, rowsUpTo}

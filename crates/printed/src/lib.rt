@@ -104,14 +104,14 @@ fn rows(sheet: &[u8], starts: &[u16], room: &mut [u8], from: usize) -> usize
     next
 }
 
-// The report of a sheet in the first places of a room of at least 102,391 bytes; into a shorter one nothing is written.
+// The report of a sheet in the first places of a room of at least `report::ROOM` bytes; into a shorter one nothing is written.
 pub fn print(sheet: &[u8], room: &mut [u8]) -> Printed
     ensures answer { λ r. ⌜ r ≡ printedOf (now (sheet .entry)) (length (now (room .entry))) ⌝ }
     ensures places { λ r. ⌜ now (room .exit) ≡ roomAfter (now (sheet .entry)) (now (room .entry)) ⌝ }
     ensures fits { λ r. ⌜ r .length ≤ reportRoom ⌝ }
     ensures run { λ r. ⌜ RunPrinted (now (sheet .entry)) (r .reason) ⌝ }
 {
-    if room.len() < 102391 {
+    if room.len() < report::ROOM {
         return Printed {
             reason: reasons::ROOM,
             length: 0,

@@ -9,10 +9,11 @@ use lib.ListN.{length, length-append}
 use lib.Dec.{eqb, leb}
 use borrow.Author.Tests.{leb-true, leb-false}
 use Rattle.tokens.specs.declared.Name.{Name}
+use Rattle.tokens.specs.Text.{byte, tab, lf}
 use Rattle.tokens.specs.Names.{nameBytes}
 use Rattle.tokens.specs.Numbers.{lowDigits, trimmed, decimal}
+use Rattle.tokens.proofs.Lengths.{digits-length, trimmed-short, name-short}
 use Rattle.report.specs.Report.{numbersText, headText, rowText, Reported, rowsText, reportText, reportRoom}
-use Rattle.report.proofs.ReportLaws.{length-digits, trimmed-le, name-short}
 
 -- the n-th power of ten
 abbrev pub ten : ℕ → ℕ
@@ -32,22 +33,22 @@ ten-grows zero k h = let z : k ≡ 0 = omega arith in rw z (omega arith)
 ten-grows (suc n) k h = ten-by (leb k n) k n refl h (ten-grows n k)
 
 -- the next digit of a number below ten to the n is 0
-digits-more : (n v : ℕ) → v < ten n → lowDigits (suc n) v ≡ 48 ∷ lowDigits n v
+digits-more : (n v : ℕ) → v < ten n → lowDigits (suc n) v ≡ byte "0" ∷ lowDigits n v
 unfolding lowDigits
 digits-more zero v h = let z : v ≡ 0 = omega arith in rw z
-digits-more (suc n) v h = ap (λ (l : List ℕ). l ++ (48 + v % 10) ∷ []) (digits-more n (v / 10) (omega arith))
+digits-more (suc n) v h = ap (λ (l : List ℕ). l ++ (byte "0" + v % 10) ∷ []) (digits-more n (v / 10) (omega arith))
 
-trim-zero : (l : List ℕ) → 0 < length l → trimmed (48 ∷ l) ≡ trimmed l
+trim-zero : (l : List ℕ) → 0 < length l → trimmed (byte "0" ∷ l) ≡ trimmed l
 unfolding trimmed
 trim-zero [] h = absurd (omega arith)
 trim-zero (x ∷ l) h = refl
 
 short-by : (b : Bool) (n k v : ℕ) → leb (suc n) k ≡ b → 1 ≤ k → v < ten k → length (trimmed (lowDigits n v)) ≤ k → length (trimmed (lowDigits (suc n) v)) ≤ k
-short-by true n k v e p h f = omega (arith, trimmed-le (lowDigits (suc n) v), length-digits (suc n) v, leb-true (suc n) k e)
+short-by true n k v e p h f = omega (arith, trimmed-short (lowDigits (suc n) v), digits-length (suc n) v, leb-true (suc n) k e)
 short-by false n k v e p h f =
     let m : k ≤ n = omega (arith, leb-false (suc n) k e) in
     let g : v < ten n = omega (arith, ten-grows n k m) in
-    rw (digits-more n v g, trim-zero (lowDigits n v) (omega (arith, length-digits n v))) f
+    rw (digits-more n v g, trim-zero (lowDigits n v) (omega (arith, digits-length n v))) f
 
 digits-short : (n k v : ℕ) → 1 ≤ k → v < ten k → length (trimmed (lowDigits n v)) ≤ k
 unfolding trimmed lowDigits
@@ -61,18 +62,18 @@ decimal-below k v p h = digits-short 20 k v p h
 
 pair-text : (v w : ℕ) → length (numbersText (v ∷ (w ∷ []))) ≡ length (decimal v) + length (decimal w) + 2
 unfolding numbersText
-pair-text v w = omega (arith, length-append (decimal v) (9 ∷ (decimal w ++ 10 ∷ [])), length-append (decimal w) (10 ∷ []))
+pair-text v w = omega (arith, length-append (decimal v) (tab ∷ (decimal w ++ lf ∷ [])), length-append (decimal w) (lf ∷ []))
 
 -- a row with a start and columns below 1,000
 pub row-short : (n : Name) (s c : ℕ) → s < 1000 → c < 1000 → length (rowText n s c) ≤ 25
 unfolding rowText
 row-short n s c h k =
-    omega (arith, length-append (nameBytes n) (9 ∷ numbersText (s ∷ (c ∷ []))), name-short n, pair-text s c, decimal-below 3 s (omega arith) h, decimal-below 3 c (omega arith) k)
+    omega (arith, length-append (nameBytes n) (tab ∷ numbersText (s ∷ (c ∷ []))), name-short n, pair-text s c, decimal-below 3 s (omega arith) h, decimal-below 3 c (omega arith) k)
 
 four-text : (r l h p : ℕ) → length (numbersText (r ∷ (l ∷ (h ∷ (p ∷ []))))) ≡ length (decimal r) + length (decimal l) + (length (decimal h) + length (decimal p)) + 4
 unfolding numbersText
 four-text r l h p =
-    omega (arith, length-append (decimal r) (9 ∷ (decimal l ++ 9 ∷ numbersText (h ∷ (p ∷ [])))), length-append (decimal l) (9 ∷ numbersText (h ∷ (p ∷ []))), pair-text h p)
+    omega (arith, length-append (decimal r) (tab ∷ (decimal l ++ tab ∷ numbersText (h ∷ (p ∷ [])))), length-append (decimal l) (tab ∷ numbersText (h ∷ (p ∷ []))), pair-text h p)
 
 -- a first line with a reason below 100, a line below 10,000, held and peak below 1,000
 pub head-short : (r l h p : ℕ) → r < 100 → l < 10000 → h < 1000 → p < 1000 → length (headText r l h p) ≤ 16

@@ -1,19 +1,14 @@
 -- The printed report: a first line of four numbers, then a row for each alloc. Assumes nothing.
 use mathlib.Core.Bool.{cond}
-use Prim.Native.Nat.{ℕ, _+_}
+use Prim.Native.Nat.{ℕ, _+_, _*_}
 use mathlib.Core.List.{List, [], _∷_, _++_}
 use lib.ListN.{length}
 use lib.Seq.{sets}
 use lib.Dec.{leb, eqb}
 use Rattle.tokens.specs.declared.Name.{Name}
+use Rattle.tokens.specs.Text.{tab, lf}
 use Rattle.tokens.specs.Names.{nameBytes}
 use Rattle.tokens.specs.Numbers.{decimal}
-
-abbrev pub tab : ℕ
-tab = 9
-
-abbrev pub lf : ℕ
-lf = 10
 
 -- numbers in decimal: a tab between two, an LF after the last
 unfoldable pub numbersText : List ℕ → List ℕ
@@ -53,4 +48,4 @@ putEnd n at text = cond (leb (at + length text) n) (at + length text) at
 
 -- room for the report of any sheet (`report-fits` of crate printed): a first line of at most 16 bytes, and at most 4,095 rows of 25
 abbrev pub reportRoom : ℕ
-reportRoom = 102391
+reportRoom = 16 + 4095 * 25

@@ -12,7 +12,7 @@ use Rattle.tokens.specs.declared.Name.{Name}
 use Rattle.statement.specs.declared.Statement.{Statement}
 use Rattle.statement.specs.declared.Written.the-variants.{Length, Refused}
 use Rattle.statement.specs.Canonical.{textOf, given}
-use Rattle.writer.specs.Outputs.{Out, wrote, failed, outSeen, addC, writtenOf, leftBy}
+use Rattle.writer.specs.Outputs.{capacity, Out, wrote, failed, outSeen, addC, writtenOf, leftBy}
 use Rattle.writer.proofs.Laws.{add-fits, add-refused, seen-over, seen-other, seen-wrote}
 use Rattle.statement.proofs.Bound.{text-short}
 
@@ -29,44 +29,44 @@ same-size o m n p q = cc
 -- the buffer holds the whole text of a statement such as reading gives
 pub record Composed (u : List ℕ) (n : ℕ) (t : Statement) (regs : List Name) : Type 0 where
   pub is-given : given t regs ≡ true
-  pub full : length u ≡ 2560
+  pub inside : n ≤ length u
   pub text : take n u ≡ textOf t regs
   pub size : length (textOf t regs) ≡ n
 
-module _ (z u : List ℕ) (n : ℕ) (t : Statement) (regs : List Name) (start : length z ≡ 2560) (e : outSeen u n ≡ addC (textOf t regs) (given t regs) (outSeen z 0)) where
+module _ (z u : List ℕ) (n : ℕ) (t : Statement) (regs : List Name) (start : length z ≡ capacity) (e : outSeen u n ≡ addC (textOf t regs) (given t regs) (outSeen z 0)) where
   empty : outSeen z 0 ≡ wrote [] z
   empty = seen-wrote z 0 start (omega arith)
 
   shown : given t regs ≡ true → outSeen u n ≡ wrote (textOf t regs) (drop (length (textOf t regs)) z)
   shown g =
-      let h : 0 + length (textOf t regs) ≤ 2560 = omega (arith, text-short t regs g) in
+      let h : 0 + length (textOf t regs) ≤ capacity = omega (arith, text-short t regs g) in
       e ∙ rw (g, empty, add-fits (textOf t regs) [] z h)
 
-  hidden : given t regs ≡ false → outSeen u n ≡ failed 2560
+  hidden : given t regs ≡ false → outSeen u n ≡ failed capacity
   hidden g = e ∙ rw (g, empty, add-refused (textOf t regs) [] z)
 
   -- over the end: not given
-  pub over : 2560 < n → given t regs ≡ false
+  pub over : capacity < n → given t regs ≡ false
   over h = by (given t regs) refl
     where
       by : (b : Bool) → given t regs ≡ b → given t regs ≡ false
       by true g = absurd (not-both (outSeen u n) (textOf t regs) (drop (length (textOf t regs)) z) (length u) (shown g) (seen-over u n h))
       by false g = g
 
-  stands : n ≤ 2560 → given t regs ≡ true → length u ≡ 2560 → Composed u n t regs
+  stands : n ≤ capacity → given t regs ≡ true → length u ≡ capacity → Composed u n t regs
   stands h g f =
       let s : take n u ≡ textOf t regs = same-text (outSeen u n) (take n u) (textOf t regs) (drop n u) (drop (length (textOf t regs)) z) (seen-wrote u n f h) (shown g) in
-      record { is-given = g; full = f; text = s; size = ap length (sym s) ∙ length-take-le n u (omega arith) }
+      record { is-given = g; inside = omega arith; text = s; size = ap length (sym s) ∙ length-take-le n u (omega arith) }
 
   -- else it is given, and stands there
-  pub composed : n ≤ 2560 → Composed u n t regs
-  composed h = by (given t regs) (eqb (length u) 2560) refl refl
+  pub composed : n ≤ capacity → Composed u n t regs
+  composed h = by (given t regs) (eqb (length u) capacity) refl refl
     where
-      by : (b d : Bool) → given t regs ≡ b → eqb (length u) 2560 ≡ d → Composed u n t regs
-      by true true g f = stands h g (eqb-true (length u) 2560 f)
-      by true false g f = absurd (not-both (outSeen u n) (textOf t regs) (drop (length (textOf t regs)) z) (length u) (shown g) (seen-other u n (eqb-false (length u) 2560 f)))
-      by false true g f = absurd (not-both (outSeen u n) (take n u) (drop n u) 2560 (seen-wrote u n (eqb-true (length u) 2560 f) h) (hidden g))
-      by false false g f = absurd (eqb-false (length u) 2560 f (same-size (outSeen u n) (length u) 2560 (seen-other u n (eqb-false (length u) 2560 f)) (hidden g)))
+      by : (b d : Bool) → given t regs ≡ b → eqb (length u) capacity ≡ d → Composed u n t regs
+      by true true g f = stands h g (eqb-true (length u) capacity f)
+      by true false g f = absurd (not-both (outSeen u n) (textOf t regs) (drop (length (textOf t regs)) z) (length u) (shown g) (seen-other u n (eqb-false (length u) capacity f)))
+      by false true g f = absurd (not-both (outSeen u n) (take n u) (drop n u) capacity (seen-wrote u n (eqb-true (length u) capacity f) h) (hidden g))
+      by false false g f = absurd (eqb-false (length u) capacity f (same-size (outSeen u n) (length u) capacity (seen-other u n (eqb-false (length u) capacity f)) (hidden g)))
 
 -- ---- answers
 module _ (room : List ℕ) (t : Statement) (regs : List Name) where

@@ -4,38 +4,24 @@ use native.Mathlib.Omega.{arith}
 use native.Mathlib.Numerals.{add-one}
 use mathlib.Core.Path.{_≡_, refl, sym, ap, _∙_}
 use mathlib.Core.List.{List, [], _∷_, _++_, append-nil}
-use mathlib.Core.Bool.{Bool, true, false, _&&_, _||_, cond}
+use mathlib.Core.Bool.{Bool, true, false, _&&_, _||_, cond, and-assoc, and-comm}
 use lib.ListN.{length, getD, take, drop, length-append, length-drop, drop-of-length-le}
 use lib.Seq.{take-all, take-at, drop-at, take-append-add, drop-cons}
 use lib.Dec.{ltb, leb, eqb}
-use borrow.Author.Tests.{eq-eqb, ne-eqb, eqb-true, eqb-false, ltb-true, ltb-false}
+use borrow.Author.Tests.{eq-eqb, ne-eqb, eqb-true, eqb-false}
 use Rattle.tokens.specs.declared.Name.{Name}
 use Rattle.tokens.specs.Bytes.{letter, wordByte, all}
 use Rattle.tokens.specs.Names.{sigil, isName, byteDigits, packed, lowBytes, strip, nameBytes, nameGiven}
-use Rattle.writer.specs.Outputs.{Out, outSeen, addC, halvesGiven}
-use Rattle.writer.proofs.Laws.{and-assoc, refused, join}
-use Rattle.writer.proofs.Digits.{power, short, q256, r256, less256, bytes-law, tail}
-
-and-comm : (a b : Bool) → (a && b) ≡ (b && a)
-and-comm true true = refl
-and-comm true false = refl
-and-comm false true = refl
-and-comm false false = refl
+use Rattle.writer.specs.Outputs.{failedAt, Out, outSeen, addC, halvesGiven}
+use Rattle.tokens.proofs.Lengths.{strip-short, low-length}
+use Rattle.laws.proofs.BoolLaws.{same-test}
+use Rattle.laws.proofs.StoreLaws.{tail-is}
+use Rattle.writer.proofs.Laws.{refused, join}
+use Rattle.pieces.proofs.DigitLaws.{power, short, q256, r256, less256, bytes-law}
 
 -- two tests that hold together
 eqb-iff : (a b c d : ℕ) → (a ≡ b → c ≡ d) → (c ≡ d → a ≡ b) → eqb a b ≡ eqb c d
-eqb-iff a b c d f g = by (eqb a b) refl
-  where
-    by : (t : Bool) → eqb a b ≡ t → eqb a b ≡ eqb c d
-    by true e = e ∙ sym (eq-eqb c d (f (eqb-true a b e)))
-    by false e = e ∙ sym (ne-eqb c d (λ h. eqb-false a b e (g h)))
-
-less-than : (m n : ℕ) → m ≤ n → (m ≡ n → ⊥) → m < n
-less-than m n g f = by (ltb m n) refl
-  where
-    by : (b : Bool) → ltb m n ≡ b → m < n
-    by true e = ltb-true m n e
-    by false e = let h : n ≤ m = ltb-false m n e in absurd (f (omega arith))
+eqb-iff a b c d f g = same-test (eqb a b) (eqb c d) (λ e. eq-eqb c d (f (eqb-true a b e))) (λ e. eq-eqb a b (g (eqb-true c d e)))
 
 all-append : (f : ℕ → Bool) (l m : List ℕ) → all f (l ++ m) ≡ (all f l && all f m)
 all-append f [] m = refl
@@ -87,20 +73,12 @@ Led (d ∷ ds) = 0 < d
 
 led-by : (x : ℕ) (l : List ℕ) (b : Bool) → eqb x 0 ≡ b → Led (strip l) → Led (cond b (strip l) (x ∷ l))
 led-by x l true e h = h
-led-by x l false e h = less-than 0 x (omega arith) (λ f. eqb-false x 0 e (sym f))
+led-by x l false e h = omega (arith, eqb-false x 0 e)
 
 led : (l : List ℕ) → Led (strip l)
 unfolding strip
 led [] = tt
 led (x ∷ l) = led-by x l (eqb x 0) refl (led l)
-
-short-length : (q r : ℕ → ℕ) (k v : ℕ) → length (short q r k v) ≤ k
-short-length q r zero v = omega arith
-short-length q r (suc k) v = by (eqb v 0) (short-length q r k (q v))
-  where
-    by : (b : Bool) → length (short q r k (q v)) ≤ k → length (cond b [] (short q r k (q v) ++ r v ∷ [])) ≤ suc k
-    by true h = omega arith
-    by false h = omega (arith, length-append (short q r k (q v)) (r v ∷ []))
 
 short-value : (k v : ℕ) → v < power 256 k → byteDigits 0 (short q256 r256 k v) ≡ v
 short-value zero v h = omega arith
@@ -111,8 +89,8 @@ short-value (suc k) v h = by (eqb v 0) refl (short-value k (v / 256) (less256 v 
     by false e i = append-digits 0 (short q256 r256 k (v / 256)) ((v % 256) ∷ []) ∙ ap (λ n. n * 256 + v % 256) i ∙ omega arith
 
 -- a number's bytes
-pub half-length : (v : ℕ) → v < 2 ^ 64 → length (strip (lowBytes 8 v)) ≤ 8
-half-length v h = rw (bytes-law 8 v h) (short-length q256 r256 8 v)
+half-length : (v : ℕ) → length (strip (lowBytes 8 v)) ≤ 8
+half-length v = omega (arith, strip-short (lowBytes 8 v), low-length 8 v)
 
 half-value : (v : ℕ) → v < 2 ^ 64 → byteDigits 0 (strip (lowBytes 8 v)) ≡ v
 half-value v h = rw (bytes-law 8 v h) (short-value 8 v h)
@@ -141,14 +119,14 @@ same x y hi lo h p q d = by (eqb (length x) 8) refl
   where
     by : (b : Bool) → eqb (length x) 8 ≡ b → Same x y hi lo ≡ (b || eqb (length y) 0)
     by true e = same-full x y hi lo p q (eqb-true (length x) 8 e)
-    by false e = same-short x y hi lo p q d (less-than (length x) 8 h (eqb-false (length x) 8 e))
+    by false e = same-short x y hi lo p q d (omega (arith, eqb-false (length x) 8 e))
 
 pub given-law : (n : Name) → n .hi < 2 ^ 64 → n .lo < 2 ^ 64 → nameGiven n ≡ halvesGiven (strip (lowBytes 8 (n .hi))) (strip (lowBytes 8 (n .lo)))
 unfolding nameGiven halvesGiven nameBytes packed
 given-law n a b =
     let x = strip (lowBytes 8 (n .hi)) in
     let y = strip (lowBytes 8 (n .lo)) in
-    let e : Same x y (n .hi) (n .lo) ≡ (eqb (length x) 8 || eqb (length y) 0) = same x y (n .hi) (n .lo) (half-length (n .hi) a) (half-value (n .hi) a) (half-value (n .lo) b) (led (lowBytes 8 (n .lo))) in
+    let e : Same x y (n .hi) (n .lo) ≡ (eqb (length x) 8 || eqb (length y) 0) = same x y (n .hi) (n .lo) (half-length (n .hi)) (half-value (n .hi) a) (half-value (n .lo) b) (led (lowBytes 8 (n .lo))) in
     rw e (and-comm (isName (x ++ y)) (eqb (length x) 8 || eqb (length y) 0))
 
 -- ---- `name`: h from a on and l from b on are the two halves
@@ -157,14 +135,14 @@ module _ (n : Name) (h l : List ℕ) (a b : ℕ) (ok : Bool) (eh : drop a h ≡ 
   name-by = rw (is, eh, el) (given-law n hi lo)
 
   -- a name that is not such as reading gives
-  pub name-none : (t : List ℕ) (at : ℕ) → ok ≡ false → outSeen t 2561 ≡ addC (nameBytes n) (nameGiven n) (outSeen t at)
+  pub name-none : (t : List ℕ) (at : ℕ) → ok ≡ false → outSeen t failedAt ≡ addC (nameBytes n) (nameGiven n) (outSeen t at)
   name-none t at e = rw (name-by, e) (refused t (nameBytes n) at)
 
   module _ (ah : length h ≡ 8) (al : length l ≡ 8) (o u : Out) (e : ok ≡ true) (p : u ≡ addC (take (8 - a) (drop a h)) true o) where
     -- one half after the other
     pub name-some : (r : Out) → r ≡ addC (take (8 - b) (drop b l)) true u → r ≡ addC (nameBytes n) (nameGiven n) o
     unfolding nameBytes
-    name-some r q = rw (name-by, e, q, p, tail h 8 a ah, tail l 8 b al, eh, el, join)
+    name-some r q = rw (name-by, e, q, p, tail-is h 8 a ah, tail-is l 8 b al, eh, el, join)
 
     -- the first alone, where the second is empty
     pub name-short : 8 ≤ b → u ≡ addC (nameBytes n) (nameGiven n) o
@@ -172,4 +150,4 @@ module _ (n : Name) (h l : List ℕ) (a b : ℕ) (ok : Bool) (eh : drop a h ≡ 
     name-short g =
         let f : length l ≤ b = omega arith in
         let z : strip (lowBytes 8 (n .lo)) ≡ [] = sym el ∙ drop-of-length-le l f in
-        rw (name-by, e, p, tail h 8 a ah, eh, z, append-nil)
+        rw (name-by, e, p, tail-is h 8 a ah, eh, z, append-nil)

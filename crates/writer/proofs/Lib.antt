@@ -1,5 +1,4 @@
 pub mod Laws
 pub mod Rows
-pub mod Digits
 pub mod Halves
 pub mod Answers

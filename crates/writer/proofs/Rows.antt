@@ -4,44 +4,46 @@ use native.Mathlib.Omega.{arith}
 use native.Mathlib.Numerals.{add-one}
 use mathlib.Core.Path.{_≡_, refl, ap}
 use mathlib.Core.List.{List, [], _∷_, _++_, append-assoc}
-use mathlib.Core.Bool.{Bool, true, false, _&&_}
+use mathlib.Core.Bool.{Bool, true, false, _&&_, and-true, and-false, and-assoc}
 use lib.ListN.{length, getD, take, drop, length-take, drop-of-length-le}
 use lib.Dec.{ltb, leb, eqb}
 use borrow.Author.Tests.{lt-ltb, le-leb, lt-leb, eq-eqb, ne-eqb, eqb-true}
 use Rattle.tokens.specs.declared.Name.{Name}
+use Rattle.tokens.specs.Text.{bytes}
 use Rattle.tokens.specs.Names.{nameBytes, nameGiven}
 use Rattle.tokens.specs.Numbers.{decimal}
 use Rattle.statement.specs.Forms.{Slot, Values, max32}
 use Rattle.statement.specs.Reading.{paired}
 use Rattle.statement.specs.Canonical.{slotText, slotGiven, moreRowText, rowText, rowGiven, offsetText, moreNamesText, namesText, allNames}
 use Rattle.writer.specs.Outputs.{Out, outSeen, addC, firsts, namesGiven, pairText, moreC}
-use Rattle.writer.proofs.Laws.{join, and-true, and-false, and-assoc, and-swap, add-nothing}
+use Rattle.laws.proofs.BoolLaws.{and-swap}
+use Rattle.writer.proofs.Laws.{join, add-nothing}
 
 -- commas, operands and the semicolon
-more-law : (ks : List Slot) (v : Values ks) (o : Out) → addC (59 ∷ []) true (moreC ks v o) ≡ addC (moreRowText ks v) (rowGiven ks v) o
+more-law : (ks : List Slot) (v : Values ks) (o : Out) → addC (bytes ";") true (moreC ks v o) ≡ addC (moreRowText ks v) (rowGiven ks v) o
 unfolding moreRowText rowGiven
 more-law [] v o = refl
-more-law (k ∷ ks) v o = rw (more-law ks (v .1) (addC (slotText k (v .0)) (slotGiven k (v .0)) (addC (44 ∷ 32 ∷ []) true o)), join, join)
+more-law (k ∷ ks) v o = rw (more-law ks (v .1) (addC (slotText k (v .0)) (slotGiven k (v .0)) (addC (bytes ", ") true o)), join, join)
 
 -- after a word and a space
 pub row-law : (w : List ℕ) (k : Slot) (ks : List Slot) (v : Values (k ∷ ks)) (o : Out)
-    → addC (59 ∷ []) true (moreC ks (v .1) (addC (slotText k (v .0)) (slotGiven k (v .0)) (addC (w ++ 32 ∷ []) true o))) ≡ addC (w ++ rowText (k ∷ ks) v) (rowGiven (k ∷ ks) v) o
+    → addC (bytes ";") true (moreC ks (v .1) (addC (slotText k (v .0)) (slotGiven k (v .0)) (addC (w ++ bytes " ") true o))) ≡ addC (w ++ rowText (k ∷ ks) v) (rowGiven (k ∷ ks) v) o
 unfolding rowText rowGiven
-row-law w k ks v o = rw (more-law ks (v .1) (addC (slotText k (v .0)) (slotGiven k (v .0)) (addC (w ++ 32 ∷ []) true o)), join, join, append-assoc)
+row-law w k ks v o = rw (more-law ks (v .1) (addC (slotText k (v .0)) (slotGiven k (v .0)) (addC (w ++ bytes " ") true o)), join, join, append-assoc)
 
 -- ---- operands
 -- between a bracket and a bracket
-pub brackets-law : (x : List ℕ) (b : Bool) (o : Out) → addC (93 ∷ []) true (addC x b (addC (91 ∷ []) true o)) ≡ addC (91 ∷ (x ++ 93 ∷ [])) b o
+pub brackets-law : (x : List ℕ) (b : Bool) (o : Out) → addC (bytes "]") true (addC x b (addC (bytes "[") true o)) ≡ addC (bytes "[" ++ (x ++ bytes "]")) b o
 brackets-law x b o = rw (join, join, and-true b)
 
-pub address-law : (x y : List ℕ) (b d : Bool) (o : Out) → addC (93 ∷ []) true (addC y d (addC x b (addC (91 ∷ []) true o))) ≡ addC (91 ∷ (x ++ (y ++ 93 ∷ []))) (b && d) o
+pub address-law : (x y : List ℕ) (b d : Bool) (o : Out) → addC (bytes "]") true (addC y d (addC x b (addC (bytes "[") true o))) ≡ addC (bytes "[" ++ (x ++ (y ++ bytes "]"))) (b && d) o
 address-law x y b d o = rw (join, join, join, and-true d)
 
 -- +number, or nothing for 0
 pub offset-none : (t : List ℕ) (at v : ℕ) → v ≡ 0 → outSeen t at ≡ addC (offsetText v) (leb v max32) (outSeen t at)
 offset-none t at v e = rw e (add-nothing t at)
 
-pub offset-some : (v : ℕ) (o : Out) → (v ≡ 0 → ⊥) → addC (decimal v) (leb v max32) (addC (43 ∷ []) true o) ≡ addC (offsetText v) (leb v max32) o
+pub offset-some : (v : ℕ) (o : Out) → (v ≡ 0 → ⊥) → addC (decimal v) (leb v max32) (addC (bytes "+") true o) ≡ addC (offsetText v) (leb v max32) o
 offset-some v o h = rw (ne-eqb v 0 h, join)
 
 -- ---- names
@@ -102,19 +104,19 @@ module _ (a b : List ℕ) (n : ℕ) where
         rw (e, eq-eqb n n refl, lt-ltb 0 n some, le-leb n 128 h)
 
     -- what is left of the names after the first
-    pub names-start : (o u v : Out) → u ≡ addC (123 ∷ []) true o → v ≡ addC (nameBytes (nameAt a b 0)) (nameGiven (nameAt a b 0)) u
+    pub names-start : (o u v : Out) → u ≡ addC (bytes "{") true o → v ≡ addC (nameBytes (nameAt a b 0)) (nameGiven (nameAt a b 0)) u
         → addC (moreNamesText (drop 1 (firsts a b n))) (allNames (drop 1 (firsts a b n))) v ≡ addC (namesText (firsts a b n)) (allNames (firsts a b n)) o
     unfolding namesText
     names-start o u v e f = rw (f, e, firsts-drop a b n 0 some p q, join, join)
 
     -- after one more
-    pub names-step : (i : ℕ) (o u v : Out) → i < n → u ≡ addC (44 ∷ 32 ∷ []) true o → v ≡ addC (nameBytes (nameAt a b i)) (nameGiven (nameAt a b i)) u
+    pub names-step : (i : ℕ) (o u v : Out) → i < n → u ≡ addC (bytes ", ") true o → v ≡ addC (nameBytes (nameAt a b i)) (nameGiven (nameAt a b i)) u
         → addC (moreNamesText (drop (i + 1) (firsts a b n))) (allNames (drop (i + 1) (firsts a b n))) v ≡ addC (moreNamesText (drop i (firsts a b n))) (allNames (drop i (firsts a b n))) o
     unfolding moreNamesText
     names-step i o u v h e f = rw (f, e, add-one i, firsts-drop a b n i h p q, join, join)
 
     -- after the last
-    pub names-end : (i : ℕ) (o u : Out) → n ≤ i → u ≡ addC (125 ∷ []) true o → u ≡ addC (moreNamesText (drop i (firsts a b n))) (allNames (drop i (firsts a b n))) o
+    pub names-end : (i : ℕ) (o u : Out) → n ≤ i → u ≡ addC (bytes "}") true o → u ≡ addC (moreNamesText (drop i (firsts a b n))) (allNames (drop i (firsts a b n))) o
     unfolding moreNamesText
     names-end i o u h e =
         let g : length (firsts a b n) ≤ i = omega (arith, firsts-length a b n p q) in
@@ -122,24 +124,24 @@ module _ (a b : List ℕ) (n : ℕ) where
 
 -- ---- words and forms
 -- the word of a ld or st, and a space
-pub access-law : (w s n : List ℕ) (o : Out) → addC (46 ∷ 98 ∷ 51 ∷ 50 ∷ 32 ∷ []) true (addC n true (addC s true (addC w true o))) ≡ addC ((w ++ (s ++ (n ++ 46 ∷ 98 ∷ 51 ∷ 50 ∷ []))) ++ 32 ∷ []) true o
+pub access-law : (w s n : List ℕ) (o : Out) → addC (bytes ".b32 ") true (addC n true (addC s true (addC w true o))) ≡ addC ((w ++ (s ++ (n ++ bytes ".b32"))) ++ bytes " ") true o
 access-law w s n o = rw (join, join, join, append-assoc, append-assoc, append-assoc)
 
 -- the word of an mma, and a space
-pub mma-law : (a b d e f : List ℕ) (o : Out) → addC (32 ∷ []) true (addC f true (addC e true (addC d true (addC b true (addC a true o))))) ≡ addC ((a ++ (b ++ (d ++ (e ++ f)))) ++ 32 ∷ []) true o
+pub mma-law : (a b d e f : List ℕ) (o : Out) → addC (bytes " ") true (addC f true (addC e true (addC d true (addC b true (addC a true o))))) ≡ addC ((a ++ (b ++ (d ++ (e ++ f)))) ++ bytes " ") true o
 mma-law a b d e f o = rw (join, join, join, join, join, append-assoc, append-assoc, append-assoc, append-assoc)
 
 -- two operands after a word
 pub pair-law : (w x y : List ℕ) (b d : Bool) (o : Out)
-    → addC (59 ∷ []) true (addC y d (addC (44 ∷ 32 ∷ []) true (addC x b (addC w true o)))) ≡ addC (w ++ pairText x y) (b && (d && true)) o
+    → addC (bytes ";") true (addC y d (addC (bytes ", ") true (addC x b (addC w true o)))) ≡ addC (w ++ pairText x y) (b && (d && true)) o
 pair-law w x y b d o = rw (join, join, join, join)
 
 -- the names come first in a ld
 pub load-law : (w x y : List ℕ) (e b d : Bool) (o : Out)
-    → addC (59 ∷ []) true (addC y d (addC (44 ∷ 32 ∷ []) true (addC x (e && b) (addC (w ++ 32 ∷ []) true o)))) ≡ addC (w ++ (32 ∷ pairText x y)) (e && (b && (d && true))) o
-load-law w x y e b d o = rw (pair-law (w ++ 32 ∷ []) x y (e && b) d o, append-assoc, and-assoc e b (d && true))
+    → addC (bytes ";") true (addC y d (addC (bytes ", ") true (addC x (e && b) (addC (w ++ bytes " ") true o)))) ≡ addC (w ++ (bytes " " ++ pairText x y)) (e && (b && (d && true))) o
+load-law w x y e b d o = rw (pair-law (w ++ bytes " ") x y (e && b) d o, append-assoc, and-assoc e b (d && true))
 
 -- and second in a st
 pub store-law : (w x y : List ℕ) (e b d : Bool) (o : Out)
-    → addC (59 ∷ []) true (addC y (e && d) (addC (44 ∷ 32 ∷ []) true (addC x b (addC (w ++ 32 ∷ []) true o)))) ≡ addC (w ++ (32 ∷ pairText x y)) (e && (b && (d && true))) o
-store-law w x y e b d o = rw (pair-law (w ++ 32 ∷ []) x y b (e && d) o, append-assoc, and-swap b e d)
+    → addC (bytes ";") true (addC y (e && d) (addC (bytes ", ") true (addC x b (addC (w ++ bytes " ") true o)))) ≡ addC (w ++ (bytes " " ++ pairText x y)) (e && (b && (d && true))) o
+store-law w x y e b d o = rw (pair-law (w ++ bytes " ") x y b (e && d) o, append-assoc, and-assoc e d true, and-swap b e (d && true))

@@ -1,7 +1,7 @@
--- Writing, step by step, into a buffer of 2,560 bytes: more than any statement has. Assumes nothing.
+-- Writing, step by step, into a buffer. Assumes nothing.
 use Prim.Native.Nat.{ℕ, _+_}
 use mathlib.Core.List.{List, [], _∷_, _++_}
-use mathlib.Core.Bool.{Bool, true, false, _&&_, _||_, cond}
+use mathlib.Core.Bool.{Bool, true, _&&_, _||_, cond}
 use lib.ListN.{length, take, drop}
 use lib.Seq.{sets}
 use lib.Dec.{leb, eqb}
@@ -16,18 +16,26 @@ use Rattle.statement.specs.Forms.{word, Slot, inBrackets, names, Values, row}
 use Rattle.statement.specs.Reading.{paired}
 use Rattle.statement.specs.Canonical.{slotText, slotGiven, rowText, rowGiven, textOf, given}
 
+-- how many bytes a buffer has: more than any statement
+abbrev pub capacity : ℕ
+capacity = 2560
+
+-- the position once writing failed
+abbrev pub failedAt : ℕ
+failedAt = capacity + 1
+
 -- what is written so far, and what stands after it; or that a value was not such as reading gives, or that there was no room, in a buffer of that length
 pub data Out : Type 0 where
   wrote : List ℕ → List ℕ → Out
   failed : ℕ → Out
 
--- what a buffer holds before a position and from there on; a position over 2,560 says that writing failed
+-- what a buffer holds before a position and from there on; a position past it says that writing failed
 unfoldable pub outSeen : List ℕ → ℕ → Out
-outSeen t at = cond (eqb (length t) 2560 && leb at 2560) (wrote (take at t) (drop at t)) (failed (length t))
+outSeen t at = cond (eqb (length t) capacity && leb at capacity) (wrote (take at t) (drop at t)) (failed (length t))
 
 -- the bytes w, if they are given and there is room, and nothing past them is changed; what failed stays so
 unfoldable pub addC : List ℕ → Bool → Out → Out
-addC w b (wrote l m) = cond (b && leb (length l + length w) 2560) (wrote (l ++ w) (drop (length w) m)) (failed 2560)
+addC w b (wrote l m) = cond (b && leb (length l + length w) capacity) (wrote (l ++ w) (drop (length w) m)) (failed capacity)
 addC w b (failed n) = failed n
 
 -- the first names that two lists hold

@@ -1,4 +1,5 @@
 // Forms, put into a buffer: the opcode's word, the operands, and the semicolon.
+use crate::output::Buffer;
 use instruction::Kind;
 use spellings::Spelling;
 use statement::Access;
@@ -18,20 +19,13 @@ ghost use Rattle.statement.specs.declared.Statement.the-variants as statement;
 ghost use Rattle.tokens.specs.Names.{nameGiven};
 ghost use Rattle.tokens.specs.Numbers.{decimal};
 ghost use Rattle.tokens.specs.Text.{bytes};
-ghost use Rattle.statement.specs.Forms.{word, shapeText, numText, kindText, option, name, operand};
+ghost use Rattle.statement.specs.Forms.{word, shapeText, numText, option, name, operand};
 ghost use Rattle.statement.specs.Canonical.{opcodeOf, mmaValues, addressText, addressGiven};
 ghost use Rattle.statement.specs.Reading.{paired};
 ghost use Rattle.writer.specs.Outputs.{outSeen, addC, namedText, pairText, moreC, formC};
 
 // An opcode's word and a space, a name (in brackets or not), and a number up to a limit.
-pub fn name_number(
-    t: &mut [u8; 2560],
-    w: &[u8],
-    n: Name,
-    bracketed: bool,
-    v: u64,
-    limit: u64,
-) -> usize
+pub fn name_number(t: &mut Buffer, w: &[u8], n: Name, bracketed: bool, v: u64, limit: u64) -> usize
     ensures { λ r. ⌜ outSeen (now (t .exit)) r ≡ addC (now (w .entry) ++ pairText (namedText bracketed n) (decimal v)) (nameGiven n && (leb v limit && true)) (outSeen (now (t .entry)) 0) ⌝ }
 {
     let a = crate::output::put(t, 0, w);
@@ -42,7 +36,7 @@ pub fn name_number(
 }
 
 // A spelling.
-fn spelled(t: &mut [u8; 2560], at: usize, p: Spelling) -> usize
+fn spelled(t: &mut Buffer, at: usize, p: Spelling) -> usize
     requires { ⌜ (p .length ≤ 8) × (length (p .bytes) ≡ 8) ⌝ }
     ensures { λ r. ⌜ outSeen (now (t .exit)) r ≡ addC (take (p .length) (p .bytes)) true (outSeen (now (t .entry)) at) ⌝ }
 {
@@ -51,26 +45,8 @@ fn spelled(t: &mut [u8; 2560], at: usize, p: Spelling) -> usize
     crate::output::put(t, at, &bytes[..n])
 }
 
-fn shape_text(t: &mut [u8; 2560], at: usize, shape: Shape) -> usize
-    ensures { λ r. ⌜ outSeen (now (t .exit)) r ≡ addC (shapeText shape) true (outSeen (now (t .entry)) at) ⌝ }
-{
-    spelled(t, at, spellings::shape(shape))
-}
-
-fn num_text(t: &mut [u8; 2560], at: usize, num: Num) -> usize
-    ensures { λ r. ⌜ outSeen (now (t .exit)) r ≡ addC (numText num) true (outSeen (now (t .entry)) at) ⌝ }
-{
-    spelled(t, at, spellings::num(num))
-}
-
-fn kind_text(t: &mut [u8; 2560], at: usize, kind: Kind) -> usize
-    ensures { λ r. ⌜ outSeen (now (t .exit)) r ≡ addC (kindText kind) true (outSeen (now (t .entry)) at) ⌝ }
-{
-    spelled(t, at, spellings::kind(kind))
-}
-
 // A part that may be left out.
-fn option_text(t: &mut [u8; 2560], at: usize, b: bool, w: &[u8]) -> usize
+fn option_text(t: &mut Buffer, at: usize, b: bool, w: &[u8]) -> usize
     ensures { λ r. ⌜ outSeen (now (t .exit)) r ≡ addC (option b (now (w .entry))) true (outSeen (now (t .entry)) at) ⌝ }
 {
     if b {
@@ -80,16 +56,16 @@ fn option_text(t: &mut [u8; 2560], at: usize, b: bool, w: &[u8]) -> usize
 }
 
 // The word of a ld or st, which starts with w, and a space.
-fn access_word(t: &mut [u8; 2560], w: &[u8], shape: Shape, num: Num) -> usize
+fn access_word(t: &mut Buffer, w: &[u8], shape: Shape, num: Num) -> usize
     ensures { λ r. ⌜ outSeen (now (t .exit)) r ≡ addC ((now (w .entry) ++ (shapeText shape ++ (numText num ++ bytes ".b32"))) ++ bytes " ") true (outSeen (now (t .entry)) 0) ⌝ }
 {
     let a = crate::output::put(t, 0, w);
-    let b = shape_text(t, a, shape);
-    let c = num_text(t, b, num);
+    let b = spelled(t, a, spellings::shape(shape));
+    let c = spelled(t, b, spellings::num(num));
     crate::output::put(t, c, b".b32 ")
 }
 
-pub fn load(t: &mut [u8; 2560], a: Access, hi: &[u64], lo: &[u64]) -> usize
+pub fn load(t: &mut Buffer, a: Access, hi: &[u64], lo: &[u64]) -> usize
     ensures { λ r. ⌜ outSeen (now (t .exit)) r ≡ formC (opcode.Load (a .shape) (a .num)) (paired (take (a .registers) (now (hi .entry))) (take (a .registers) (now (lo .entry))), (a .address, tt)) (eqb (a .registers) (length (paired (take (a .registers) (now (hi .entry))) (take (a .registers) (now (lo .entry)))))) (outSeen (now (t .entry)) 0) ⌝ }
 {
     let shape = a.shape;
@@ -102,7 +78,7 @@ pub fn load(t: &mut [u8; 2560], a: Access, hi: &[u64], lo: &[u64]) -> usize
     crate::output::put(t, e, b";")
 }
 
-pub fn store(t: &mut [u8; 2560], a: Access, hi: &[u64], lo: &[u64]) -> usize
+pub fn store(t: &mut Buffer, a: Access, hi: &[u64], lo: &[u64]) -> usize
     ensures { λ r. ⌜ outSeen (now (t .exit)) r ≡ formC (opcode.Store (a .shape) (a .num)) (a .address, (paired (take (a .registers) (now (hi .entry))) (take (a .registers) (now (lo .entry))), tt)) (eqb (a .registers) (length (paired (take (a .registers) (now (hi .entry))) (take (a .registers) (now (lo .entry)))))) (outSeen (now (t .entry)) 0) ⌝ }
 {
     let shape = a.shape;
@@ -116,19 +92,19 @@ pub fn store(t: &mut [u8; 2560], a: Access, hi: &[u64], lo: &[u64]) -> usize
 }
 
 // The word of an mma, and a space.
-fn mma_word(t: &mut [u8; 2560], ws: bool, sp: bool, kind: Kind) -> usize
+fn mma_word(t: &mut Buffer, ws: bool, sp: bool, kind: Kind) -> usize
     ensures { λ r. ⌜ outSeen (now (t .exit)) r ≡ addC (word (opcode.Multiply ws sp kind) ++ bytes " ") true (outSeen (now (t .entry)) 0) ⌝ }
 {
     let a = crate::output::put(t, 0, b"tcgen05.mma");
     let b = option_text(t, a, ws, b".ws");
     let c = option_text(t, b, sp, b".sp");
     let d = crate::output::put(t, c, b".cta_group::1.kind::");
-    let e = kind_text(t, d, kind);
+    let e = spelled(t, d, spellings::kind(kind));
     crate::output::put(t, e, b" ")
 }
 
 // An mma up to its b.
-fn mma_front(t: &mut [u8; 2560], m: Mma, sp: bool) -> usize
+fn mma_front(t: &mut Buffer, m: Mma, sp: bool) -> usize
     ensures { λ r. ⌜ outSeen (now (t .exit)) r ≡ moreC (operand ∷ name ∷ []) (m .a, (m .b, tt)) (addC (addressText (m .d)) (addressGiven (m .d)) (addC (word (opcode.Multiply (m .ws) sp (m .kind)) ++ bytes " ") true (outSeen (now (t .entry)) 0))) ⌝ }
 {
     let kind = m.kind;
@@ -144,7 +120,7 @@ fn mma_front(t: &mut [u8; 2560], m: Mma, sp: bool) -> usize
 }
 
 // The last two operands of an mma, and the semicolon.
-fn mma_back(t: &mut [u8; 2560], at: usize, m: Mma) -> usize
+fn mma_back(t: &mut Buffer, at: usize, m: Mma) -> usize
     ensures { λ r. ⌜ outSeen (now (t .exit)) r ≡ addC (bytes ";") true (moreC (name ∷ name ∷ []) (m .idesc, (m .predicate, tt)) (outSeen (now (t .entry)) at)) ⌝ }
 {
     let i = m.idesc;
@@ -156,7 +132,7 @@ fn mma_back(t: &mut [u8; 2560], at: usize, m: Mma) -> usize
     crate::output::put(t, k4, b";")
 }
 
-pub fn multiply(t: &mut [u8; 2560], m: Mma) -> usize
+pub fn multiply(t: &mut Buffer, m: Mma) -> usize
     ensures { λ r. ⌜ outSeen (now (t .exit)) r ≡ formC (opcodeOf (statement.Multiply m)) (mmaValues m (m .metadata)) true (outSeen (now (t .entry)) 0) ⌝ }
 {
     let x = m.metadata;

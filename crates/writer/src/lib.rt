@@ -3,6 +3,8 @@ mod form;
 mod operand;
 mod output;
 
+use output::Buffer;
+use output::CAPACITY;
 use statement::Statement;
 use statement::Written;
 ghost use mathlib.Core.Path.{_≡_};
@@ -18,7 +20,7 @@ const MAX32: u64 = 0xffff_ffff;
 const MAX64: u64 = 0xffff_ffff_ffff_ffff;
 
 // A statement's text in a buffer.
-fn compose(t: &mut [u8; 2560], statement: Statement, hi: &[u64], lo: &[u64]) -> usize
+fn compose(t: &mut Buffer, statement: Statement, hi: &[u64], lo: &[u64]) -> usize
     ensures { λ r. ⌜ outSeen (now (t .exit)) r ≡ addC (textOf statement (paired (take (countOf statement) (now (hi .entry))) (take (countOf statement) (now (lo .entry))))) (given statement (paired (take (countOf statement) (now (hi .entry))) (take (countOf statement) (now (lo .entry))))) (outSeen (now (t .entry)) 0) ⌝ }
 {
     match statement {
@@ -62,14 +64,14 @@ pub fn write(statement: Statement, hi: &[u64], lo: &[u64], room: &mut [u8]) -> W
     ensures answer { λ r. ⌜ r ≡ writtenOf (length (now (room .entry))) statement (paired (take (countOf statement) (now (hi .entry))) (take (countOf statement) (now (lo .entry)))) ⌝ }
     ensures left { λ r. ⌜ now (room .exit) ≡ leftBy (now (room .entry)) statement (paired (take (countOf statement) (now (hi .entry))) (take (countOf statement) (now (lo .entry)))) ⌝ }
 {
-    let mut t = [0u8; 2560];
+    let mut t = [0u8; CAPACITY];
     let n = compose(&mut t, statement, hi, lo);
-    if 2560 < n {
+    if CAPACITY < n {
         return Written::Refused(reasons::ROOM);
     }
     if room.len() < n {
         return Written::Refused(reasons::ROOM);
     }
-    output::copy(room, &t, n);
+    pieces::fill(room, 0, &t[..n]);
     Written::Length(n)
 }

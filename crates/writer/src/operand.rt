@@ -1,4 +1,6 @@
 // Operands, put into a buffer.
+use crate::output::Buffer;
+use crate::output::FAILED;
 use statement::Address;
 use statement::Operand;
 use tokens::Name;
@@ -12,7 +14,7 @@ ghost use Rattle.statement.specs.Canonical.{slotText, offsetText, addressText, 
 ghost use Rattle.writer.specs.Outputs.{outSeen, addC, namedText, firsts, namesGiven};
 
 // [name]
-fn brackets(t: &mut [u8; 2560], at: usize, n: Name) -> usize
+fn brackets(t: &mut Buffer, at: usize, n: Name) -> usize
     ensures { λ r. ⌜ outSeen (now (t .exit)) r ≡ addC (slotText inBrackets n) (nameGiven n) (outSeen (now (t .entry)) at) ⌝ }
 {
     let a = crate::output::put(t, at, b"[");
@@ -21,7 +23,7 @@ fn brackets(t: &mut [u8; 2560], at: usize, n: Name) -> usize
 }
 
 // A name, in brackets or not.
-pub fn named(t: &mut [u8; 2560], at: usize, n: Name, bracketed: bool) -> usize
+pub fn named(t: &mut Buffer, at: usize, n: Name, bracketed: bool) -> usize
     ensures { λ r. ⌜ outSeen (now (t .exit)) r ≡ addC (namedText bracketed n) (nameGiven n) (outSeen (now (t .entry)) at) ⌝ }
 {
     if bracketed {
@@ -31,7 +33,7 @@ pub fn named(t: &mut [u8; 2560], at: usize, n: Name, bracketed: bool) -> usize
 }
 
 // +number, or nothing for 0.
-fn offset(t: &mut [u8; 2560], at: usize, v: u32) -> usize
+fn offset(t: &mut Buffer, at: usize, v: u32) -> usize
     ensures { λ r. ⌜ outSeen (now (t .exit)) r ≡ addC (offsetText v) (leb v max32) (outSeen (now (t .entry)) at) ⌝ }
 {
     if v == 0 {
@@ -41,7 +43,7 @@ fn offset(t: &mut [u8; 2560], at: usize, v: u32) -> usize
     crate::output::number(t, a, v as u64, 0xffff_ffff)
 }
 
-pub fn address(t: &mut [u8; 2560], at: usize, x: Address) -> usize
+pub fn address(t: &mut Buffer, at: usize, x: Address) -> usize
     ensures { λ r. ⌜ outSeen (now (t .exit)) r ≡ addC (addressText x) (addressGiven x) (outSeen (now (t .entry)) at) ⌝ }
 {
     let base = x.base;
@@ -51,7 +53,7 @@ pub fn address(t: &mut [u8; 2560], at: usize, x: Address) -> usize
     crate::output::put(t, c, b"]")
 }
 
-pub fn operand(t: &mut [u8; 2560], at: usize, x: Operand) -> usize
+pub fn operand(t: &mut Buffer, at: usize, x: Operand) -> usize
     ensures { λ r. ⌜ outSeen (now (t .exit)) r ≡ addC (operandText x) (operandGiven x) (outSeen (now (t .entry)) at) ⌝ }
 {
     match x {
@@ -61,7 +63,7 @@ pub fn operand(t: &mut [u8; 2560], at: usize, x: Operand) -> usize
 }
 
 // {names}: at least one, and count of them.
-fn listed(t: &mut [u8; 2560], at: usize, hi: &[u64], lo: &[u64], count: usize) -> usize
+fn listed(t: &mut Buffer, at: usize, hi: &[u64], lo: &[u64], count: usize) -> usize
     requires { ⌜ (0 < count) × (count ≤ 128) × (count ≤ length (now hi)) × (count ≤ length (now lo)) ⌝ }
     ensures { λ r. ⌜ outSeen (now (t .exit)) r ≡ addC (namesText (firsts (now (hi .entry)) (now (lo .entry)) count)) (allNames (firsts (now (hi .entry)) (now (lo .entry)) count)) (outSeen (now (t .entry)) at) ⌝ }
 {
@@ -91,20 +93,20 @@ fn listed(t: &mut [u8; 2560], at: usize, hi: &[u64], lo: &[u64], count: usize) -
 }
 
 // {names}: count of them, which both lists have.
-pub fn names(t: &mut [u8; 2560], at: usize, hi: &[u64], lo: &[u64], count: usize) -> usize
+pub fn names(t: &mut Buffer, at: usize, hi: &[u64], lo: &[u64], count: usize) -> usize
     ensures { λ r. ⌜ outSeen (now (t .exit)) r ≡ addC (namesText (firsts (now (hi .entry)) (now (lo .entry)) count)) (namesGiven count (firsts (now (hi .entry)) (now (lo .entry)) count)) (outSeen (now (t .entry)) at) ⌝ }
 {
     if count == 0 {
-        return crate::output::FAILED;
+        return FAILED;
     }
     if 128 < count {
-        return crate::output::FAILED;
+        return FAILED;
     }
     if hi.len() < count {
-        return crate::output::FAILED;
+        return FAILED;
     }
     if lo.len() < count {
-        return crate::output::FAILED;
+        return FAILED;
     }
     listed(t, at, hi, lo, count)
 }

@@ -1,82 +1,47 @@
-// Bytes, numbers and names, put into a buffer. A position over 2,560 says that writing failed.
+// Bytes, numbers and names, put into a buffer. A position past it says that writing failed.
 use tokens::Name;
 ghost use mathlib.Core.Path.{_≡_};
 ghost use mathlib.Core.Bool.{true};
 ghost use Prim.Native.Nat.{_≤_};
-ghost use lib.ListN.{length, take, drop};
-ghost use lib.Seq.{sets};
+ghost use lib.ListN.{length, drop};
 ghost use lib.Dec.{leb};
-ghost use Rattle.tokens.specs.Names.{nameGiven, nameBytes, lowBytes, strip};
+ghost use Rattle.tokens.specs.Names.{nameGiven, nameBytes};
 ghost use Rattle.tokens.specs.Bytes.{wordByte, all};
 ghost use Rattle.tokens.specs.Numbers.{decimal};
 ghost use Rattle.writer.specs.Outputs.{outSeen, addC, halvesGiven};
 
-// Where writing failed.
-pub const FAILED: usize = 2561;
+// How many bytes a buffer has: more than any statement.
+pub const CAPACITY: usize = 2560;
 
-// The first n bytes of t, to the first places of room.
-pub fn copy(room: &mut [u8], t: &[u8; 2560], n: usize)
-    requires { ⌜ (n ≤ length (now room)) × (length (now t) ≡ 2560) × (n ≤ 2560) ⌝ }
-    ensures { λ r. ⌜ now (room .exit) ≡ sets (now (room .entry)) 0 (take n (now (t .entry))) ⌝ }
-{
-    let mut i = 0;
-    while i < n {
-        room[i] = t[i];
-        i += 1;
-    }
-}
+// The position once writing failed.
+pub const FAILED: usize = CAPACITY + 1;
+
+pub type Buffer = [u8; CAPACITY];
 
 // The bytes w, if there is room.
-pub fn put(t: &mut [u8; 2560], at: usize, w: &[u8]) -> usize
+pub fn put(t: &mut Buffer, at: usize, w: &[u8]) -> usize
     ensures { λ r. ⌜ outSeen (now (t .exit)) r ≡ addC (now (w .entry)) true (outSeen (now (t .entry)) at) ⌝ }
 {
     let n = w.len();
-    if 2560 < n {
+    if CAPACITY < n {
         return FAILED;
     }
-    if 2560 - n < at {
+    if CAPACITY - n < at {
         return FAILED;
     }
-    let mut i = 0;
-    while i < n {
-        t[at + i] = w[i];
-        i += 1;
-    }
-    at + n
+    pieces::fill(t, at, w)
 }
 
 // A number up to a limit, in decimal.
-pub fn number(t: &mut [u8; 2560], at: usize, v: u64, limit: u64) -> usize
+pub fn number(t: &mut Buffer, at: usize, v: u64, limit: u64) -> usize
     ensures { λ r. ⌜ outSeen (now (t .exit)) r ≡ addC (decimal v) (leb v limit) (outSeen (now (t .entry)) at) ⌝ }
 {
     if limit < v {
         return FAILED;
     }
     let mut out = [b'0'; 20];
-    out[19] = b'0' + (v % 10) as u8;
-    let mut i = 19;
-    let mut w = v / 10;
-    while w != 0 {
-        i -= 1;
-        out[i] = b'0' + (w % 10) as u8;
-        w = w / 10;
-    }
+    let i = pieces::digits(&mut out, v);
     put(t, at, &out[i..])
-}
-
-// The bytes of v at the end of out, the highest first and no zero before it; answers where they begin.
-fn spread(out: &mut [u8; 8], v: u64) -> usize
-    requires { ⌜ length (now out) ≡ 8 ⌝ }
-    ensures { λ r. ⌜ (r ≤ 8) × (length (now (out .exit)) ≡ 8) × (drop r (now (out .exit)) ≡ strip (lowBytes 8 v)) ⌝ }
-{
-    let mut i = 8;
-    let mut w = v;
-    while w != 0 {
-        i -= 1;
-        out[i] = (w % 256) as u8;
-        w = w / 256;
-    }
-    i
 }
 
 // Whether each byte from a position on is a word byte.
@@ -108,13 +73,13 @@ fn halves(h: &[u8; 8], a: usize, l: &[u8; 8], b: usize) -> bool
 }
 
 // A name, if it is such as reading gives: its first eight bytes, and those after them, if any.
-pub fn name(t: &mut [u8; 2560], at: usize, n: Name) -> usize
+pub fn name(t: &mut Buffer, at: usize, n: Name) -> usize
     ensures { λ r. ⌜ outSeen (now (t .exit)) r ≡ addC (nameBytes n) (nameGiven n) (outSeen (now (t .entry)) at) ⌝ }
 {
     let mut h = [0u8; 8];
     let mut l = [0u8; 8];
-    let a = spread(&mut h, n.hi);
-    let b = spread(&mut l, n.lo);
+    let a = pieces::spread(&mut h, n.hi);
+    let b = pieces::spread(&mut l, n.lo);
     if !halves(&h, a, &l, b) {
         return FAILED;
     }

@@ -1,9 +1,10 @@
 -- `foot::main` is safe and ends: reading is over when it is asked what to print, and that fits the room. Assumes nothing.
 use Prim.Native.Nat.{ℕ, _≤_}
 use native.Mathlib.Nat.{le-refl}
-use mathlib.Core.Path.{_≡_, sym, ap, subst, _∙_}
+use mathlib.Core.Path.{sym, ap, subst, _∙_}
 use lib.ListN.{length, length-replicate}
 use borrow.Author.Needs.{needs}
+use Rattle.report.specs.Report.{reportRoom}
 use Rattle.foot.proofs.InputLaws.{inside}
 use Rattle.foot.proofs.main.Statement.{statement}
 use Rattle.foot.proofs.main.Tie as tie
@@ -21,7 +22,7 @@ slice-aggregate-output-2 : tie.Need-slice-aggregate-output-2
 slice-aggregate-output-2 c = search needs
 
 output-requires : tie.Need-output-requires
-output-requires c κs = (c .before .before .before .read-sheet .ensures, subst (λ (k : ℕ). 102391 ≤ k) (sym (length-replicate {A = ℕ} 102391 0)) (le-refl 102391))
+output-requires c κs = (c .before .before .before .read-sheet .ensures, subst (λ (k : ℕ). reportRoom ≤ k) (sym (length-replicate {A = ℕ} reportRoom 0)) (le-refl reportRoom))
 
 array-share-prefix-room : tie.Need-array-share-prefix-room
 array-share-prefix-room c = inside _ _ _ (c .before .output .ensures .0) (c .before .output .ensures .1)

@@ -1,5 +1,5 @@
 -- `foot::output` meets its contract: by cases of how reading stands, and the report is what `printed::print` puts. Assumes nothing.
-use mathlib.Core.Path.{_≡_, sym, subst, ap, _∙_}
+use mathlib.Core.Path.{_≡_, sym, subst}
 use lib.ListN.{length, take}
 use lib.Seq.{length-take-le}
 use borrow.Author.Needs.{needs}

@@ -1,23 +1,14 @@
--- `report::name` meets its contract: the bytes of both words, each without the zeros that lead, are those of the name.
--- Assumes nothing.
-use mathlib.Core.Path.{ap, _∙_}
-use lib.ListN.{length}
-use Rattle.report.proofs.ReportLaws.{name-put, length-bytes}
+-- `report::name` meets its contract: the bytes of both words, each without the zeros that lead, are those of the name. Assumes nothing.
 use borrow.Author.Needs.{needs}
+use Rattle.report.proofs.ReportLaws.{name-put}
 use Rattle.report.proofs.name.Statement.{statement}
 use Rattle.report.proofs.name.Tie as tie
 
-low-bytes-requires : tie.Need-low-bytes-requires
-low-bytes-requires c κs = search needs
+spread-requires : tie.Need-spread-requires
+spread-requires c κs = search needs
 
-low-bytes-requires-2 : tie.Need-low-bytes-requires-2
-low-bytes-requires-2 c κs = search needs
-
-lead-requires : tie.Need-lead-requires
-lead-requires c κs = ap length (c .before .before .low-bytes .ensures) ∙ length-bytes 8 _
-
-lead-requires-2 : tie.Need-lead-requires-2
-lead-requires-2 c κs = ap length (c .before .before .before .low-bytes2 .ensures) ∙ length-bytes 8 _
+spread-requires-2 : tie.Need-spread-requires-2
+spread-requires-2 c κs = search needs
 
 sub-fill : tie.Need-sub-fill
 sub-fill c = search needs
@@ -45,21 +36,17 @@ fill-requires-2 c κs = search needs
 
 returns : tie.Need-returns
 returns c =
-    let p = c .before .before .before .before .before .before .before .before in
-    let q = p .before .before .before .before .before .before in
-    name-put (q .args .text .now) _ _ (p .before .before .before .before .before .low-bytes .result) (p .before .before .before .before .low-bytes2 .result) (q .args .n)
-    (p .before .before .lead .result) (p .lead2 .result) _ _
-    (p .before .before .before .before .before .low-bytes .ensures) (p .before .before .lead .ensures .1) (p .before .before .before .before .low-bytes2 .ensures) (p .lead2 .ensures .1)
-    (c .before .before .before .before .fill .ensures) (c .fill2 .ensures)
+    let l = c .before .before .before .before .before .before .before .before .spread2 in
+    let h = c .before .before .before .before .before .before .before .before .before .before .spread in
+    let a = c .before .before .before .before .before .before .before .before .before .before .before .before .args in
+    name-put (a .text .now) _ _ (h .last .0) (l .last .0) (a .n) (h .result) (l .result) _ _ (h .ensures .1) (h .ensures .2) (l .ensures .1) (l .ensures .2) (c .before .before .before .before .fill .ensures) (c .fill2 .ensures)
 
 pub name-spec : {M : Type 1} → statement M
 name-spec =
     tie.close
     (tie.spec
-    low-bytes-requires
-    low-bytes-requires-2
-    lead-requires
-    lead-requires-2
+    spread-requires
+    spread-requires-2
     sub-fill
     part-fill-start
     part-fill-end

@@ -9,11 +9,17 @@ use Rattle.writer.proofs.form.access_word.Tie as tie
 put-requires : tie.Need-put-requires
 put-requires c κs = search needs
 
-shape-text-requires : tie.Need-shape-text-requires
-shape-text-requires c κs = search needs
+shape-requires : tie.Need-shape-requires
+shape-requires c κs = search needs
 
-num-text-requires : tie.Need-num-text-requires
-num-text-requires c κs = search needs
+spelled-requires : tie.Need-spelled-requires
+spelled-requires c κs = search needs
+
+num-requires : tie.Need-num-requires
+num-requires c κs = search needs
+
+spelled-requires-2 : tie.Need-spelled-requires-2
+spelled-requires-2 c κs = search needs
 
 slice-aggregate-put : tie.Need-slice-aggregate-put
 slice-aggregate-put c = search needs
@@ -23,7 +29,7 @@ put-requires-2 c κs = search needs
 
 returns : tie.Need-returns
 returns c =
-    let a = c .before .before .before .before .before .before .before .before .before .before .args in
+    let a = c .before .before .before .before .before .before .before .before .before .before .before .before .args in
     cc (access-law (a .w .now) (shapeText (a .shape)) (numText (a .num)) (outSeen (a .t .now) 0))
 
 pub access-word-spec : {M : Type 1} → statement M
@@ -31,8 +37,10 @@ access-word-spec =
     tie.close
     (tie.spec
     put-requires
-    shape-text-requires
-    num-text-requires
+    shape-requires
+    spelled-requires
+    num-requires
+    spelled-requires-2
     slice-aggregate-put
     put-requires-2
     returns)

@@ -31,8 +31,11 @@ slice-aggregate-put-2 c = search needs
 put-requires-2 : tie.Need-put-requires-2
 put-requires-2 c κs = search needs
 
-kind-text-requires : tie.Need-kind-text-requires
-kind-text-requires c κs = search needs
+kind-requires : tie.Need-kind-requires
+kind-requires c κs = search needs
+
+spelled-requires : tie.Need-spelled-requires
+spelled-requires c κs = search needs
 
 slice-aggregate-put-3 : tie.Need-slice-aggregate-put-3
 slice-aggregate-put-3 c = search needs
@@ -43,7 +46,7 @@ put-requires-3 c κs = search needs
 returns : tie.Need-returns
 unfolding word
 returns c =
-    let a = c .before .before .before .before .before .before .before .before .before .before .before .before .before .before .before .before .before .args in
+    let a = c .before .before .before .before .before .before .before .before .before .before .before .before .before .before .before .before .before .before .args in
     cc (mma-law (bytes "tcgen05.mma") (option (a .ws) (bytes ".ws")) (option (a .sp) (bytes ".sp")) (bytes ".cta_group::1.kind::") (kindText (a .kind)) (outSeen (a .t .now) 0))
 
 pub mma-word-spec : {M : Type 1} → statement M
@@ -58,7 +61,8 @@ mma-word-spec =
     option-text-requires-2
     slice-aggregate-put-2
     put-requires-2
-    kind-text-requires
+    kind-requires
+    spelled-requires
     slice-aggregate-put-3
     put-requires-3
     returns)

@@ -1,5 +1,4 @@
 -- `writer::form::name_number` meets its contract: the additions follow the pair of operands. Assumes nothing.
-use mathlib.Core.Bool.{true}
 use lib.Dec.{leb}
 use borrow.Author.Needs.{needs}
 use Rattle.tokens.specs.Names.{nameGiven}

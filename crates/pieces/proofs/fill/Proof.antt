@@ -1,13 +1,13 @@
--- `report::fill` meets its contract: the bytes left, put from here on, give what all the bytes give, put from the start. Assumes nothing.
+-- `pieces::fill` meets its contract: the bytes left, put from here on, give what all the bytes give, put from the start. Assumes nothing.
 use Prim.Native.Nat.{_+_, _-_, _≤_}
 use mathlib.Core.Path.{_≡_, refl, sym, _∙_}
 use lib.ListN.{length, drop, length-set, drop-of-length-le}
 use lib.Seq.{sets}
 use native.Mathlib.Omega.{arith}
 use native.Mathlib.Nat.{add-zero}
-use Rattle.report.proofs.ReportLaws.{put-step}
-use Rattle.report.proofs.fill.Statement.{statement}
-use Rattle.report.proofs.fill.Tie as tie
+use Rattle.laws.proofs.StoreLaws.{put-step}
+use Rattle.pieces.proofs.fill.Statement.{statement}
+use Rattle.pieces.proofs.fill.Tie as tie
 
 -- the place is inside, the buffer keeps its length, and the bytes left, put from here on, give what all give, put from the start
 abbrev Inv-loop : tie.InvT-loop

@@ -4,10 +4,11 @@ use native.Mathlib.Omega.{arith}
 use mathlib.Core.Path.{_≡_, refl, sym, ap, _∙_}
 use mathlib.Core.List.{List, [], _∷_, _++_, append-assoc, append-nil}
 use mathlib.Core.Bool.{Bool, true, false, cond}
-use lib.ListN.{length, take, drop, length-drop, set, length-append, length-set, drop-of-length-le}
-use lib.Seq.{take-all, drop-cons, getD-set-same, drop-set-lt}
+use lib.ListN.{length, drop, set, length-append, drop-of-length-le}
 use lib.Dec.{eqb}
 use borrow.Author.Tests.{eq-eqb, ne-eqb, eqb-true, eqb-false}
+use Rattle.laws.proofs.StoreLaws.{drop-set}
+use Rattle.tokens.specs.Text.{byte}
 use Rattle.tokens.specs.Names.{lowBytes, strip}
 use Rattle.tokens.specs.Numbers.{lowDigits, trimmed, decimal}
 
@@ -79,19 +80,12 @@ module _ (q r : ℕ → ℕ) (z base : ℕ) (q0 : q 0 ≡ 0) (r0 : r 0 ≡ z) (n
   lead-low zero v h = refl
   lead-low (suc k) v h = step-by k v (eqb v 0) (less v (power base k) h) (lead-low k (q v) (less v (power base k) h)) refl
 
--- a place written from the back
-pub back : (l : List ℕ) (i x : ℕ) → i < length l → drop i (set l i x) ≡ x ∷ drop (suc i) l
-back l i x h =
-    let g : i < length (set l i x) = rw (length-set l i x) h in
-    let e : i < suc i = omega arith in
-    rw (drop-cons (set l i x) i 0 g, getD-set-same l i x 0 h, drop-set-lt (suc i) l i x e)
-
 -- one digit more, from the back
 pub digit-step : (q r : ℕ → ℕ) (out : List ℕ) (i w : ℕ) → 0 < i → i ≤ length out → (w ≡ 0 → ⊥) → short q r (i - 1) (q w) ++ drop (i - 1) (set out (i - 1) (r w)) ≡ short q r i w ++ drop i out
 digit-step q r out zero w p h n = absurd (omega arith)
 digit-step q r out (suc i) w p h n =
     let e : suc i - 1 ≡ i = omega arith in
-    rw (e, back out i (r w) h, short-some q r i w n, append-assoc (short q r i (q w)) (r w ∷ []) (drop (suc i) out))
+    rw (e, drop-set out i (r w) h, short-some q r i w n, append-assoc (short q r i (q w)) (r w ∷ []) (drop (suc i) out))
 
 -- no digit left
 pub digit-end : (q r : ℕ → ℕ) (out : List ℕ) (i w : ℕ) → w ≡ 0 → short q r i w ++ drop i out ≡ drop i out
@@ -130,7 +124,7 @@ abbrev pub q10 : ℕ → ℕ
 q10 v = v / 10
 
 abbrev pub r10 : ℕ → ℕ
-r10 v = 48 + v % 10
+r10 v = byte "0" + v % 10
 
 pub less10 : (v m : ℕ) → v < 10 * m → v / 10 < m
 less10 v m h = omega arith
@@ -140,25 +134,25 @@ unfolding lowDigits
 low-digits zero v = refl
 low-digits (suc k) v = rw (low-digits k (v / 10))
 
-trimmed-last : (l : List ℕ) (x : ℕ) → trimmed (l ++ x ∷ []) ≡ lead 48 l ++ x ∷ []
+trimmed-last : (l : List ℕ) (x : ℕ) → trimmed (l ++ x ∷ []) ≡ lead (byte "0") l ++ x ∷ []
 unfolding trimmed
 trimmed-last [] x = refl
-trimmed-last (y ∷ []) x = by (eqb y 48)
+trimmed-last (y ∷ []) x = by (eqb y (byte "0"))
   where
     by : (b : Bool) → cond b (x ∷ []) (y ∷ (x ∷ [])) ≡ cond b [] (y ∷ []) ++ x ∷ []
     by true = refl
     by false = refl
-trimmed-last (y ∷ (u ∷ l)) x = by (eqb y 48) (trimmed-last (u ∷ l) x)
+trimmed-last (y ∷ (u ∷ l)) x = by (eqb y (byte "0")) (trimmed-last (u ∷ l) x)
   where
-    by : (b : Bool) → trimmed (u ∷ (l ++ x ∷ [])) ≡ lead 48 (u ∷ l) ++ x ∷ [] → cond b (trimmed (u ∷ (l ++ x ∷ []))) (y ∷ (u ∷ (l ++ x ∷ []))) ≡ cond b (lead 48 (u ∷ l)) (y ∷ (u ∷ l)) ++ x ∷ []
+    by : (b : Bool) → trimmed (u ∷ (l ++ x ∷ [])) ≡ lead (byte "0") (u ∷ l) ++ x ∷ [] → cond b (trimmed (u ∷ (l ++ x ∷ []))) (y ∷ (u ∷ (l ++ x ∷ []))) ≡ cond b (lead (byte "0") (u ∷ l)) (y ∷ (u ∷ l)) ++ x ∷ []
     by true e = e
     by false e = refl
 
-pub decimal-law : (v : ℕ) → v < 2 ^ 64 → decimal v ≡ short q10 r10 19 (v / 10) ++ (48 + v % 10) ∷ []
+pub decimal-law : (v : ℕ) → v < 2 ^ 64 → decimal v ≡ short q10 r10 19 (v / 10) ++ (byte "0" + v % 10) ∷ []
 unfolding decimal lowDigits
 decimal-law v h =
     let g : v / 10 < power 10 19 = omega arith in
-    trimmed-last (lowDigits 19 (v / 10)) (48 + v % 10) ∙ ap (λ l. lead 48 l ++ (48 + v % 10) ∷ []) (low-digits 19 (v / 10)) ∙ ap (λ l. l ++ (48 + v % 10) ∷ []) (lead-low q10 r10 48 10 refl refl (λ v a b. omega arith) less10 19 (v / 10) g)
+    trimmed-last (lowDigits 19 (v / 10)) (byte "0" + v % 10) ∙ ap (λ l. lead (byte "0") l ++ (byte "0" + v % 10) ∷ []) (low-digits 19 (v / 10)) ∙ ap (λ l. l ++ (byte "0" + v % 10) ∷ []) (lead-low q10 r10 (byte "0") 10 refl refl (λ v a b. omega arith) less10 19 (v / 10) g)
 
 -- ---- where the loops begin
 pub bytes-start : (out : List ℕ) (v : ℕ) → length out ≡ 8 → v < 2 ^ 64 → short q256 r256 8 v ++ drop 8 out ≡ strip (lowBytes 8 v)
@@ -167,8 +161,8 @@ bytes-start out v e h =
     let d : drop 8 out ≡ [] = drop-of-length-le out g in
     ap (λ l. short q256 r256 8 v ++ l) d ∙ append-nil (short q256 r256 8 v) ∙ sym (bytes-law 8 v h)
 
--- what is left of a list is all of it up to the end
-pub tail : (l : List ℕ) (n i : ℕ) → length l ≡ n → take (n - i) (drop i l) ≡ drop i l
-tail l n i e =
-    let g : length (drop i l) ≤ n - i = omega (arith, length-drop i l) in
-    take-all (n - i) (drop i l) g
+pub digits-start : (out : List ℕ) (v : ℕ) → length out ≡ 20 → v < 2 ^ 64 → short q10 r10 19 (v / 10) ++ drop 19 (set out 19 (byte "0" + v % 10)) ≡ decimal v
+digits-start out v e h =
+    let g : length out ≤ 20 = omega arith in
+    let d : drop 20 out ≡ [] = drop-of-length-le out g in
+    rw (drop-set out 19 (byte "0" + v % 10) (omega arith), d) (sym (decimal-law v h))

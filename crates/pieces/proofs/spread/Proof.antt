@@ -1,13 +1,13 @@
--- `writer::output::spread` meets its contract: each turn puts the last byte of what is left before the others, and what is left is short enough for the places before it. Assumes nothing.
-use Prim.Native.Nat.{_+_, _-_, _<_, _≤_}
+-- `pieces::spread` meets its contract: each turn puts the last byte of what is left before the others, and what is left is short enough for the places before it. Assumes nothing.
+use Prim.Native.Nat.{_<_, _≤_}
 use native.Mathlib.Omega.{arith}
 use mathlib.Core.Path.{_≡_, sym, _∙_}
 use mathlib.Core.List.{_++_}
 use lib.ListN.{length, drop, length-set}
 use Rattle.tokens.specs.Names.{lowBytes, strip}
-use Rattle.writer.proofs.Digits.{bytes-start, power, short, q256, r256, less256, digit-step, digit-end, power-step}
-use Rattle.writer.proofs.output.spread.Statement.{statement}
-use Rattle.writer.proofs.output.spread.Tie as tie
+use Rattle.pieces.proofs.DigitLaws.{bytes-start, power, short, q256, r256, less256, digit-step, digit-end, power-step}
+use Rattle.pieces.proofs.spread.Statement.{statement}
+use Rattle.pieces.proofs.spread.Tie as tie
 
 -- the bytes of what is left, and those that stand from i on, are those of the number
 abbrev Inv-loop : tie.InvT-loop
