@@ -11,7 +11,7 @@ use Rattle.statement.specs.declared.Opcode.{Opcode}
 use Rattle.statement.specs.declared.Opcode.the-variants.{Mov32, Mov64, Alloc, Dealloc, Relinquish, Load, Store, WaitLoad, WaitStore, FenceBefore, FenceAfter, Multiply, Exit}
 use Rattle.statement.specs.Forms.{word}
 use Rattle.statement.proofs.Words.{by-num, by-kind}
-use Rattle.opcode.specs.Heads.{candidateIn, tcgen05In, mmaIn, mmaOf, kindAt, shapeOf, numIn, shapeBy, numAt}
+use Rattle.opcode.specs.Candidates.{candidateIn, tcgen05In, mmaIn, mmaOf, kindAt, shapeOf, numIn, shapeBy, numAt}
 
 abbrev Leads : Opcode → Type 0
 Leads o = (rest : List ℕ) → candidateIn (word o ++ rest) ≡ o
