@@ -20,7 +20,7 @@ use Rattle.statement.specs.declared.Opcode.the-variants.{Mov32, Mov64, Alloc, D
 use Rattle.statement.specs.declared.Found.{Found}
 use Rattle.statement.specs.declared.Found.the-variants.{Is, Nothing}
 use Rattle.statement.specs.declared.Reading.the-variants.{Got, NoForm, TooLarge}
-use Rattle.statement.specs.Forms.{word, Slot, name, number, inBrackets, address, operand, names, Value, Values, max32, row, Whole, make}
+use Rattle.statement.specs.Forms.{word, Slot, name, number, inBrackets, address, operand, names, Value, Values, maxOffset, row, Whole, make}
 use Rattle.statement.specs.Opcodes.{recognise}
 use Rattle.statement.specs.Reading.{operandsC, start, wholeBy, opcodeLen, wholeC, answerOf, readOf, reasonOf, registersOf}
 use Rattle.grammar.specs.Spells.{RowText, Spells, sizedSlot, sizedRow, sized}
@@ -40,9 +40,9 @@ cut-slot : (k : Slot) (v : Value k) → sizedSlot k v ≡ true → cutSlot k v �
 cut-slot name v h = refl
 cut-slot (number limit) v h = cut-same limit v h
 cut-slot inBrackets v h = refl
-cut-slot address v h = ap (λ (n : ℕ). record { base = v .base; offset = n }) (cut-same max32 (v .offset) h)
+cut-slot address v h = ap (λ (n : ℕ). record { base = v .base; offset = n }) (cut-same maxOffset (v .offset) h)
 cut-slot operand (operand.Descriptor n) h = refl
-cut-slot operand (operand.Address a) h = ap (λ (n : ℕ). operand.Address (record { base = a .base; offset = n })) (cut-same max32 (a .offset) h)
+cut-slot operand (operand.Address a) h = ap (λ (n : ℕ). operand.Address (record { base = a .base; offset = n })) (cut-same maxOffset (a .offset) h)
 cut-slot names v h = refl
 
 over-stays : (ks : List Slot) (vs : Values ks) → overRow ks vs true ≡ true

@@ -13,7 +13,7 @@ use Rattle.tokens.specs.Cursors.{Rest, on, off, large, Took, markHere, markC, e
 use Rattle.statement.specs.declared.Operand.the-variants as operand
 use Rattle.statement.specs.declared.Found.{Found}
 use Rattle.statement.specs.declared.Found.the-variants.{Is, Nothing}
-use Rattle.statement.specs.Forms.{Slot, name, number, inBrackets, address, operand, names, max32, row}
+use Rattle.statement.specs.Forms.{Slot, name, number, inBrackets, address, operand, names, maxOffset, row}
 use Rattle.statement.specs.Opcodes.{recognise}
 use Rattle.statement.specs.Reading.{inBracketsC, offsetC, insideC, addressC, operandC, moreC, namesC, slotC, moreRowC, rowC, operandsC, start, opcodeLen, wholeBy, wholeC}
 use Rattle.laws.proofs.BoolLaws.{never}
@@ -95,7 +95,7 @@ bracket-far r h = mark-far 93 (nameC (markC 91 r) .next) (name-far (markC 91 r) 
 
 offset-far : (r : Rest) → Far r → Far (offsetC r .next)
 unfolding offsetC
-offset-far r h = far-next (markC 43 r .ok) (numberC max32 (markC 43 r)) (record { value = 0; next = r }) (number-far max32 (markC 43 r) (mark-far 43 r h)) h
+offset-far r h = far-next (markC 43 r .ok) (numberC maxOffset (markC 43 r)) (record { value = 0; next = r }) (number-far maxOffset (markC 43 r) (mark-far 43 r h)) h
 
 inside-far : (r : Rest) → Far r → Far (insideC r .next)
 unfolding insideC

@@ -19,7 +19,7 @@ use Rattle.statement.specs.declared.Opcode.{Opcode}
 use Rattle.statement.specs.declared.Found.{Found}
 use Rattle.statement.specs.declared.Found.the-variants.{Is, Nothing}
 use Rattle.statement.specs.declared.Reading.the-variants.{Got, NoForm, TooLarge}
-use Rattle.statement.specs.Forms.{Slot, name, number, inBrackets, address, operand, names, max32, row, Whole, word, make}
+use Rattle.statement.specs.Forms.{Slot, name, number, inBrackets, address, operand, names, maxOffset, row, Whole, word, make}
 use Rattle.statement.specs.Opcodes.{recognise}
 use Rattle.statement.specs.Reading.{inBracketsC, offsetC, insideC, addressC, operandC, moreC, namesC, slotC, moreRowC, rowC, operandsC, start, opcodeLen, wholeBy, wholeC, answerOf, readOf}
 use Rattle.grammar.specs.Spells.{Spells, sized}
@@ -327,13 +327,13 @@ module _ (s : Bool) where
       simple s closing (markC 93) closing-plain g (nameNext a) ∙ (name-row (one closing g) a ∙ simple s opening (markC 91) opening-plain (one nameKind (one closing g)) r)
 
   abbrev offsetRow : Row → Row
-  offsetRow g = branch plus (one (numberKind s max32) g) g
+  offsetRow g = branch plus (one (numberKind s maxOffset) g) g
 
   offset-row : (g : Row) → As s (λ r. offsetC r .next) g (offsetRow g)
   unfolding offsetC
   offset-row g r =
-      ap (λ (x : Rest). run g (view s x)) (next-cond (markC 43 r .ok) (numberC max32 (markC 43 r)) (record { value = 0; next = r }))
-      ∙ either s plus (markC 43) (numberNext max32) (λ x. x) (one (numberKind s max32) g) g g plus-plain (number-row max32 g) (λ x. refl) r
+      ap (λ (x : Rest). run g (view s x)) (next-cond (markC 43 r .ok) (numberC maxOffset (markC 43 r)) (record { value = 0; next = r }))
+      ∙ either s plus (markC 43) (numberNext maxOffset) (λ x. x) (one (numberKind s maxOffset) g) g g plus-plain (number-row maxOffset g) (λ x. refl) r
 
   abbrev insideRow : Row → Row
   insideRow g = one nameKind (offsetRow (one closing g))

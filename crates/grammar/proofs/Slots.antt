@@ -13,7 +13,7 @@ use Rattle.tokens.specs.Cursors.{Rest, Took, markC, nameC, numberC}
 use Rattle.statement.specs.declared.Address.{Address}
 use Rattle.statement.specs.declared.Operand.{Operand}
 use Rattle.statement.specs.declared.Operand.the-variants as operand
-use Rattle.statement.specs.Forms.{Slot, name, number, inBrackets, address, operand, names, Value, max32}
+use Rattle.statement.specs.Forms.{Slot, name, number, inBrackets, address, operand, names, Value, maxOffset}
 use Rattle.statement.specs.Reading.{inBracketsC, offsetC, insideC, addressC, operandC, moreC, namesC, slotC}
 use Rattle.grammar.specs.Spells.{Mark, NameText, BracketText, OffsetText, bare, plus, AddressText, OperandText, byName, byAddress, MoreNames, closes, comma, NamesText, opens, SlotText, sizedOperand, sizedSlot}
 use Rattle.grammar.proofs.Lexing.{at, Reads, cut, overBy, whole-head, other, word-at, name-whole, mark-at, mark-none, mark-sound, mark-complete, name-sound, name-complete, number-sound, number-complete, mark-one, mark-two, name-one, number-one}
@@ -34,11 +34,11 @@ unfolding offsetC
 offset-sound r h = go (markC 43 r .ok) refl h
   where
     took : Bool → Took ℕ
-    took b = cond b (numberC max32 (markC 43 r)) (record { value = 0; next = r })
+    took b = cond b (numberC maxOffset (markC 43 r)) (record { value = 0; next = r })
 
     go : (b : Bool) → markC 43 r .ok ≡ b → took b .next .ok ≡ true → (r .ok ≡ true) × (v : ℕ) × OffsetText v (r .rest) (took b .next .rest)
     go true e k =
-        let n = number-sound max32 (markC 43 r) k in
+        let n = number-sound maxOffset (markC 43 r) k in
         let m = mark-sound 43 r e in
         (m .0, n .1, plus (m .1) (n .2))
     go false e k = (k, 0, bare)
@@ -132,7 +132,7 @@ slot-sound names r h = names-sound r h
 -- ---- what spells an operand is read
 -- the operand as it is read, a number over its limit as 0
 abbrev pub cutAddress : Address → Address
-cutAddress a = record { base = a .base; offset = cut max32 (a .offset) }
+cutAddress a = record { base = a .base; offset = cut maxOffset (a .offset) }
 
 abbrev pub cutOperand : Operand → Operand
 cutOperand (operand.Descriptor n) = operand.Descriptor n
@@ -174,22 +174,22 @@ unfolding inBracketsC blank
 bracket-complete v l r o f k =
     rw (mark-complete 91 l (k .l₁) o f refl (k .opens), name-complete v (k .l₁) (k .l₂) o f (k .inner), mark-complete 93 (k .l₂) r o f refl (k .closes))
 
-offset-complete : (v : ℕ) (l r : List ℕ) (o : Bool) (f : List ℕ) → OffsetText v l r → markC 43 (at r o f) .ok ≡ false → Reads (offsetC (at l o f)) (cut max32 v) r (overBy (leb v max32) o)
+offset-complete : (v : ℕ) (l r : List ℕ) (o : Bool) (f : List ℕ) → OffsetText v l r → markC 43 (at r o f) .ok ≡ false → Reads (offsetC (at l o f)) (cut maxOffset v) r (overBy (leb v maxOffset) o)
 unfolding offsetC blank
 offset-complete v l r o f bare z = record { far = f; is = rw z }
-offset-complete v l r o f (plus {l₁ = l₁} m n) z = rw (mark-complete 43 l l₁ o f refl m) (number-complete max32 v l₁ r o f n)
+offset-complete v l r o f (plus {l₁ = l₁} m n) z = rw (mark-complete 43 l l₁ o f refl m) (number-complete maxOffset v l₁ r o f n)
 
-inside-complete : (v : Address) (l r : List ℕ) (o : Bool) (f : List ℕ) → Inside v l r → Reads (insideC (at l o f)) (cutAddress v) r (overBy (leb (v .offset) max32) o)
+inside-complete : (v : Address) (l r : List ℕ) (o : Bool) (f : List ℕ) → Inside v l r → Reads (insideC (at l o f)) (cutAddress v) r (overBy (leb (v .offset) maxOffset) o)
 unfolding insideC blank
 inside-complete v l r o f k =
     let p = offset-complete (v .offset) (k .l₁) (k .l₂) o f (k .offset) (mark-other 43 93 (k .l₂) r o f refl (k .closing) refl) in
-    let o₁ = overBy (leb (v .offset) max32) o in
+    let o₁ = overBy (leb (v .offset) maxOffset) o in
     record { far = p .far; is = rw (name-complete (v .base) l (k .l₁) o f (k .base), p .is, mark-complete 93 (k .l₂) r o₁ (p .far) refl (k .closing)) }
 
 inner-part : (v : Address) (l r : List ℕ) (k : AddressText v l r) → Inside v (k .l₁) r
 inner-part v l r k = record { l₁ = k .l₂; l₂ = k .l₃; base = k .base; offset = k .offset; closing = k .closes }
 
-address-complete : (v : Address) (l r : List ℕ) (o : Bool) (f : List ℕ) → AddressText v l r → Reads (addressC (at l o f)) (cutAddress v) r (overBy (leb (v .offset) max32) o)
+address-complete : (v : Address) (l r : List ℕ) (o : Bool) (f : List ℕ) → AddressText v l r → Reads (addressC (at l o f)) (cutAddress v) r (overBy (leb (v .offset) maxOffset) o)
 unfolding addressC blank
 address-complete v l r o f k = rw (mark-complete 91 l (k .l₁) o f refl (k .opens)) (inside-complete v (k .l₁) r o f (inner-part v l r k))
 

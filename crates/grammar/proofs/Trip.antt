@@ -22,7 +22,7 @@ use Rattle.statement.specs.declared.Statement.the-variants as s
 use Rattle.statement.specs.declared.Opcode.{Opcode}
 use Rattle.statement.specs.declared.Opcode.the-variants.{Mov32, Mov64, Alloc, Dealloc, Relinquish, Load, Store, WaitLoad, WaitStore, FenceBefore, FenceAfter, Multiply, Exit}
 use Rattle.statement.specs.declared.Reading.the-variants.{Got}
-use Rattle.statement.specs.Forms.{Slot, name, number, inBrackets, address, operand, names, Value, Values, max32, row, Whole, plain, make}
+use Rattle.statement.specs.Forms.{Slot, name, number, inBrackets, address, operand, names, Value, Values, maxOffset, row, Whole, plain, make}
 use Rattle.statement.specs.Reading.{readOf, registersOf}
 use Rattle.grammar.specs.Spells.{spaces, Mark, NameText, NumberText, BracketText, OffsetText, bare, plus, AddressText, OperandText, byName, byAddress, MoreNames, closes, comma, NamesText, opens, SlotText, MoreRow, RowText, Spells, sizedOperand, sizedSlot, sized}
 use Rattle.statement.specs.Canonical.{sparse, opcodeOf, mmaValues, valuesOf, offsetText, addressText, operandText, moreNamesText, namesText, slotText, moreRowText, rowText, textOf, allNames, addressGiven, operandGiven, slotGiven, rowGiven, countOf, given}
@@ -71,7 +71,7 @@ bracket-spelled n v r h =
       closes = mark-spelled 0 93 r;
     }
 
-offset-spelled : (v : ℕ) (r : List ℕ) → v ≤ max32 → OffsetText v (offsetText v ++ (93 ∷ r)) (93 ∷ r)
+offset-spelled : (v : ℕ) (r : List ℕ) → v ≤ maxOffset → OffsetText v (offsetText v ++ (93 ∷ r)) (93 ∷ r)
 unfolding wordByte letter
 offset-spelled v r h = go (eqb v 0) refl
   where
@@ -90,7 +90,7 @@ offset-ends v r = go (eqb v 0)
 address-spelled : (n : ℕ) (v : Address) (r : List ℕ) → addressGiven v ≡ true → AddressText v (spaces n ++ (addressText v ++ r)) r
 unfolding addressText
 address-spelled n v r h =
-    let p = and-split (nameGiven (v .base)) (leb (v .offset) max32) h in
+    let p = and-split (nameGiven (v .base)) (leb (v .offset) maxOffset) h in
     let rest : List ℕ = (nameBytes (v .base) ++ (offsetText (v .offset) ++ 93 ∷ [])) ++ r in
     record {
       l₁ = rest;
@@ -98,7 +98,7 @@ address-spelled n v r h =
       l₃ = 93 ∷ r;
       opens = mark-spelled n 91 rest;
       base = simp append-assoc (name-spelled 0 (v .base) (offsetText (v .offset) ++ (93 ∷ r)) (p .0) (offset-ends (v .offset) r));
-      offset = offset-spelled (v .offset) r (leb-true (v .offset) max32 (p .1));
+      offset = offset-spelled (v .offset) r (leb-true (v .offset) maxOffset (p .1));
       closes = mark-spelled 0 93 r;
     }
 
@@ -224,7 +224,7 @@ text-spells t regs h =
 name-given : (v : Name) (l r : List ℕ) → NameText v l r → nameGiven v ≡ true
 name-given v l r t = rw (← t .value) (packed-given (t .bytes) (t .good))
 
-address-given : (v : Address) (l r : List ℕ) → AddressText v l r → leb (v .offset) max32 ≡ true → addressGiven v ≡ true
+address-given : (v : Address) (l r : List ℕ) → AddressText v l r → leb (v .offset) maxOffset ≡ true → addressGiven v ≡ true
 address-given v l r t h = rw (name-given (v .base) (t .l₁) (t .l₂) (t .base), h)
 
 operand-given : (v : Operand) (l r : List ℕ) → OperandText v l r → sizedOperand v ≡ true → operandGiven v ≡ true
@@ -291,9 +291,9 @@ slot-fits : (k : Slot) (v : Value k) → slotGiven k v ≡ true → sizedSlot k 
 slot-fits name v h = refl
 slot-fits (number limit) v h = h
 slot-fits inBrackets v h = refl
-slot-fits address v h = and-split (nameGiven (v .base)) (leb (v .offset) max32) h .1
+slot-fits address v h = and-split (nameGiven (v .base)) (leb (v .offset) maxOffset) h .1
 slot-fits operand (operand.Descriptor n) h = refl
-slot-fits operand (operand.Address a) h = and-split (nameGiven (a .base)) (leb (a .offset) max32) h .1
+slot-fits operand (operand.Address a) h = and-split (nameGiven (a .base)) (leb (a .offset) maxOffset) h .1
 slot-fits names v h = refl
 
 row-fits : (ks : List Slot) (vs : Values ks) → rowGiven ks vs ≡ true → overRow ks vs false ≡ false

@@ -29,7 +29,7 @@ use Rattle.statement.specs.declared.Reading.{Reading}
 use Rattle.statement.specs.declared.Reading.the-variants.{Got, NoForm}
 use Rattle.statement.specs.Forms.{name, number, Values, Whole, plain}
 use Rattle.statement.specs.Opcodes.{recognise}
-use Rattle.statement.specs.Reading.{moreC, counted, his, los, answerOf, moreRowC, rowC, operandsC, start, opcodeLen, wholeBy, wholeC, readOf, fine, registersOf, told}
+use Rattle.statement.specs.Reading.{moreC, tally, his, los, answerOf, moreRowC, rowC, operandsC, start, opcodeLen, wholeBy, wholeC, readOf, fine, registersOf, told}
 use Rattle.statement.proofs.Readings.{Unread}
 use Rattle.opcode.specs.declared.Head.{Head}
 use Rattle.opcode.specs.Heads.{headSeen, headBy, headOf}
@@ -86,7 +86,7 @@ after-more count v m =
 
 -- the list ends: what is counted is all of it
 pub names-end : (count : ℕ) (x : Rest) (m : Took (List Name)) (v : Name) → after count (record { value = []; next = x }) ≡ after 1 m
-    → _≡_ {A = Took ℕ} (record { value = count; next = x }) (counted (record { value = v ∷ m .value; next = m .next }))
+    → _≡_ {A = Took ℕ} (record { value = count; next = x }) (tally (record { value = v ∷ m .value; next = m .next }))
 names-end count x m v h =
     let p : count + 0 ≡ 1 + length (m .value) = ap (λ t. t .value) h in
     let q : count ≡ suc (length (m .value)) = omega arith in

@@ -12,7 +12,7 @@ ghost use lib.ListN.{length};
 ghost use lib.Seq.{sets};
 ghost use Rattle.tokens.specs.Cursors.{seen, nameSeen, markC, numberC};
 ghost use Rattle.statement.specs.Forms.{max32};
-ghost use Rattle.statement.specs.Reading.{inBracketsC, offsetC, insideC, addressC, operandC, namesC, offsetSeen, addressSeen, operandSeen, countSeen, counted, his, los};
+ghost use Rattle.statement.specs.Reading.{inBracketsC, offsetC, insideC, addressC, operandC, namesC, offsetSeen, addressSeen, operandSeen, countSeen, tally, his, los};
 ghost use Rattle.reader.specs.Rows.{namedC};
 
 // The most names that a list has.
@@ -114,7 +114,7 @@ pub fn operand(s: &[u8], k: Cursor) -> OperandRead
 
 // { 1 to 128 names }: how many.
 pub fn names(s: &[u8], k: Cursor) -> CountRead
-    ensures { λ r. ⌜ countSeen (now (s .entry)) r ≡ counted (namesC (seen (now (s .entry)) k)) ⌝ }
+    ensures { λ r. ⌜ countSeen (now (s .entry)) r ≡ tally (namesC (seen (now (s .entry)) k)) ⌝ }
 {
     let a = lexer::cursor::mark(s, k, b'{');
     let n = lexer::cursor::name(s, a);
