@@ -216,6 +216,9 @@ verdict text = go (leb (length text) 4096) (wholeC text .next .ok) refl refl
 reason-got : (text : List ℕ) (w : Whole) (n : ℕ) → readOf text ≡ Got (w .statement) → reasonOf (readOf text) ≡ n → 0 ≡ n
 reason-got text w n h e = sym (ap reasonOf h) ∙ e
 
+pub got-same : (a b : Statement) → Got a ≡ Got b → a ≡ b
+got-same a b h = cc
+
 got-fits : (text : List ℕ) (w : Whole) → Verdict text → (readOf text ≡ Got (w .statement)) × (registersOf text ≡ w .registers) → Fits w text
 got-fits text w (fits v h) g =
     let k = fits-got v text h in
@@ -223,9 +226,6 @@ got-fits text w (fits v h) g =
     let q : v .registers ≡ w .registers = sym (k .1) ∙ g .1 in
     let e : v ≡ w = ap (λ (t : Statement). record { statement = t; registers = v .registers }) p ∙ ap (λ (r : List Name). record { statement = w .statement; registers = r }) q in
     rw e at h
-  where
-    got-same : (a b : Statement) → Got a ≡ Got b → a ≡ b
-    got-same a b h = cc
 got-fits text w (over v h) g = absurd (let z = reason-got text w 4 (g .0) (over-four v text h) in omega arith)
 got-fits text w (none h) g = absurd (let z = reason-got text w 3 (g .0) (none-three text h) in omega arith)
 

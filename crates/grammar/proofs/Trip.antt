@@ -30,7 +30,7 @@ use Rattle.grammar.specs.Claims.{Reads, Trip, Writable, Canonical}
 use Rattle.tokens.proofs.Names.{same-true}
 use Rattle.laws.proofs.BoolLaws.{and-split, never}
 use Rattle.grammar.proofs.Rows.{overRow}
-use Rattle.grammar.proofs.Exact.{over-none, over-sized, exact}
+use Rattle.grammar.proofs.Exact.{got-same, over-none, over-sized, exact}
 use Rattle.grammar.proofs.Back.{packed-given, decimal-number, decimal-value}
 use Rattle.statement.proofs.Bound.{text-short}
 
@@ -317,9 +317,6 @@ text-back t regs h =
 -- one text reads as one statement, with one list of registers
 reads-one : (text : List ℕ) (t u : Statement) (regs rest : List Name) → Reads text t regs → Reads text u rest → (u ≡ t) × (rest ≡ regs)
 reads-one text t u regs rest a b = (got-same u t (sym (b .0) ∙ a .0), sym (b .1) ∙ a .1)
-  where
-    got-same : (x y : Statement) → Got x ≡ Got y → x ≡ y
-    got-same x y h = cc
 
 pub trip : (t : Statement) (regs : List Name) → given t regs ≡ true → Trip t regs
 trip t regs h =
