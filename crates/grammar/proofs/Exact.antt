@@ -12,7 +12,6 @@ use Rattle.tokens.specs.declared.Name.{Name}
 use Rattle.tokens.specs.Bytes.{opcodeByte, runLen}
 use Rattle.tokens.specs.Cursors.{Rest, Took}
 use Rattle.statement.specs.declared.Address.{Address}
-use Rattle.statement.specs.declared.Operand.{Operand}
 use Rattle.statement.specs.declared.Operand.the-variants as operand
 use Rattle.statement.specs.declared.Statement.{Statement}
 use Rattle.statement.specs.declared.Opcode.{Opcode}

@@ -1,7 +1,6 @@
 -- The worked examples hold: antt computes each from the definitions; those with a typed statement by its canonical text, which reads
 -- back. Assumes nothing.
 use Prim.Native.Nat.{ℕ}
-use Prim.Native.String.{String}
 use mathlib.Core.Path.{_≡_, refl, subst}
 use mathlib.Core.List.{List, [], _∷_}
 use mathlib.Core.Bool.{true}

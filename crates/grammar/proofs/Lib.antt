@@ -4,6 +4,7 @@ pub mod Rows
 pub mod Exact
 pub mod Back
 pub mod Trip
+pub mod Readers
 pub mod Stops
 pub mod Overs
 pub mod Places

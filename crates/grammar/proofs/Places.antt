@@ -9,19 +9,19 @@ use lib.Seq.{take-append-seam, drop-append-seam, take-at}
 use lib.Dec.{leb, eqb}
 use borrow.Author.Tests.{eq-eqb, eqb-true, le-leb, not-false}
 use Rattle.tokens.specs.declared.Name.{Name}
+use Rattle.tokens.specs.Text.{byte, bytes}
 use Rattle.tokens.specs.Bytes.{letter, wordByte, opcodeByte, blank, runLen, afterBlanks, tokenLen, tokenOf, afterToken}
 use Rattle.tokens.specs.Names.{isName, packed, noName}
 use Rattle.tokens.specs.Numbers.{digitOf, isDigit, hexMark, zeroLed, someDigits, isNumber, valueOf}
 use Rattle.tokens.specs.Cursors.{Rest, on, off, Took, markHere, markC, endC, nameC, numberC}
-use Rattle.statement.specs.declared.Operand.the-variants as operand
 use Rattle.statement.specs.declared.Statement.{Statement}
 use Rattle.statement.specs.declared.Opcode.{Opcode}
 use Rattle.statement.specs.declared.Found.{Found}
 use Rattle.statement.specs.declared.Found.the-variants.{Is, Nothing}
 use Rattle.statement.specs.declared.Reading.the-variants.{Got, NoForm, TooLarge}
-use Rattle.statement.specs.Forms.{Slot, name, number, inBrackets, address, operand, names, maxOffset, row, Whole, word, make}
+use Rattle.statement.specs.Forms.{Slot, name, number, inBrackets, address, operand, names, row, Whole, word, make}
 use Rattle.statement.specs.Opcodes.{recognise}
-use Rattle.statement.specs.Reading.{inBracketsC, offsetC, insideC, addressC, operandC, moreC, namesC, slotC, moreRowC, rowC, operandsC, start, opcodeLen, wholeBy, wholeC, answerOf, readOf}
+use Rattle.statement.specs.Reading.{operandsC, start, opcodeLen, wholeBy, wholeC, answerOf, readOf}
 use Rattle.grammar.specs.Spells.{Spells, sized}
 use Rattle.grammar.specs.Claims.{After, here, past, Stops, Place, Over, One}
 use Rattle.statement.proofs.Words.{recognised, recognises}
@@ -30,6 +30,7 @@ use Rattle.grammar.proofs.Exact.{whole-at, Met, spells-met}
 use Rattle.laws.proofs.BoolLaws.{never}
 use Rattle.grammar.proofs.Lexing.{starts, token-parts}
 use Rattle.grammar.proofs.Overs.{whole-far}
+use Rattle.grammar.proofs.Readers.{Sign, comma, opening, closing, plus, brace, unbrace, semicolon, code, Plan, ends, marked, named, numbered, either, runs, insidePlan, operandPlan, morePlan, slotPlan, morePlans, rowPlan, row-runs, Kept, mark-kept, name-kept}
 use Rattle.grammar.proofs.Stops.{Stand, good, bad, Kind, Row, end, one, branch, reads, takes, Good, Stop, stop, head-none, run-stops, same-head, heads, lights, token-ends, token-replay}
 
 -- ---- a reader of one token, and a row of them
@@ -75,141 +76,54 @@ passed-at f g h l true e = go (f .test (tokenOf (afterBlanks l))) (e refl)
 passed-at f g h l false e = refl
 
 -- ---- marks and names
--- a reader of one token of a kind that leaves it alone what was too large
-record Plain (x : Rest → Rest) (f : Kind) : Type 0 where
-  token : (r : Rest) → stand (x r) ≡ sticky f (stand r)
-  over : (r : Rest) → x r .over ≡ r .over
-  far : (r : Rest) → x r .far ≡ r .far
+sign : (m : Sign) → (eqb 0 (code m) ≡ false) × (blank (code m) ≡ false) × (starts (code m) ≡ false)
+unfolding blank wordByte letter
+sign comma = (refl, refl, refl)
+sign opening = (refl, refl, refl)
+sign closing = (refl, refl, refl)
+sign plus = (refl, refl, refl)
+sign brace = (refl, refl, refl)
+sign unbrace = (refl, refl, refl)
+sign semicolon = (refl, refl, refl)
 
-module _ (m : ℕ) (z : eqb 0 m ≡ false) (d : blank m ≡ false) (n : starts m ≡ false) where
-  markKind : Kind
-  markKind = record { test = λ w. eqb (getD w 0 0) m; none = z; wit = m; fits = eq-eqb m m refl; dark = d }
+markKind : Sign → Kind
+markKind m = record { test = λ w. eqb (getD w 0 0) (code m); none = sign m .0; wit = code m; fits = eq-eqb (code m) (code m) refl; dark = sign m .1 }
 
-  mark-first : (r : Rest) (b : List ℕ) → stand (markHere m r b) ≡ first markKind b
-  unfolding markKind tokenOf afterToken tokenLen
-  mark-first r [] = rw z
-  mark-first r (x ∷ l) = go (eqb x m) refl
-    where
-      go : (v : Bool) → eqb x m ≡ v → stand (cond v (on r l) (off r (x ∷ l))) ≡ cond v (good (drop (cond (starts x) (runLen wordByte l) 0) l)) (bad (x ∷ l))
-      go true e = let q : starts x ≡ false = ap starts (eqb-true x m e) ∙ n in rw q
-      go false e = refl
-
-  mark-token : (r : Rest) → stand (markC m r) ≡ sticky markKind (stand r)
-  unfolding markC
-  mark-token r = go (r .ok) refl
-    where
-      go : (v : Bool) → r .ok ≡ v → stand (cond v (markHere m r (afterBlanks (r .rest))) r) ≡ cond v (first markKind (afterBlanks (r .rest))) (stand r)
-      go true e = mark-first r (afterBlanks (r .rest))
-      go false e = refl
-
--- what was too large stays
-mark-kept : (m : ℕ) (r : Rest) → (markC m r .over ≡ r .over) × (markC m r .far ≡ r .far)
-unfolding markC
-mark-kept m r = go (r .ok) (afterBlanks (r .rest))
+mark-first : (m : Sign) (r : Rest) (b : List ℕ) → stand (markHere (code m) r b) ≡ first (markKind m) b
+unfolding markKind tokenOf afterToken tokenLen
+mark-first m r [] = rw (sign m .0)
+mark-first m r (x ∷ l) = go (eqb x (code m)) refl
   where
-    by-head : (v : Bool) (x : ℕ) (l : List ℕ) → (cond v (on r l) (off r (x ∷ l)) .over ≡ r .over) × (cond v (on r l) (off r (x ∷ l)) .far ≡ r .far)
-    by-head true x l = (refl, refl)
-    by-head false x l = (refl, refl)
+    go : (v : Bool) → eqb x (code m) ≡ v → stand (cond v (on r l) (off r (x ∷ l))) ≡ cond v (good (drop (cond (starts x) (runLen wordByte l) 0) l)) (bad (x ∷ l))
+    go true e = let q : starts x ≡ false = ap starts (eqb-true x (code m) e) ∙ sign m .2 in rw q
+    go false e = refl
 
-    go : (v : Bool) (b : List ℕ) → (cond v (markHere m r b) r .over ≡ r .over) × (cond v (markHere m r b) r .far ≡ r .far)
-    go true [] = (refl, refl)
-    go true (x ∷ l) = by-head (eqb x m) x l
-    go false b = (refl, refl)
-
-plain-mark : (m : ℕ) (f : Kind) → ((r : Rest) → stand (markC m r) ≡ sticky f (stand r)) → Plain (markC m) f
-plain-mark m f law = record { token = law; over = λ r. mark-kept m r .0; far = λ r. mark-kept m r .1 }
-
-comma : Kind
-unfolding blank wordByte letter
-comma = markKind 44 refl refl refl
-
-opening : Kind
-unfolding blank wordByte letter
-opening = markKind 91 refl refl refl
-
-closing : Kind
-unfolding blank wordByte letter
-closing = markKind 93 refl refl refl
-
-plus : Kind
-unfolding blank wordByte letter
-plus = markKind 43 refl refl refl
-
-brace : Kind
-unfolding blank wordByte letter
-brace = markKind 123 refl refl refl
-
-unbrace : Kind
-unfolding blank wordByte letter
-unbrace = markKind 125 refl refl refl
-
-semicolon : Kind
-unfolding blank wordByte letter
-semicolon = markKind 59 refl refl refl
-
-comma-plain : Plain (markC 44) comma
-unfolding comma blank wordByte letter
-comma-plain = plain-mark 44 comma (mark-token 44 refl refl refl)
-
-opening-plain : Plain (markC 91) opening
-unfolding opening blank wordByte letter
-opening-plain = plain-mark 91 opening (mark-token 91 refl refl refl)
-
-closing-plain : Plain (markC 93) closing
-unfolding closing blank wordByte letter
-closing-plain = plain-mark 93 closing (mark-token 93 refl refl refl)
-
-plus-plain : Plain (markC 43) plus
-unfolding plus blank wordByte letter
-plus-plain = plain-mark 43 plus (mark-token 43 refl refl refl)
-
-brace-plain : Plain (markC 123) brace
-unfolding brace blank wordByte letter
-brace-plain = plain-mark 123 brace (mark-token 123 refl refl refl)
-
-unbrace-plain : Plain (markC 125) unbrace
-unfolding unbrace blank wordByte letter
-unbrace-plain = plain-mark 125 unbrace (mark-token 125 refl refl refl)
-
-semicolon-plain : Plain (markC 59) semicolon
-unfolding semicolon blank wordByte letter
-semicolon-plain = plain-mark 59 semicolon (mark-token 59 refl refl refl)
+mark-token : (m : Sign) (r : Rest) → stand (markC (code m) r) ≡ sticky (markKind m) (stand r)
+unfolding markC
+mark-token m r = go (r .ok)
+  where
+    go : (v : Bool) → stand (cond v (markHere (code m) r (afterBlanks (r .rest))) r) ≡ cond v (first (markKind m) (afterBlanks (r .rest))) (stand r)
+    go true = mark-first m r (afterBlanks (r .rest))
+    go false = refl
 
 nameKind : Kind
 unfolding isName letter blank
-nameKind = record { test = isName; none = refl; wit = 97; fits = refl; dark = refl }
+nameKind = record { test = isName; none = refl; wit = byte "a"; fits = refl; dark = refl }
 
-abbrev nameNext : Rest → Rest
-nameNext r = nameC r .next
-
-name-plain : Plain nameNext nameKind
+name-token : (r : Rest) → stand (nameC r .next) ≡ sticky nameKind (stand r)
 unfolding nameC nameKind
-name-plain =
-    record {
-      token = λ r. token-by (isName (tokenOf (afterBlanks (r .rest)))) (r .ok) r;
-      over = λ r. over-by (isName (tokenOf (afterBlanks (r .rest)))) (r .ok) r;
-      far = λ r. far-by (isName (tokenOf (afterBlanks (r .rest)))) (r .ok) r;
-    }
+name-token r = go (r .ok) (isName (tokenOf b))
   where
-    took : Bool → Bool → Rest → Took Name
-    took v k r =
-        cond k (cond v (record { value = packed (tokenOf (afterBlanks (r .rest))); next = on r (afterToken (afterBlanks (r .rest))) }) (record { value = noName; next = off r (afterBlanks (r .rest)) }))
-        (record { value = noName; next = r })
+    b : List ℕ
+    b = afterBlanks (r .rest)
 
-    token-by : (v k : Bool) (r : Rest) → stand (took v k r .next) ≡ cond k (cond v (good (afterToken (afterBlanks (r .rest)))) (bad (afterBlanks (r .rest)))) (stand r)
-    token-by true true r = refl
-    token-by false true r = refl
-    token-by v false r = refl
+    took : Bool → Bool → Took Name
+    took k v = cond k (cond v (record { value = packed (tokenOf b); next = on r (afterToken b) }) (record { value = noName; next = off r b })) (record { value = noName; next = r })
 
-    over-by : (v k : Bool) (r : Rest) → took v k r .next .over ≡ r .over
-    over-by true true r = refl
-    over-by false true r = refl
-    over-by v false r = refl
-
-    far-by : (v k : Bool) (r : Rest) → took v k r .next .far ≡ r .far
-    far-by true true r = refl
-    far-by false true r = refl
-    far-by v false r = refl
+    go : (k v : Bool) → stand (took k v .next) ≡ cond k (cond v (good (afterToken b)) (bad b)) (stand r)
+    go true true = refl
+    go true false = refl
+    go false v = refl
 
 -- ---- with numbers of any size, or, strict, as if reading had stopped at the first number that is too large
 numberTest : Bool → ℕ → List ℕ → Bool
@@ -219,43 +133,24 @@ module _ (strict : Bool) where
   abbrev view : Rest → Stand
   view r = cond (strict && r .over) (bad (r .far)) (stand r)
 
-  -- a reader and then g reads as h does
-  abbrev As : (Rest → Rest) → Row → Row → Type 0
-  As x g h = (r : Rest) → run g (view (x r)) ≡ run h (view r)
-
+  -- a reader of one token of a kind
   abbrev Token : (Rest → Rest) → Kind → Type 0
   Token x f = (r : Rest) → view (x r) ≡ sticky f (view r)
 
-  by : (f : Kind) (x : Rest → Rest) → Token x f → (g : Row) → As x g (one f g)
-  by f x law g r = ap (run g) (law r) ∙ fold-at f g (view r .rest) (view r .ok)
-
-  plain-token : (f : Kind) (x : Rest → Rest) → Plain x f → Token x f
-  plain-token f x p r = ap (λ (o : Bool). cond (strict && o) (bad (x r .far)) (stand (x r))) (p .over r) ∙ go (strict && r .over)
+  kept-token : (f : Kind) (x : Rest → Rest) → ((r : Rest) → stand (x r) ≡ sticky f (stand r)) → ((r : Rest) → Kept r (x r)) → Token x f
+  kept-token f x law kept r = ap (λ (o : Bool). cond (strict && o) (bad (x r .far)) (stand (x r))) (kept r .over) ∙ go (strict && r .over)
     where
       go : (c : Bool) → cond c (bad (x r .far)) (stand (x r)) ≡ sticky f (cond c (bad (r .far)) (stand r))
-      go true = ap bad (p .far r)
-      go false = p .token r
+      go true = ap bad (kept r .far)
+      go false = law r
 
-  simple : (f : Kind) (x : Rest → Rest) → Plain x f → (g : Row) → As x g (one f g)
-  simple f x p = by f x (plain-token f x p)
+  mark-reads : (m : Sign) → Token (markC (code m)) (markKind m)
+  mark-reads m = kept-token (markKind m) (markC (code m)) (mark-token m) (mark-kept (code m))
 
-  -- where reading goes on, the mark tells
-  told : (f : Kind) (m : Rest → Rest) → Plain m f → (r : Rest) (b : Bool) → m r .ok ≡ b → view r .ok ≡ true → sticky f (view r) .ok ≡ b
-  told f m p r b e h = go (strict && r .over) refl h
-    where
-      go : (c : Bool) → (strict && r .over) ≡ c → cond c (bad (r .far)) (stand r) .ok ≡ true → sticky f (cond c (bad (r .far)) (stand r)) .ok ≡ b
-      go true q k = never k
-      go false q k = sym (ap (λ (s : Stand). s .ok) (p .token r)) ∙ e
+  name-reads : Token (λ r. nameC r .next) nameKind
+  name-reads = kept-token nameKind (λ r. nameC r .next) name-token name-kept
 
-  either-at : (f : Kind) (m x y : Rest → Rest) (g h k : Row) → Plain m f → As x k g → As y k h → (r : Rest) (b : Bool) → m r .ok ≡ b → run k (view (cond b (x (m r)) (y r))) ≡ run (branch f g h) (view r)
-  either-at f m x y g h k l p q r true e = p (m r) ∙ (simple f m l g r ∙ taken-at f g h (view r .rest) (view r .ok) (told f m l r true e))
-  either-at f m x y g h k l p q r false e = q r ∙ passed-at f g h (view r .rest) (view r .ok) (told f m l r false e)
-
-  either : (f : Kind) (m x y : Rest → Rest) (g h k : Row) → Plain m f → As x k g → As y k h → As (λ r. cond (m r .ok) (x (m r)) (y r)) k (branch f g h)
-  either f m x y g h k l p q r = either-at f m x y g h k l p q r (m r .ok) refl
-
-  -- ---- numbers
-  number-fits : (limit : ℕ) → numberTest strict limit (48 ∷ []) ≡ true
+  number-fits : (limit : ℕ) → numberTest strict limit (bytes "0") ≡ true
   unfolding numberTest isNumber hexMark zeroLed someDigits isDigit digitOf valueOf
   number-fits limit = go strict
     where
@@ -265,7 +160,7 @@ module _ (strict : Bool) where
 
   numberKind : ℕ → Kind
   unfolding numberTest isNumber hexMark zeroLed someDigits isDigit digitOf blank
-  numberKind limit = record { test = numberTest strict limit; none = refl; wit = 48; fits = number-fits limit; dark = refl }
+  numberKind limit = record { test = numberTest strict limit; none = refl; wit = byte "0"; fits = number-fits limit; dark = refl }
 
 number-at : (s k o n c : Bool) (limit : ℕ) (l f : List ℕ) → isNumber (tokenOf (afterBlanks l)) ≡ n → leb (valueOf (tokenOf (afterBlanks l))) limit ≡ c
     → view s (numberC limit (record { rest = l; ok = k; over = o; far = f }) .next) ≡ sticky (numberKind s limit) (view s (record { rest = l; ok = k; over = o; far = f }))
@@ -283,169 +178,92 @@ number-at true true false false c limit l f p q = rw p
 number-at true true false true true limit l f p q = rw (p, q)
 number-at true true false true false limit l f p q = rw (p, q)
 
-abbrev numberNext : ℕ → Rest → Rest
-numberNext limit r = numberC limit r .next
-
 end-by : (l : List ℕ) (b c : Bool) → _≡_ {A = Stand} (record { rest = l; ok = b && c }) (cond b (cond c (good l) (bad l)) (record { rest = l; ok = b }))
 end-by l true true = refl
 end-by l true false = refl
 end-by l false c = refl
 
-next-cond : {A : Type 0} (b : Bool) (p q : Took A) → cond b p q .next ≡ cond b (p .next) (q .next)
-next-cond true p q = refl
-next-cond false p q = refl
-
+-- ---- a plan is a row of tokens
 module _ (s : Bool) where
-  number-row : (limit : ℕ) (g : Row) → As s (numberNext limit) g (one (numberKind s limit) g)
-  number-row limit =
-      by s (numberKind s limit) (numberNext limit)
-      (λ r. number-at s (r .ok) (r .over) (isNumber (tokenOf (afterBlanks (r .rest)))) (leb (valueOf (tokenOf (afterBlanks (r .rest)))) limit) limit (r .rest) (r .far) refl refl)
+  number-reads : (limit : ℕ) → Token s (λ r. numberC limit r .next) (numberKind s limit)
+  number-reads limit r =
+      let w = tokenOf (afterBlanks (r .rest)) in
+      number-at s (r .ok) (r .over) (isNumber w) (leb (valueOf w) limit) limit (r .rest) (r .far) refl refl
 
-  name-row : (g : Row) → As s nameNext g (one nameKind g)
-  name-row = simple s nameKind nameNext name-plain
+  abbrev rowOf : Plan → Row
+  rowOf ends = one (markKind semicolon) end
+  rowOf (marked m p) = one (markKind m) (rowOf p)
+  rowOf (named p) = one nameKind (rowOf p)
+  rowOf (numbered limit p) = one (numberKind s limit) (rowOf p)
+  rowOf (either m p q) = branch (markKind m) (rowOf p) (rowOf q)
 
-  -- ---- the end
-  end-row : (r : Rest) → view s (endC r) ≡ run (one semicolon end) (view s r)
+  -- a token, and then g
+  then : (f : Kind) (x : Rest → Rest) → Token s x f → (g : Row) (r : Rest) → run g (view s (x r)) ≡ run (one f g) (view s r)
+  then f x law g r = ap (run g) (law r) ∙ fold-at f g (view s r .rest) (view s r .ok)
+
+  end-row : (r : Rest) → view s (endC r) ≡ run (one (markKind semicolon) end) (view s r)
   unfolding endC reads
-  end-row r = go (s && markC 59 r .over) ∙ simple s semicolon (markC 59) semicolon-plain end r
+  end-row r = go (s && d .over) ∙ then (markKind semicolon) (markC (byte ";")) (mark-reads s semicolon) end r
     where
       d : Rest
-      d = markC 59 r
+      d = markC (byte ";") r
 
       go : (c : Bool) → cond c (bad (d .far)) (record { rest = d .rest; ok = d .ok && eqb (length (d .rest)) 0 }) ≡ run end (cond c (bad (d .far)) (stand d))
       go true = refl
       go false = end-by (d .rest) (d .ok) (eqb (length (d .rest)) 0)
 
-  -- ---- operands
-  abbrev bracketRow : Row → Row
-  bracketRow g = one opening (one nameKind (one closing g))
+  -- where reading goes on, the mark tells
+  told : (m : Sign) (r : Rest) (b : Bool) → markC (code m) r .ok ≡ b → view s r .ok ≡ true → sticky (markKind m) (view s r) .ok ≡ b
+  told m r b e h = go (s && r .over) h
+    where
+      go : (c : Bool) → cond c (bad (r .far)) (stand r) .ok ≡ true → sticky (markKind m) (cond c (bad (r .far)) (stand r)) .ok ≡ b
+      go true k = never k
+      go false k = sym (ap (λ (x : Stand). x .ok) (mark-token m r)) ∙ e
 
-  bracket-row : (g : Row) → As s (λ r. inBracketsC r .next) g (bracketRow g)
-  unfolding inBracketsC
-  bracket-row g r =
-      let a = markC 91 r in
-      simple s closing (markC 93) closing-plain g (nameNext a) ∙ (name-row (one closing g) a ∙ simple s opening (markC 91) opening-plain (one nameKind (one closing g)) r)
+  either-row : (m : Sign) (g h : Row) (x y r : Rest) (b : Bool) → markC (code m) r .ok ≡ b → view s x ≡ run g (view s (markC (code m) r)) → view s y ≡ run h (view s r)
+      → view s (cond b x y) ≡ run (branch (markKind m) g h) (view s r)
+  either-row m g h x y r true e p q =
+      p ∙ (then (markKind m) (markC (code m)) (mark-reads s m) g r ∙ taken-at (markKind m) g h (view s r .rest) (view s r .ok) (told m r true e))
+  either-row m g h x y r false e p q = q ∙ passed-at (markKind m) g h (view s r .rest) (view s r .ok) (told m r false e)
 
-  abbrev offsetRow : Row → Row
-  offsetRow g = branch plus (one (numberKind s maxOffset) g) g
+  plan-row : (p : Plan) (r : Rest) → view s (runs p r) ≡ run (rowOf p) (view s r)
+  plan-row ends r = end-row r
+  plan-row (marked m p) r = plan-row p (markC (code m) r) ∙ then (markKind m) (markC (code m)) (mark-reads s m) (rowOf p) r
+  plan-row (named p) r = plan-row p (nameC r .next) ∙ then nameKind (λ x. nameC x .next) (name-reads s) (rowOf p) r
+  plan-row (numbered limit p) r = plan-row p (numberC limit r .next) ∙ then (numberKind s limit) (λ x. numberC limit x .next) (number-reads limit) (rowOf p) r
+  plan-row (either m p q) r =
+      let d = markC (code m) r in
+      either-row m (rowOf p) (rowOf q) (runs p d) (runs q r) r (d .ok) refl (plan-row p d) (plan-row q r)
 
-  offset-row : (g : Row) → As s (λ r. offsetC r .next) g (offsetRow g)
-  unfolding offsetC
-  offset-row g r =
-      ap (λ (x : Rest). run g (view s x)) (next-cond (markC 43 r .ok) (numberC maxOffset (markC 43 r)) (record { value = 0; next = r }))
-      ∙ either s plus (markC 43) (numberNext maxOffset) (λ x. x) (one (numberKind s maxOffset) g) g g plus-plain (number-row maxOffset g) (λ x. refl) r
+  -- ---- at each choice the other way begins with another token
+  inside-good : (p : Plan) → Good (rowOf p) → Good (rowOf (insidePlan p))
+  unfolding afterBlanks blank tokenOf tokenLen markKind
+  inside-good p h = (tt, refl, h, h)
 
-  abbrev insideRow : Row → Row
-  insideRow g = one nameKind (offsetRow (one closing g))
+  operand-good : (p : Plan) → Good (rowOf p) → Good (rowOf (operandPlan p))
+  unfolding afterBlanks blank tokenOf tokenLen nameKind markKind
+  operand-good p h = (tt, refl, inside-good p h, h)
 
-  inside-row : (g : Row) → As s (λ r. insideC r .next) g (insideRow g)
-  unfolding insideC
-  inside-row g r = simple s closing (markC 93) closing-plain g (offsetC (nameNext r) .next) ∙ (offset-row (one closing g) (nameNext r) ∙ name-row (offsetRow (one closing g)) r)
+  more-good : (k : ℕ) (p : Plan) → Good (rowOf p) → Good (rowOf (morePlan k p))
+  unfolding afterBlanks blank tokenOf tokenLen markKind
+  more-good zero p h = h
+  more-good (suc k) p h = (tt, refl, more-good k p h, h)
 
-  abbrev addressRow : Row → Row
-  addressRow g = one opening (insideRow g)
+  slot-good : (k : Slot) (p : Plan) → Good (rowOf p) → Good (rowOf (slotPlan k p))
+  slot-good name p h = h
+  slot-good (number limit) p h = h
+  slot-good inBrackets p h = h
+  slot-good address p h = inside-good p h
+  slot-good operand p h = operand-good p h
+  slot-good names p h = more-good 127 p h
 
-  address-row : (g : Row) → As s (λ r. addressC r .next) g (addressRow g)
-  unfolding addressC
-  address-row g r = inside-row g (markC 91 r) ∙ simple s opening (markC 91) opening-plain (insideRow g) r
+  more-row-good : (ks : List Slot) → Good (rowOf (morePlans ks))
+  more-row-good [] = tt
+  more-row-good (k ∷ ks) = slot-good k (morePlans ks) (more-row-good ks)
 
-  abbrev operandRow : Row → Row
-  operandRow g = branch opening (insideRow g) (one nameKind g)
-
-  operand-row : (g : Row) → As s (λ r. operandC r .next) g (operandRow g)
-  unfolding operandC
-  operand-row g r =
-      ap (λ (x : Rest). run g (view s x)) (next-cond (markC 91 r .ok) (record { value = operand.Address (insideC (markC 91 r) .value); next = insideC (markC 91 r) .next }) (record { value = operand.Descriptor (nameC r .value); next = nameNext r }))
-      ∙ either s opening (markC 91) (λ x. insideC x .next) nameNext (insideRow g) (one nameKind g) g opening-plain (inside-row g) (name-row g) r
-
-  abbrev moreNamesRow : ℕ → Row → Row
-  moreNamesRow zero g = one unbrace g
-  moreNamesRow (suc k) g = branch comma (one nameKind (moreNamesRow k g)) (one unbrace g)
-
-  more-names-row : (k : ℕ) (g : Row) → As s (λ r. moreC k r .next) g (moreNamesRow k g)
-  unfolding moreC
-  more-names-row zero g r = simple s unbrace (markC 125) unbrace-plain g r
-  more-names-row (suc k) g r =
-      let n = nameC (markC 44 r) in
-      ap (λ (x : Rest). run g (view s x)) (next-cond (markC 44 r .ok) (record { value = n .value ∷ moreC k (n .next) .value; next = moreC k (n .next) .next }) (record { value = []; next = markC 125 r }))
-      ∙ either s comma (markC 44) (λ x. moreC k (nameNext x) .next) (markC 125) (one nameKind (moreNamesRow k g)) (one unbrace g) g comma-plain
-      (λ x. more-names-row k g (nameNext x) ∙ name-row (moreNamesRow k g) x) (simple s unbrace (markC 125) unbrace-plain g) r
-
-  abbrev namesRow : Row → Row
-  namesRow g = one brace (one nameKind (moreNamesRow 127 g))
-
-  names-row : (g : Row) → As s (λ r. namesC r .next) g (namesRow g)
-  unfolding namesC
-  names-row g r =
-      let a = markC 123 r in
-      more-names-row 127 g (nameNext a) ∙ (name-row (moreNamesRow 127 g) a ∙ simple s brace (markC 123) brace-plain (one nameKind (moreNamesRow 127 g)) r)
-
-  abbrev slotRow : Slot → Row → Row
-  slotRow name g = one nameKind g
-  slotRow (number limit) g = one (numberKind s limit) g
-  slotRow inBrackets g = bracketRow g
-  slotRow address g = addressRow g
-  slotRow operand g = operandRow g
-  slotRow names g = namesRow g
-
-  slot-row : (k : Slot) (g : Row) → As s (λ r. slotC k r .next) g (slotRow k g)
-  slot-row name g r = name-row g r
-  slot-row (number limit) g r = number-row limit g r
-  slot-row inBrackets g r = bracket-row g r
-  slot-row address g r = address-row g r
-  slot-row operand g r = operand-row g r
-  slot-row names g r = names-row g r
-
-  -- ---- rows of operands
-  abbrev tailRow : List Slot → Row
-  tailRow [] = one semicolon end
-  tailRow (k ∷ ks) = one comma (slotRow k (tailRow ks))
-
-  abbrev tokenRow : List Slot → Row
-  tokenRow [] = one semicolon end
-  tokenRow (k ∷ ks) = slotRow k (tailRow ks)
-
-  tail-row : (ks : List Slot) (r : Rest) → view s (moreRowC ks r .next) ≡ run (tailRow ks) (view s r)
-  unfolding moreRowC
-  tail-row [] r = end-row r
-  tail-row (k ∷ ks) r =
-      let a = markC 44 r in
-      tail-row ks (slotC k a .next) ∙ (slot-row k (tailRow ks) a ∙ simple s comma (markC 44) comma-plain (slotRow k (tailRow ks)) r)
-
-  token-row : (ks : List Slot) (r : Rest) → view s (rowC ks r .next) ≡ run (tokenRow ks) (view s r)
-  unfolding rowC
-  token-row [] r = end-row r
-  token-row (k ∷ ks) r = tail-row ks (slotC k r .next) ∙ slot-row k (tailRow ks) r
-
-  -- ---- at each branch the other way begins with another token
-  inside-good : (g : Row) → Good g → Good (insideRow g)
-  unfolding afterBlanks blank tokenOf tokenLen plus closing markKind
-  inside-good g k = (tt, refl, k, k)
-
-  operand-good : (g : Row) → Good g → Good (operandRow g)
-  unfolding afterBlanks blank tokenOf tokenLen opening nameKind markKind
-  operand-good g k = (tt, refl, inside-good g k, k)
-
-  more-names-good : (k : ℕ) (g : Row) → Good g → Good (moreNamesRow k g)
-  unfolding afterBlanks blank tokenOf tokenLen comma unbrace markKind
-  more-names-good zero g h = h
-  more-names-good (suc k) g h = (tt, refl, more-names-good k g h, h)
-
-  slot-good : (k : Slot) (g : Row) → Good g → Good (slotRow k g)
-  slot-good name g h = h
-  slot-good (number limit) g h = h
-  slot-good inBrackets g h = h
-  slot-good address g h = inside-good g h
-  slot-good operand g h = operand-good g h
-  slot-good names g h = more-names-good 127 g h
-
-  tail-good : (ks : List Slot) → Good (tailRow ks)
-  tail-good [] = tt
-  tail-good (k ∷ ks) = slot-good k (tailRow ks) (tail-good ks)
-
-  token-good : (ks : List Slot) → Good (tokenRow ks)
-  token-good [] = tt
-  token-good (k ∷ ks) = slot-good k (tailRow ks) (tail-good ks)
+  row-good : (ks : List Slot) → Good (rowOf (rowPlan ks))
+  row-good [] = tt
+  row-good (k ∷ ks) = slot-good k (morePlans ks) (more-row-good ks)
 
 -- ---- the place
 -- the statements that are looked for: all, or, strict, those whose numbers are in range
@@ -453,11 +271,18 @@ abbrev fitsBy : Bool → Statement → Bool
 fitsBy true t = sized t
 fitsBy false t = true
 
+-- the tokens of the operands of o
+abbrev tokenRow : Bool → Opcode → Row
+tokenRow s o = rowOf s (rowPlan (row o))
+
 -- the operands of o, from l on, are read as a row of tokens is
-reads-as : (s : Bool) (o : Opcode) (l : List ℕ) → view s (operandsC o (start l) .next) ≡ reads (tokenRow s (row o)) l
+reads-as : (s : Bool) (o : Opcode) (l : List ℕ) → view s (operandsC o (start l) .next) ≡ reads (tokenRow s o) l
 unfolding operandsC
-reads-as true o l = token-row true (row o) (start l)
-reads-as false o l = token-row false (row o) (start l)
+reads-as s o l = ap (view s) (row-runs (row o) (start l)) ∙ (plan-row s (rowPlan (row o)) (start l) ∙ from-start s)
+  where
+    from-start : (b : Bool) → run (tokenRow s o) (view b (start l)) ≡ reads (tokenRow s o) l
+    from-start true = refl
+    from-start false = refl
 
 view-ok : (s : Bool) (r : Rest) → view s r .ok ≡ true → (r .ok ≡ true) × ((s && r .over) ≡ false)
 view-ok s r h = go (s && r .over) h
@@ -474,7 +299,7 @@ taken-fits : (s : Bool) (o : Opcode) (l : List ℕ) (w : Whole) → Met w (opera
 taken-fits true o l w m h = not-false (sized (w .statement)) (sym (ap (λ (r : Rest). r .over) (m .next)) ∙ h)
 taken-fits false o l w m h = refl
 
-taken-spells : (s : Bool) (o : Opcode) (l : List ℕ) → runLen opcodeByte l ≡ 0 → takes (tokenRow s (row o)) l ≡ true → (w : Whole) × Spells w (word o ++ l) × (fitsBy s (w .statement) ≡ true)
+taken-spells : (s : Bool) (o : Opcode) (l : List ℕ) → runLen opcodeByte l ≡ 0 → takes (tokenRow s o) l ≡ true → (w : Whole) × Spells w (word o ++ l) × (fitsBy s (w .statement) ≡ true)
 unfolding operandsC
 taken-spells s o l e h =
     let v = view-ok s (operandsC o (start l) .next) (ap (λ (x : Stand). x .ok) (reads-as s o l) ∙ h) in
@@ -488,7 +313,7 @@ met-ok : (s : Bool) (w : Whole) (t : Took Whole) → Met w t → fitsBy s (w .st
 met-ok true w t m h = rw (m .next, h)
 met-ok false w t m h = rw (m .next)
 
-not-taken : (s : Bool) (o : Opcode) (l : List ℕ) → runLen opcodeByte l ≡ 0 → takes (tokenRow s (row o)) l ≡ false → (w : Whole) → Spells w (word o ++ l) → fitsBy s (w .statement) ≡ true → ⊥
+not-taken : (s : Bool) (o : Opcode) (l : List ℕ) → runLen opcodeByte l ≡ 0 → takes (tokenRow s o) l ≡ false → (w : Whole) → Spells w (word o ++ l) → fitsBy s (w .statement) ≡ true → ⊥
 not-taken s o l e h w t f = true≢false (sym (met-ok s w (operandsC o (start l)) (met-at o l e w t) f) ∙ (ap (λ (x : Stand). x .ok) (reads-as s o l) ∙ h))
 
 -- text is front and l: the place of l
@@ -502,7 +327,7 @@ module _ (text front l : List ℕ) (parts : text ≡ front ++ l) where
   place-drop : drop (length text - length l) text ≡ l
   place-drop = rw (place-is, parts) (drop-append-seam front l)
 
-stops-at : (s : Bool) (text : List ℕ) (o : Opcode) (l : List ℕ) → take (opcodeLen text) text ≡ word o → Stop (tokenRow s (row o)) (drop (opcodeLen text) text) l → Stops (fitsBy s) text (length text - length l) × (drop (length text - length l) text ≡ l)
+stops-at : (s : Bool) (text : List ℕ) (o : Opcode) (l : List ℕ) → take (opcodeLen text) text ≡ word o → Stop (tokenRow s o) (drop (opcodeLen text) text) l → Stops (fitsBy s) text (length text - length l) × (drop (length text - length l) text ≡ l)
 unfolding opcodeByte letter wordByte
 stops-at s text o l e i =
     let front : List ℕ = word o ++ i .before in
@@ -528,8 +353,8 @@ unfolding wholeC
 later-place s text o l e k =
     let rest = drop (opcodeLen text) text in
     let w : wholeC text ≡ operandsC o (start rest) = rw (e, recognised o) in
-    let b : reads (tokenRow s (row o)) rest ≡ bad l = sym (reads-as s o rest) ∙ (ap (λ (t : Took Whole). view s (t .next)) (sym w) ∙ k) in
-    stops-at s text o l e (stop (tokenRow s (row o)) rest l (token-good s (row o)) b)
+    let b : reads (tokenRow s o) rest ≡ bad l = sym (reads-as s o rest) ∙ (ap (λ (t : Took Whole). view s (t .next)) (sym w) ∙ k) in
+    stops-at s text o l e (stop (tokenRow s o) rest l (row-good s (row o)) b)
 
 -- ---- reason 3
 three-by : (b o : Bool) (k q p : ℕ) (t : Statement) → cond b (cond o (TooLarge k) (Got t)) (NoForm q) ≡ NoForm p → (b ≡ false) × (p ≡ q)

@@ -7,6 +7,7 @@ use mathlib.Core.Bool.{Bool, true, false, _&&_, not, cond}
 use lib.ListN.{length}
 use lib.Dec.{ltb, leb, eqb}
 use borrow.Author.Tests.{eq-eqb, eqb-true, leb-true, le-leb, lt-ltb, not-false}
+use Rattle.tokens.specs.Text.{byte}
 use Rattle.tokens.specs.declared.Name.{Name}
 use Rattle.tokens.specs.Bytes.{letter, wordByte, opcodeByte, runLen}
 use Rattle.tokens.specs.Names.{isName, packed, nameBytes, sameName, nameGiven}
@@ -60,30 +61,30 @@ number-spelled n v r h e = record { bytes = decimal v; spelled = record { blanks
 mark-spelled : (n m : ℕ) (r : List ℕ) → Mark m (spaces n ++ (m ∷ r)) r
 mark-spelled n m r = record { blanks = n; parts = refl }
 
-bracket-spelled : (n : ℕ) (v : Name) (r : List ℕ) → nameGiven v ≡ true → BracketText v (spaces n ++ (91 ∷ ((nameBytes v ++ 93 ∷ []) ++ r))) r
+bracket-spelled : (n : ℕ) (v : Name) (r : List ℕ) → nameGiven v ≡ true → BracketText v (spaces n ++ (byte "[" ∷ ((nameBytes v ++ byte "]" ∷ []) ++ r))) r
 unfolding wordByte letter
 bracket-spelled n v r h =
     record {
-      l₁ = (nameBytes v ++ 93 ∷ []) ++ r;
-      l₂ = 93 ∷ r;
-      opens = mark-spelled n 91 ((nameBytes v ++ 93 ∷ []) ++ r);
-      inner = rw append-assoc (name-spelled 0 v (93 ∷ r) h refl);
-      closes = mark-spelled 0 93 r;
+      l₁ = (nameBytes v ++ byte "]" ∷ []) ++ r;
+      l₂ = byte "]" ∷ r;
+      opens = mark-spelled n (byte "[") ((nameBytes v ++ byte "]" ∷ []) ++ r);
+      inner = rw append-assoc (name-spelled 0 v (byte "]" ∷ r) h refl);
+      closes = mark-spelled 0 (byte "]") r;
     }
 
-offset-spelled : (v : ℕ) (r : List ℕ) → v ≤ maxOffset → OffsetText v (offsetText v ++ (93 ∷ r)) (93 ∷ r)
+offset-spelled : (v : ℕ) (r : List ℕ) → v ≤ maxOffset → OffsetText v (offsetText v ++ (byte "]" ∷ r)) (byte "]" ∷ r)
 unfolding wordByte letter
 offset-spelled v r h = go (eqb v 0) refl
   where
-    go : (b : Bool) → eqb v 0 ≡ b → OffsetText v (cond b [] (43 ∷ decimal v) ++ (93 ∷ r)) (93 ∷ r)
+    go : (b : Bool) → eqb v 0 ≡ b → OffsetText v (cond b [] (byte "+" ∷ decimal v) ++ (byte "]" ∷ r)) (byte "]" ∷ r)
     go true e = rw (eqb-true v 0 e) bare
-    go false e = plus (mark-spelled 0 43 (decimal v ++ (93 ∷ r))) (number-spelled 0 v (93 ∷ r) (omega arith) refl)
+    go false e = plus (mark-spelled 0 (byte "+") (decimal v ++ (byte "]" ∷ r))) (number-spelled 0 v (byte "]" ∷ r) (omega arith) refl)
 
-offset-ends : (v : ℕ) (r : List ℕ) → runLen wordByte (offsetText v ++ (93 ∷ r)) ≡ 0
+offset-ends : (v : ℕ) (r : List ℕ) → runLen wordByte (offsetText v ++ (byte "]" ∷ r)) ≡ 0
 unfolding wordByte letter
 offset-ends v r = go (eqb v 0)
   where
-    go : (b : Bool) → runLen wordByte (cond b [] (43 ∷ decimal v) ++ (93 ∷ r)) ≡ 0
+    go : (b : Bool) → runLen wordByte (cond b [] (byte "+" ∷ decimal v) ++ (byte "]" ∷ r)) ≡ 0
     go true = refl
     go false = refl
 
@@ -91,15 +92,15 @@ address-spelled : (n : ℕ) (v : Address) (r : List ℕ) → addressGiven v ≡ 
 unfolding addressText
 address-spelled n v r h =
     let p = and-split (nameGiven (v .base)) (leb (v .offset) maxOffset) h in
-    let rest : List ℕ = (nameBytes (v .base) ++ (offsetText (v .offset) ++ 93 ∷ [])) ++ r in
+    let rest : List ℕ = (nameBytes (v .base) ++ (offsetText (v .offset) ++ byte "]" ∷ [])) ++ r in
     record {
       l₁ = rest;
-      l₂ = offsetText (v .offset) ++ (93 ∷ r);
-      l₃ = 93 ∷ r;
-      opens = mark-spelled n 91 rest;
-      base = simp append-assoc (name-spelled 0 (v .base) (offsetText (v .offset) ++ (93 ∷ r)) (p .0) (offset-ends (v .offset) r));
+      l₂ = offsetText (v .offset) ++ (byte "]" ∷ r);
+      l₃ = byte "]" ∷ r;
+      opens = mark-spelled n (byte "[") rest;
+      base = simp append-assoc (name-spelled 0 (v .base) (offsetText (v .offset) ++ (byte "]" ∷ r)) (p .0) (offset-ends (v .offset) r));
       offset = offset-spelled (v .offset) r (leb-true (v .offset) maxOffset (p .1));
-      closes = mark-spelled 0 93 r;
+      closes = mark-spelled 0 (byte "]") r;
     }
 
 operand-spelled : (n : ℕ) (v : Operand) (r : List ℕ) → operandGiven v ≡ true → runLen wordByte r ≡ 0 → OperandText v (spaces n ++ (operandText v ++ r)) r
@@ -114,11 +115,11 @@ more-ends (n ∷ ns) r = refl
 
 more-spelled : (ns : List Name) (r : List ℕ) → allNames ns ≡ true → MoreNames ns (moreNamesText ns ++ r) r
 unfolding moreNamesText
-more-spelled [] r h = closes (mark-spelled 0 125 r)
+more-spelled [] r h = closes (mark-spelled 0 (byte "}") r)
 more-spelled (n ∷ ns) r h =
     let p = and-split (nameGiven n) (allNames ns) h in
-    let t : NameText n (32 ∷ ((nameBytes n ++ moreNamesText ns) ++ r)) (moreNamesText ns ++ r) = rw append-assoc (name-spelled 1 n (moreNamesText ns ++ r) (p .0) (more-ends ns r)) in
-    comma (mark-spelled 0 44 (32 ∷ ((nameBytes n ++ moreNamesText ns) ++ r))) t (more-spelled ns r (p .1))
+    let t : NameText n (byte " " ∷ ((nameBytes n ++ moreNamesText ns) ++ r)) (moreNamesText ns ++ r) = rw append-assoc (name-spelled 1 n (moreNamesText ns ++ r) (p .0) (more-ends ns r)) in
+    comma (mark-spelled 0 (byte ",") (byte " " ∷ ((nameBytes n ++ moreNamesText ns) ++ r))) t (more-spelled ns r (p .1))
 
 names-spelled : (n : ℕ) (v : List Name) (r : List ℕ) → slotGiven names v ≡ true → NamesText v (spaces n ++ (namesText v ++ r)) r
 unfolding namesText
@@ -129,7 +130,7 @@ names-spelled n (v ∷ ns) r h =
     let k = leb-true (suc (length ns)) 128 (and-split (ltb 0 (suc (length ns))) (leb (suc (length ns)) 128) (p .0) .1) in
     let t : NameText v ((nameBytes v ++ moreNamesText ns) ++ r) (moreNamesText ns ++ r) = rw append-assoc (name-spelled 0 v (moreNamesText ns ++ r) (q .0) (more-ends ns r)) in
     let few : length ns ≤ 127 = omega arith in
-    opens few (mark-spelled n 123 ((nameBytes v ++ moreNamesText ns) ++ r)) t (more-spelled ns r (q .1))
+    opens few (mark-spelled n (byte "{") ((nameBytes v ++ moreNamesText ns) ++ r)) t (more-spelled ns r (q .1))
 
 slot-spelled : (k : Slot) (n : ℕ) (v : Value k) (r : List ℕ) → Small k → slotGiven k v ≡ true → runLen wordByte r ≡ 0 → SlotText k v (spaces n ++ (slotText k v ++ r)) r
 slot-spelled name n v r b h e = name-spelled n v r h e
@@ -147,15 +148,15 @@ row-ends (k ∷ ks) vs = refl
 
 more-row-spelled : (ks : List Slot) (vs : Values ks) → SmallRow ks → rowGiven ks vs ≡ true → MoreRow ks vs (moreRowText ks vs)
 unfolding moreRowText rowGiven
-more-row-spelled [] vs b h = mark-spelled 0 59 []
+more-row-spelled [] vs b h = mark-spelled 0 (byte ";") []
 more-row-spelled (k ∷ ks) vs b h =
     let p = and-split (slotGiven k (vs .0)) (rowGiven ks (vs .1)) h in
     let rest : List ℕ = moreRowText ks (vs .1) in
-    (32 ∷ (slotText k (vs .0) ++ rest), rest, mark-spelled 0 44 (32 ∷ (slotText k (vs .0) ++ rest)), slot-spelled k 1 (vs .0) rest (b .0) (p .0) (row-ends ks (vs .1)), more-row-spelled ks (vs .1) (b .1) (p .1))
+    (byte " " ∷ (slotText k (vs .0) ++ rest), rest, mark-spelled 0 (byte ",") (byte " " ∷ (slotText k (vs .0) ++ rest)), slot-spelled k 1 (vs .0) rest (b .0) (p .0) (row-ends ks (vs .1)), more-row-spelled ks (vs .1) (b .1) (p .1))
 
 row-spelled : (ks : List Slot) (vs : Values ks) → SmallRow ks → rowGiven ks vs ≡ true → RowText ks vs (rowText ks vs)
 unfolding rowText rowGiven
-row-spelled [] vs b h = mark-spelled 0 59 []
+row-spelled [] vs b h = mark-spelled 0 (byte ";") []
 row-spelled (k ∷ ks) vs b h =
     let p = and-split (slotGiven k (vs .0)) (rowGiven ks (vs .1)) h in
     let rest : List ℕ = moreRowText ks (vs .1) in
