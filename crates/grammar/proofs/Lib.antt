@@ -7,6 +7,8 @@ pub mod Trip
 pub mod Readers
 pub mod Stops
 pub mod Overs
+pub mod PlanTokens
 pub mod Places
+pub mod OnePlace
 pub mod Theorems
 pub mod Examples

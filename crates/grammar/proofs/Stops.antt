@@ -193,10 +193,10 @@ cond-same : (b : Bool) (n : ℕ) → cond b n n ≡ n
 cond-same true n = refl
 cond-same false n = refl
 
-abbrev Past : Kind → Row → Row → Type 0
+abbrev pub Past : Kind → Row → Row → Type 0
 Past f g r = (x : List ℕ) → f .test (tokenOf (afterBlanks x)) ≡ true → reads r x ≡ reads g (afterToken (afterBlanks x))
 
-one-yes : (f : Kind) (g : Row) → Past f g (one f g)
+pub one-yes : (f : Kind) (g : Row) → Past f g (one f g)
 unfolding reads
 one-yes f g x e = rw e
 
@@ -204,11 +204,11 @@ one-no : (f : Kind) (g : Row) (x : List ℕ) → f .test (tokenOf (afterBlanks x
 unfolding reads
 one-no f g x e = rw e
 
-branch-yes : (f : Kind) (g h : Row) → Past f g (branch f g h)
+pub branch-yes : (f : Kind) (g h : Row) → Past f g (branch f g h)
 unfolding reads
 branch-yes f g h x e = rw e
 
-branch-no : (f : Kind) (g h : Row) (x : List ℕ) → f .test (tokenOf (afterBlanks x)) ≡ false → reads (branch f g h) x ≡ reads h x
+pub branch-no : (f : Kind) (g h : Row) (x : List ℕ) → f .test (tokenOf (afterBlanks x)) ≡ false → reads (branch f g h) x ≡ reads h x
 unfolding reads
 branch-no f g h x e = rw e
 

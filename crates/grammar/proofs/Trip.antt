@@ -6,7 +6,7 @@ use mathlib.Core.List.{List, [], _∷_, _++_, append-assoc}
 use mathlib.Core.Bool.{Bool, true, false, _&&_, not, cond}
 use lib.ListN.{length}
 use lib.Dec.{ltb, leb, eqb}
-use borrow.Author.Tests.{eq-eqb, eqb-true, leb-true, le-leb, lt-ltb, not-false}
+use borrow.Author.Tests.{eq-eqb, eqb-true, leb-true, le-leb, lt-ltb, not-false, ltb-true}
 use Rattle.tokens.specs.Text.{byte}
 use Rattle.tokens.specs.declared.Name.{Name}
 use Rattle.tokens.specs.Bytes.{letter, wordByte, opcodeByte, runLen}
@@ -33,20 +33,25 @@ use Rattle.laws.proofs.BoolLaws.{and-split, never}
 use Rattle.grammar.proofs.Rows.{overRow}
 use Rattle.grammar.proofs.Exact.{got-same, over-none, over-sized, exact}
 use Rattle.grammar.proofs.Back.{packed-given, decimal-number, decimal-value}
-use Rattle.statement.proofs.Bound.{text-short}
+use Rattle.statement.specs.Opcodes.{opcodes}
+use Rattle.statement.proofs.Every.{every}
+use Rattle.statement.proofs.Bound.{names-few, text-short}
 
 -- ---- limits of numbers that a decimal of 20 digits can write
-abbrev Small : Slot → Type 0
-Small name = Unit {0}
-Small (number limit) = limit < 10 ^ 20
-Small inBrackets = Unit {0}
-Small address = Unit {0}
-Small operand = Unit {0}
-Small names = Unit {0}
+abbrev small : Slot → Bool
+small name = true
+small (number limit) = ltb limit (10 ^ 20)
+small inBrackets = true
+small address = true
+small operand = true
+small names = true
 
-abbrev SmallRow : List Slot → Type 0
-SmallRow [] = Unit {0}
-SmallRow (k ∷ ks) = Small k × SmallRow ks
+abbrev smallRow : List Slot → Bool
+smallRow [] = true
+smallRow (k ∷ ks) = small k && smallRow ks
+
+row-small : (o : Opcode) → smallRow (row o) ≡ true
+row-small = every (λ o. smallRow (row o)) (λ o. true) (unfold opcodes in refl)
 
 -- ---- canonical texts of operands spell them, after n spaces and before what ends a word
 name-spelled : (n : ℕ) (v : Name) (r : List ℕ) → nameGiven v ≡ true → runLen wordByte r ≡ 0 → NameText v (spaces n ++ (nameBytes v ++ r)) r
@@ -127,14 +132,13 @@ names-spelled n [] r h = never h
 names-spelled n (v ∷ ns) r h =
     let p = and-split (ltb 0 (suc (length ns)) && leb (suc (length ns)) 128) (nameGiven v && allNames ns) h in
     let q = and-split (nameGiven v) (allNames ns) (p .1) in
-    let k = leb-true (suc (length ns)) 128 (and-split (ltb 0 (suc (length ns))) (leb (suc (length ns)) 128) (p .0) .1) in
     let t : NameText v ((nameBytes v ++ moreNamesText ns) ++ r) (moreNamesText ns ++ r) = rw append-assoc (name-spelled 0 v (moreNamesText ns ++ r) (q .0) (more-ends ns r)) in
-    let few : length ns ≤ 127 = omega arith in
+    let few : length ns ≤ 127 = omega (arith, names-few (v ∷ ns) h) in
     opens few (mark-spelled n (byte "{") ((nameBytes v ++ moreNamesText ns) ++ r)) t (more-spelled ns r (q .1))
 
-slot-spelled : (k : Slot) (n : ℕ) (v : Value k) (r : List ℕ) → Small k → slotGiven k v ≡ true → runLen wordByte r ≡ 0 → SlotText k v (spaces n ++ (slotText k v ++ r)) r
+slot-spelled : (k : Slot) (n : ℕ) (v : Value k) (r : List ℕ) → small k ≡ true → slotGiven k v ≡ true → runLen wordByte r ≡ 0 → SlotText k v (spaces n ++ (slotText k v ++ r)) r
 slot-spelled name n v r b h e = name-spelled n v r h e
-slot-spelled (number limit) n v r b h e = let z = leb-true v limit h in number-spelled n v r (omega arith) e
+slot-spelled (number limit) n v r b h e = number-spelled n v r (omega (arith, leb-true v limit h, ltb-true limit (10 ^ 20) b)) e
 slot-spelled inBrackets n v r b h e = bracket-spelled n v r h
 slot-spelled address n v r b h e = address-spelled n v r h
 slot-spelled operand n v r b h e = operand-spelled n v r h e
@@ -146,42 +150,28 @@ unfolding moreRowText wordByte letter
 row-ends [] vs = refl
 row-ends (k ∷ ks) vs = refl
 
-more-row-spelled : (ks : List Slot) (vs : Values ks) → SmallRow ks → rowGiven ks vs ≡ true → MoreRow ks vs (moreRowText ks vs)
+more-row-spelled : (ks : List Slot) (vs : Values ks) → smallRow ks ≡ true → rowGiven ks vs ≡ true → MoreRow ks vs (moreRowText ks vs)
 unfolding moreRowText rowGiven
 more-row-spelled [] vs b h = mark-spelled 0 (byte ";") []
 more-row-spelled (k ∷ ks) vs b h =
     let p = and-split (slotGiven k (vs .0)) (rowGiven ks (vs .1)) h in
+    let q = and-split (small k) (smallRow ks) b in
     let rest : List ℕ = moreRowText ks (vs .1) in
-    (byte " " ∷ (slotText k (vs .0) ++ rest), rest, mark-spelled 0 (byte ",") (byte " " ∷ (slotText k (vs .0) ++ rest)), slot-spelled k 1 (vs .0) rest (b .0) (p .0) (row-ends ks (vs .1)), more-row-spelled ks (vs .1) (b .1) (p .1))
+    (byte " " ∷ (slotText k (vs .0) ++ rest), rest, mark-spelled 0 (byte ",") (byte " " ∷ (slotText k (vs .0) ++ rest)), slot-spelled k 1 (vs .0) rest (q .0) (p .0) (row-ends ks (vs .1)), more-row-spelled ks (vs .1) (q .1) (p .1))
 
-row-spelled : (ks : List Slot) (vs : Values ks) → SmallRow ks → rowGiven ks vs ≡ true → RowText ks vs (rowText ks vs)
+row-spelled : (ks : List Slot) (vs : Values ks) → smallRow ks ≡ true → rowGiven ks vs ≡ true → RowText ks vs (rowText ks vs)
 unfolding rowText rowGiven
 row-spelled [] vs b h = mark-spelled 0 (byte ";") []
 row-spelled (k ∷ ks) vs b h =
     let p = and-split (slotGiven k (vs .0)) (rowGiven ks (vs .1)) h in
+    let q = and-split (small k) (smallRow ks) b in
     let rest : List ℕ = moreRowText ks (vs .1) in
-    (rest, slot-spelled k 1 (vs .0) rest (b .0) (p .0) (row-ends ks (vs .1)), more-row-spelled ks (vs .1) (b .1) (p .1))
+    (rest, slot-spelled k 1 (vs .0) rest (q .0) (p .0) (row-ends ks (vs .1)), more-row-spelled ks (vs .1) (q .1) (p .1))
 
 opcode-ends : (ks : List Slot) (vs : Values ks) → runLen opcodeByte (rowText ks vs) ≡ 0
 unfolding rowText opcodeByte letter
 opcode-ends [] vs = refl
 opcode-ends (k ∷ ks) vs = refl
-
-row-small : (o : Opcode) → SmallRow (row o)
-row-small Mov32 = (tt, (omega arith, tt))
-row-small Mov64 = (tt, (omega arith, tt))
-row-small (Alloc shared) = (tt, (omega arith, tt))
-row-small Dealloc = (tt, (omega arith, tt))
-row-small Relinquish = tt
-row-small (Load shape num) = (tt, (tt, tt))
-row-small (Store shape num) = (tt, (tt, tt))
-row-small WaitLoad = tt
-row-small WaitStore = tt
-row-small FenceBefore = tt
-row-small FenceAfter = tt
-row-small (Multiply ws false kind) = (tt, (tt, (tt, (tt, (tt, tt)))))
-row-small (Multiply ws true kind) = (tt, (tt, (tt, (tt, (tt, (tt, tt))))))
-row-small Exit = tt
 
 -- ---- a statement's opcode and operands make it again
 no-names : (t : Statement) (regs : List Name) → eqb 0 (length regs) ≡ true → plain t ≡ record { statement = t; registers = regs }

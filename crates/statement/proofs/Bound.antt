@@ -49,6 +49,9 @@ unfolding namesText
 names-short [] = omega arith
 names-short (n ∷ ns) = omega (arith, length-append (nameBytes n) (moreNamesText ns), name-short n, more-names-short ns)
 
+pub names-few : (ns : List Name) → slotGiven names ns ≡ true → length ns ≤ 128
+names-few ns e = let n = length ns in leb-true n 128 (and-r (ltb 0 n) (leb n 128) (and-l (ltb 0 n && leb n 128) (allNames ns) e))
+
 -- the most bytes that an operand has
 abbrev most : Slot → ℕ
 most name = 16
@@ -64,9 +67,7 @@ slot-short (number limit) v e = decimal-short v
 slot-short inBrackets v e = omega (arith, length-append (nameBytes v) (bytes "]"), name-short v)
 slot-short address v e = address-short v
 slot-short operand v e = operand-short v
-slot-short names v e =
-    let h : length v ≤ 128 = leb-true (length v) 128 (and-r (ltb 0 (length v)) (leb (length v) 128) (and-l (ltb 0 (length v) && leb (length v) 128) (allNames v) e)) in
-    omega (arith, names-short v)
+slot-short names v e = omega (arith, names-short v, names-few v e)
 
 -- ---- rows
 abbrev mostRow : List Slot → ℕ

@@ -1,7 +1,7 @@
 -- How a statement is read: the opcode, its row of operands, the answer. Assumes nothing.
 use Rattle.tokens.specs.Text.{byte}
 use Prim.Native.Nat.{ℕ, zero, suc, _-_}
-use mathlib.Core.List.{List, [], _∷_}
+use mathlib.Core.List.{List, [], _∷_, map}
 use mathlib.Core.Bool.{Bool, true, false, _&&_, cond}
 use lib.ListN.{length, take, drop}
 use lib.Dec.{leb}
@@ -157,12 +157,10 @@ told text t = answerOf text (t .next) (t .value .statement)
 
 -- ---- the registers' names in two lists of numbers
 abbrev pub his : List Name → List ℕ
-his [] = []
-his (n ∷ ns) = n .hi ∷ his ns
+his ns = map (λ (n : Name). n .hi) ns
 
 abbrev pub los : List Name → List ℕ
-los [] = []
-los (n ∷ ns) = n .lo ∷ los ns
+los ns = map (λ (n : Name). n .lo) ns
 
 -- the names that two lists hold
 abbrev pub paired : List ℕ → List ℕ → List Name
