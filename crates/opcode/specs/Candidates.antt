@@ -29,6 +29,7 @@ isAt s at x = eqb (getD s at 0) x
 unfoldable pub shapeBy : ℕ → Shape
 shapeBy x = cond (eqb x (byte "3")) S32x32 (cond (eqb x (byte "6")) S16x64 (cond (eqb x (byte "1")) S16x128 S16x256))
 
+-- of a ld or st
 unfoldable pub shapeOf : List ℕ → Shape
 shapeOf s = shapeBy (getD s 27 0)
 
@@ -49,6 +50,7 @@ numAt x y =
     (cond (eqb x (byte "6")) X64
     X8))))
 
+-- of a ld or st
 unfoldable pub numIn : List ℕ → Num
 numIn s = let p = numPlace (shapeOf s) in numAt (getD s p 0) (getD s (p + 1) 0)
 
@@ -63,6 +65,7 @@ kindPlace true true = 37
 unfoldable pub kindAt : ℕ → ℕ → Kind
 kindAt x y = cond (eqb x (byte "t")) Tf32 (cond (eqb x (byte "i")) I8 (cond (eqb y (byte "1")) F16 F8f6f4))
 
+-- with .ws and .sp or not
 unfoldable pub mmaOf : Bool → Bool → List ℕ → Opcode
 mmaOf ws sp s = let p = kindPlace ws sp in Multiply ws sp (kindAt (getD s p 0) (getD s (p + 1) 0))
 

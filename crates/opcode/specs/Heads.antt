@@ -13,9 +13,11 @@ pub record Parted : Type 0 where
   pub found : Found
   pub rest : List ℕ
 
+-- what a function returns of a text
 abbrev pub headSeen : List ℕ → Head → Parted
 headSeen s r = record { found = r .found; rest = drop (r .end) s }
 
+-- what the table found, and what follows it: nothing is passed where it found none
 abbrev pub headBy : List ℕ → Found → Parted
 headBy s (Is o) = record { found = Is o; rest = drop (opcodeLen s) s }
 headBy s Nothing = record { found = Nothing; rest = s }
