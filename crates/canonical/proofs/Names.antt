@@ -2,30 +2,24 @@
 -- written. Assumes nothing.
 use Prim.Native.Nat.{ℕ, _+_, _≤_}
 use mathlib.Core.Path.{_≡_, refl, ap, ap₂, sym, _∙_}
-use mathlib.Core.List.{List, [], _∷_, _++_}
-use mathlib.Core.Bool.{Bool, true, _&&_}
+use mathlib.Core.List.{List, [], _∷_, map}
+use mathlib.Core.Bool.{true}
 use native.Mathlib.Nat.{zero-add, le-refl}
 use native.Mathlib.Omega.{arith}
-use lib.ListN.{length, take, drop}
+use lib.ListN.{length, length-map, take, drop}
 use lib.Seq.{sets, sets-eq, take-append-le, take-all}
-use lib.Dec.{eqb, leb, ltb}
-use borrow.Author.Tests.{eqb-true, leb-true}
-use Rattle.laws.proofs.TestLaws.{and-split}
+use lib.Dec.{eqb}
+use borrow.Author.Tests.{eqb-true}
+use Rattle.laws.proofs.BoolLaws.{and-l, and-r}
 use Rattle.tokens.specs.declared.Name.{Name}
 use Rattle.statement.specs.declared.Statement.{Statement}
 use Rattle.statement.specs.declared.Statement.the-variants as s
 use Rattle.statement.specs.declared.Reading.the-variants.{Got}
-use Rattle.statement.specs.Canonical.{countOf, given, rowGiven, allNames, addressGiven}
+use Rattle.statement.specs.Canonical.{countOf, given, rowGiven, slotGiven, addressGiven}
+use Rattle.statement.specs.Forms.{names}
+use Rattle.statement.proofs.Bound.{names-few}
 use Rattle.statement.specs.Reading.{readOf, registersOf, his, los, paired}
 use Rattle.grammar.proofs.Trip.{writable}
-
-his-length : (ns : List Name) → length (his ns) ≡ length ns
-his-length [] = refl
-his-length (n ∷ ns) = ap (λ (k : ℕ). k) (rw (his-length ns))
-
-los-length : (ns : List Name) → length (los ns) ≡ length ns
-los-length [] = refl
-los-length (n ∷ ns) = rw (los-length ns)
 
 pairs : (ns : List Name) → paired (his ns) (los ns) ≡ ns
 pairs [] = refl
@@ -38,7 +32,7 @@ front zs w h = ap (take (length w)) (sets-eq w zs 0 (rw (zero-add (length w)) h)
 -- the names of a statement that can be written are as many as it says, and at most 128
 count-is : (t : Statement) (regs : List Name) → given t regs ≡ true → countOf t ≡ length regs
 unfolding given
-count-is t regs h = eqb-true (countOf t) (length regs) (and-split (eqb (countOf t) (length regs)) _ h .0)
+count-is t regs h = eqb-true (countOf t) (length regs) (and-l (eqb (countOf t) (length regs)) _ h)
 
 none : (n : ℕ) → 0 ≡ n → n ≤ 128
 none n e = omega arith
@@ -50,10 +44,8 @@ most (s.Mov64 n v) regs h = none (length regs) (count-is (s.Mov64 n v) regs h)
 most (s.Alloc n v) regs h = none (length regs) (count-is (s.Alloc n v) regs h)
 most (s.Dealloc n v) regs h = none (length regs) (count-is (s.Dealloc n v) regs h)
 most s.Relinquish regs h = none (length regs) (count-is s.Relinquish regs h)
-most (s.Load a) regs h =
-    leb-true (length regs) 128 (and-split (ltb 0 (length regs)) _ (and-split (ltb 0 (length regs) && leb (length regs) 128) _ (and-split (((ltb 0 (length regs) && leb (length regs) 128) && allNames regs)) _ (and-split (eqb (countOf (s.Load a)) (length regs)) _ h .1) .0) .0) .1)
-most (s.Store a) regs h =
-    leb-true (length regs) 128 (and-split (ltb 0 (length regs)) _ (and-split (ltb 0 (length regs) && leb (length regs) 128) _ (and-split ((ltb 0 (length regs) && leb (length regs) 128) && allNames regs) _ (and-split (addressGiven (a .address)) _ (and-split (eqb (countOf (s.Store a)) (length regs)) _ h .1) .1) .0) .0) .1)
+most (s.Load a) regs h = names-few regs (and-l (slotGiven names regs) _ (and-r (eqb (a .registers) (length regs)) _ h))
+most (s.Store a) regs h = names-few regs (and-l (slotGiven names regs) _ (and-r (addressGiven (a .address)) _ (and-r (eqb (a .registers) (length regs)) _ h)))
 most s.WaitLoad regs h = none (length regs) (count-is s.WaitLoad regs h)
 most s.WaitStore regs h = none (length regs) (count-is s.WaitStore regs h)
 most s.FenceBefore regs h = none (length regs) (count-is s.FenceBefore regs h)
@@ -65,16 +57,17 @@ most s.Exit regs h = none (length regs) (count-is s.Exit regs h)
 can : (text : List ℕ) (t : Statement) → readOf text ≡ Got t → given t (registersOf text) ≡ true
 can text t e = writable t (registersOf text) .exactly .1 (text, (e, refl))
 
--- THE LAW: the names found in the arrays, as many as the statement says
+-- one number of each name, found in an array that they were written to
+half : (f : Name → ℕ) (ns : List Name) (x xs : List ℕ) (k : ℕ) → k ≡ length ns → length ns ≤ 128 → length x ≡ 128 → xs ≡ sets x 0 (map f ns) → take k xs ≡ map f ns
+half f ns x xs k c m p e = ap₂ take (c ∙ sym (length-map ns f)) e ∙ front x (map f ns) (rw (length-map ns f, p) m)
+
+-- the names found in the arrays, as many as the statement says
 pub found : (text : List ℕ) (t : Statement) (x y hs ls : List ℕ) → readOf text ≡ Got t → length x ≡ 128 → length y ≡ 128
     → hs ≡ sets x 0 (his (registersOf text)) → ls ≡ sets y 0 (los (registersOf text))
     → paired (take (countOf t) hs) (take (countOf t) ls) ≡ registersOf text
 found text t x y hs ls e p q h l =
-    let g : given t (registersOf text) ≡ true = can text t e in
-    let c : countOf t ≡ length (registersOf text) = count-is t (registersOf text) g in
-    let m : length (registersOf text) ≤ 128 = most t (registersOf text) g in
-    let a : take (countOf t) hs ≡ his (registersOf text) =
-    ap₂ take (c ∙ sym (his-length (registersOf text))) h ∙ front x (his (registersOf text)) (rw (his-length (registersOf text), p) m) in
-    let b : take (countOf t) ls ≡ los (registersOf text) =
-    ap₂ take (c ∙ sym (los-length (registersOf text))) l ∙ front y (los (registersOf text)) (rw (los-length (registersOf text), q) m) in
-    ap₂ paired a b ∙ pairs (registersOf text)
+    let ns = registersOf text in
+    let g : given t ns ≡ true = can text t e in
+    let c : countOf t ≡ length ns = count-is t ns g in
+    let m : length ns ≤ 128 = most t ns g in
+    ap₂ paired (half (λ n. n .hi) ns x hs (countOf t) c m p h) (half (λ n. n .lo) ns y ls (countOf t) c m q l) ∙ pairs ns

@@ -4,7 +4,7 @@ use statement::Num;
 use statement::Shape;
 use statement::Statement;
 ghost use mathlib.Core.Path.{_≡_};
-ghost use Rattle.statement.specs.Cells.{times, registersOf, lanesOf, columnsOf, miscounted, counted};
+ghost use Rattle.statement.specs.Cells.{times, registersFor, lanesOf, columnsOf, miscounted, counted};
 ghost use Rattle.cells.specs.Rows.{rowOf};
 
 // A row of the table: registers for each N, lanes, columns for each N, largest N.
@@ -64,7 +64,7 @@ pub fn row_of(shape: Shape) -> Row
 
 // How many registers an access moves.
 pub fn registers(shape: Shape, num: Num) -> usize
-    ensures { λ r. ⌜ r ≡ registersOf shape num ⌝ }
+    ensures { λ r. ⌜ r ≡ registersFor shape num ⌝ }
 {
     let c = row_of(shape);
     c.registers * times_of(num)

@@ -12,7 +12,6 @@ use Rattle.tokens.specs.declared.Name.{Name}
 use Rattle.tokens.specs.Bytes.{opcodeByte, runLen}
 use Rattle.tokens.specs.Cursors.{Rest, Took}
 use Rattle.statement.specs.declared.Address.{Address}
-use Rattle.statement.specs.declared.Operand.{Operand}
 use Rattle.statement.specs.declared.Operand.the-variants as operand
 use Rattle.statement.specs.declared.Statement.{Statement}
 use Rattle.statement.specs.declared.Opcode.{Opcode}
@@ -20,7 +19,7 @@ use Rattle.statement.specs.declared.Opcode.the-variants.{Mov32, Mov64, Alloc, D
 use Rattle.statement.specs.declared.Found.{Found}
 use Rattle.statement.specs.declared.Found.the-variants.{Is, Nothing}
 use Rattle.statement.specs.declared.Reading.the-variants.{Got, NoForm, TooLarge}
-use Rattle.statement.specs.Forms.{word, Slot, name, number, inBrackets, address, operand, names, Value, Values, max32, row, Whole, make}
+use Rattle.statement.specs.Forms.{word, Slot, name, number, inBrackets, address, operand, names, Value, Values, maxOffset, row, Whole, make}
 use Rattle.statement.specs.Opcodes.{recognise}
 use Rattle.statement.specs.Reading.{operandsC, start, wholeBy, opcodeLen, wholeC, answerOf, readOf, reasonOf, registersOf}
 use Rattle.grammar.specs.Spells.{RowText, Spells, sizedSlot, sizedRow, sized}
@@ -40,9 +39,9 @@ cut-slot : (k : Slot) (v : Value k) → sizedSlot k v ≡ true → cutSlot k v �
 cut-slot name v h = refl
 cut-slot (number limit) v h = cut-same limit v h
 cut-slot inBrackets v h = refl
-cut-slot address v h = ap (λ (n : ℕ). record { base = v .base; offset = n }) (cut-same max32 (v .offset) h)
+cut-slot address v h = ap (λ (n : ℕ). record { base = v .base; offset = n }) (cut-same maxOffset (v .offset) h)
 cut-slot operand (operand.Descriptor n) h = refl
-cut-slot operand (operand.Address a) h = ap (λ (n : ℕ). operand.Address (record { base = a .base; offset = n })) (cut-same max32 (a .offset) h)
+cut-slot operand (operand.Address a) h = ap (λ (n : ℕ). operand.Address (record { base = a .base; offset = n })) (cut-same maxOffset (a .offset) h)
 cut-slot names v h = refl
 
 over-stays : (ks : List Slot) (vs : Values ks) → overRow ks vs true ≡ true
@@ -216,6 +215,9 @@ verdict text = go (leb (length text) 4096) (wholeC text .next .ok) refl refl
 reason-got : (text : List ℕ) (w : Whole) (n : ℕ) → readOf text ≡ Got (w .statement) → reasonOf (readOf text) ≡ n → 0 ≡ n
 reason-got text w n h e = sym (ap reasonOf h) ∙ e
 
+pub got-same : (a b : Statement) → Got a ≡ Got b → a ≡ b
+got-same a b h = cc
+
 got-fits : (text : List ℕ) (w : Whole) → Verdict text → (readOf text ≡ Got (w .statement)) × (registersOf text ≡ w .registers) → Fits w text
 got-fits text w (fits v h) g =
     let k = fits-got v text h in
@@ -223,9 +225,6 @@ got-fits text w (fits v h) g =
     let q : v .registers ≡ w .registers = sym (k .1) ∙ g .1 in
     let e : v ≡ w = ap (λ (t : Statement). record { statement = t; registers = v .registers }) p ∙ ap (λ (r : List Name). record { statement = w .statement; registers = r }) q in
     rw e at h
-  where
-    got-same : (a b : Statement) → Got a ≡ Got b → a ≡ b
-    got-same a b h = cc
 got-fits text w (over v h) g = absurd (let z = reason-got text w 4 (g .0) (over-four v text h) in omega arith)
 got-fits text w (none h) g = absurd (let z = reason-got text w 3 (g .0) (none-three text h) in omega arith)
 

@@ -1,7 +1,6 @@
 -- The worked examples hold: antt computes each from the definitions; those with a typed statement by its canonical text, which reads
 -- back. Assumes nothing.
 use Prim.Native.Nat.{ℕ}
-use Prim.Native.String.{String}
 use mathlib.Core.Path.{_≡_, refl, subst}
 use mathlib.Core.List.{List, [], _∷_}
 use mathlib.Core.Bool.{true}
@@ -18,7 +17,7 @@ use Rattle.statement.specs.Reading.{inBracketsC, offsetC, insideC, addressC, op
 use Rattle.statement.specs.Canonical.{addressText, operandText, moreNamesText, namesText, moreRowText, rowText, textOf, rowGiven, given}
 use Rattle.grammar.specs.Claims.{Reads}
 use Rattle.grammar.proofs.Trip.{trip}
-use Rattle.grammar.specs.Examples.{Example, gives, reads, stops, over, writes, Holds, All, AllOf, tables, spaces, words, numbers, forms, typed, accesses, mmas, places, canonicals}
+use Rattle.grammar.specs.Examples.{Example, gives, reads, stops, over, writes, Holds, All, AllOf, tables, spacing, words, numbers, forms, typed, accesses, mmas, places, canonicals}
 
 -- a text that is the canonical text of a statement reads as it
 back : (text : List ℕ) (t : Statement) (regs : List Name) → given t regs ≡ true → textOf t regs ≡ text → Reads text t regs
@@ -48,37 +47,37 @@ all-hold [] h = tt
 all-hold (e ∷ l) h = (holds e (h .0), all-hold l (h .1))
 
 -- ---- the tables
-spaces-hold : All spaces
+texts-hold : AllOf (spacing ∷ words ∷ numbers ∷ forms ∷ places ∷ [])
 unfolding readOf registersOf wholeC answerOf operandsC rowC moreRowC nameC numberC inBracketsC offsetC insideC addressC operandC moreC namesC endC markC recognise opcodes word opcodeByte wordByte letter afterBlanks blank tokenOf tokenLen afterToken isName sigil packed isNumber valueOf hexMark zeroLed someDigits isDigit digitOf
-spaces-hold = (refl, (refl, (refl, (refl, (refl, (refl, (refl, (refl, (refl, tt)))))))))
+texts-hold = (
+  (refl, (refl, (refl, (refl, (refl, (refl, (refl, (refl, (refl, tt))))))))),
+  (
+    (refl, (refl, (refl, (refl, (refl, (refl, (refl, (refl, (refl, (refl, (refl, (refl, (refl, (refl, (refl, (refl, (refl, (refl, tt)))))))))))))))))),
+    (
+      (refl, (refl, (refl, (refl, (refl, (refl, (refl, (refl, (refl, (refl, (refl, (refl, (refl, (refl, (refl, (refl, (refl, (refl, (refl, tt))))))))))))))))))),
+      (
+        (refl, (refl, (refl, (refl, (refl, (refl, (refl, (refl, (refl, (refl, (refl, (refl, (refl, (refl, (refl, (refl, (refl, (refl, tt)))))))))))))))))),
+        (
+          (refl, (refl, (refl, (refl, (refl, (refl, (refl, (refl, (refl, (refl, (refl, (refl, (refl, tt))))))))))))),
+          tt,
+        ),
+      ),
+    ),
+  ),
+)
 
-words-hold : All words
-unfolding readOf registersOf wholeC answerOf operandsC rowC moreRowC nameC numberC inBracketsC offsetC insideC addressC operandC moreC namesC endC markC recognise opcodes word opcodeByte wordByte letter afterBlanks blank tokenOf tokenLen afterToken isName sigil packed isNumber valueOf hexMark zeroLed someDigits isDigit digitOf
-words-hold = (refl, (refl, (refl, (refl, (refl, (refl, (refl, (refl, (refl, (refl, (refl, (refl, (refl, (refl, (refl, (refl, (refl, (refl, tt))))))))))))))))))
-
-numbers-hold : All numbers
-unfolding readOf registersOf wholeC answerOf operandsC rowC moreRowC nameC numberC inBracketsC offsetC insideC addressC operandC moreC namesC endC markC recognise opcodes word opcodeByte wordByte letter afterBlanks blank tokenOf tokenLen afterToken isName sigil packed isNumber valueOf hexMark zeroLed someDigits isDigit digitOf
-numbers-hold = (refl, (refl, (refl, (refl, (refl, (refl, (refl, (refl, (refl, (refl, (refl, (refl, (refl, (refl, (refl, (refl, (refl, (refl, (refl, tt)))))))))))))))))))
-
-forms-hold : All forms
-unfolding readOf registersOf wholeC answerOf operandsC rowC moreRowC nameC numberC inBracketsC offsetC insideC addressC operandC moreC namesC endC markC recognise opcodes word opcodeByte wordByte letter afterBlanks blank tokenOf tokenLen afterToken isName sigil packed isNumber valueOf hexMark zeroLed someDigits isDigit digitOf
-forms-hold = (refl, (refl, (refl, (refl, (refl, (refl, (refl, (refl, (refl, (refl, (refl, (refl, (refl, (refl, (refl, (refl, (refl, (refl, tt))))))))))))))))))
-
-typed-hold : All typed
+statements-hold : AllOf (typed ∷ accesses ∷ mmas ∷ [])
 unfolding given rowGiven textOf rowText moreRowText namesText moreNamesText operandText addressText word nameGiven nameBytes strip lowBytes isName sigil letter wordByte packed decimal trimmed lowDigits
-typed-hold = all-hold typed ((refl, refl), ((refl, refl), ((refl, refl), ((refl, refl), ((refl, refl), ((refl, refl), ((refl, refl), ((refl, refl), ((refl, refl), ((refl, refl), tt))))))))))
-
-accesses-hold : All accesses
-unfolding given rowGiven textOf rowText moreRowText namesText moreNamesText operandText addressText word nameGiven nameBytes strip lowBytes isName sigil letter wordByte packed decimal trimmed lowDigits
-accesses-hold = all-hold accesses ((refl, refl), ((refl, refl), ((refl, refl), ((refl, refl), ((refl, refl), ((refl, refl), ((refl, refl), ((refl, refl), ((refl, refl), ((refl, refl), ((refl, refl), ((refl, refl), ((refl, refl), ((refl, refl), ((refl, refl), ((refl, refl), tt))))))))))))))))
-
-mmas-hold : All mmas
-unfolding given rowGiven textOf rowText moreRowText namesText moreNamesText operandText addressText word nameGiven nameBytes strip lowBytes isName sigil letter wordByte packed decimal trimmed lowDigits
-mmas-hold = all-hold mmas ((refl, refl), ((refl, refl), ((refl, refl), ((refl, refl), ((refl, refl), tt)))))
-
-places-hold : All places
-unfolding readOf registersOf wholeC answerOf operandsC rowC moreRowC nameC numberC inBracketsC offsetC insideC addressC operandC moreC namesC endC markC recognise opcodes word opcodeByte wordByte letter afterBlanks blank tokenOf tokenLen afterToken isName sigil packed isNumber valueOf hexMark zeroLed someDigits isDigit digitOf
-places-hold = (refl, (refl, (refl, (refl, (refl, (refl, (refl, (refl, (refl, (refl, (refl, (refl, (refl, tt)))))))))))))
+statements-hold = (
+  all-hold typed ((refl, refl), ((refl, refl), ((refl, refl), ((refl, refl), ((refl, refl), ((refl, refl), ((refl, refl), ((refl, refl), ((refl, refl), ((refl, refl), tt)))))))))),
+  (
+    all-hold accesses ((refl, refl), ((refl, refl), ((refl, refl), ((refl, refl), ((refl, refl), ((refl, refl), ((refl, refl), ((refl, refl), ((refl, refl), ((refl, refl), ((refl, refl), ((refl, refl), ((refl, refl), ((refl, refl), ((refl, refl), ((refl, refl), tt)))))))))))))))),
+    (
+      all-hold mmas ((refl, refl), ((refl, refl), ((refl, refl), ((refl, refl), ((refl, refl), tt))))),
+      tt,
+    ),
+  ),
+)
 
 canonicals-hold : All canonicals
 unfolding readOf registersOf wholeC answerOf operandsC rowC moreRowC nameC numberC inBracketsC offsetC insideC addressC operandC moreC namesC endC markC recognise opcodes word opcodeByte wordByte letter afterBlanks blank tokenOf tokenLen afterToken isName sigil packed isNumber valueOf hexMark zeroLed someDigits isDigit digitOf
@@ -86,4 +85,7 @@ unfolding readOf registersOf wholeC answerOf operandsC rowC moreRowC nameC numbe
 canonicals-hold = (refl, (refl, (refl, (refl, (refl, (refl, tt))))))
 
 pub examples : AllOf tables
-examples = (spaces-hold, (words-hold, (numbers-hold, (forms-hold, (typed-hold, (accesses-hold, (mmas-hold, (places-hold, (canonicals-hold, tt)))))))))
+examples =
+    let a = texts-hold in
+    let b = statements-hold in
+    (a .0, (a .1 .0, (a .1 .1 .0, (a .1 .1 .1 .0, (b .0, (b .1 .0, (b .1 .1 .0, (a .1 .1 .1 .1 .0, (canonicals-hold, tt)))))))))

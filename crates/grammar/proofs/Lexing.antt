@@ -1,17 +1,18 @@
 -- Marks, names and numbers are read exactly where a text spells them: past the spaces there is one token, and its bytes say what it is. Assumes nothing.
-use Prim.Native.Nat.{ℕ, zero, suc, _-_, _<_, _≤_}
+use Prim.Native.Nat.{ℕ, zero, suc, _≤_}
 use native.Mathlib.Omega.{arith}
 use mathlib.Core.Path.{_≡_, refl, sym, ap, _∙_}
 use mathlib.Core.List.{List, [], _∷_, _++_}
-use mathlib.Core.Bool.{Bool, true, false, _&&_, _||_, not, true≢false, or-true, cond}
+use mathlib.Core.Bool.{Bool, true, false, _&&_, _||_, not, cond}
 use lib.ListN.{length, take, drop, take-append-drop}
 use lib.Seq.{take-append-seam, drop-append-seam}
 use lib.Dec.{eqb, leb, ltb}
-use borrow.Author.Tests.{eq-eqb, le-leb, eqb-true, eqb-false, leb-true, ltb-true}
+use borrow.Author.Tests.{eq-eqb, eqb-true, eqb-false}
+use Rattle.tokens.specs.Text.{byte}
 use Rattle.tokens.specs.declared.Name.{Name}
 use Rattle.tokens.specs.Bytes.{between, letter, wordByte, blank, runLen, all, afterBlanks, tokenLen, tokenOf, afterToken}
 use Rattle.tokens.specs.Names.{sigil, isName, packed, noName}
-use Rattle.tokens.specs.Numbers.{digitOf, isDigit, hexMark, someDigits, zeroLed, isNumber, valueOf}
+use Rattle.tokens.specs.Numbers.{isDigit, hexMark, someDigits, zeroLed, isNumber, valueOf}
 use Rattle.tokens.specs.Cursors.{Rest, on, off, large, Took, markHere, markC, endC, nameHere, nameC, numberIs, numberHere, numberC}
 use Rattle.laws.proofs.BoolLaws.{never, and-split}
 use Rattle.tokens.proofs.Runs.{run-all, run-ends}
@@ -22,17 +23,21 @@ use Rattle.grammar.specs.Spells.{spaces, Mark, Word, NameText, NumberTex
 pub blanks-parts : (l : List ℕ) → l ≡ spaces (runLen blank l) ++ afterBlanks l
 unfolding afterBlanks blank
 blanks-parts [] = refl
-blanks-parts (x ∷ l) = go (eqb x 32) refl (blanks-parts l)
+blanks-parts (x ∷ l) = go (eqb x (byte " ")) refl (blanks-parts l)
   where
-    go : (b : Bool) → eqb x 32 ≡ b → l ≡ spaces (runLen blank l) ++ drop (runLen blank l) l
+    go : (b : Bool) → eqb x (byte " ") ≡ b → l ≡ spaces (runLen blank l) ++ drop (runLen blank l) l
         → x ∷ l ≡ spaces (cond b (suc (runLen blank l)) 0) ++ drop (cond b (suc (runLen blank l)) 0) (x ∷ l)
-    go true e i = rw (eqb-true x 32 e) (ap (λ (w : List ℕ). 32 ∷ w) i)
+    go true e i = rw (eqb-true x (byte " ") e) (ap (λ (w : List ℕ). byte " " ∷ w) i)
     go false e i = refl
 
-pub blanks-skip : (n x : ℕ) (r : List ℕ) → blank x ≡ false → afterBlanks (spaces n ++ (x ∷ r)) ≡ x ∷ r
+pub spaces-skip : (n : ℕ) (l : List ℕ) → afterBlanks (spaces n ++ l) ≡ afterBlanks l
 unfolding afterBlanks blank
-blanks-skip zero x r h = rw h
-blanks-skip (suc n) x r h = blanks-skip n x r h
+spaces-skip zero l = refl
+spaces-skip (suc n) l = spaces-skip n l
+
+pub blanks-skip : (n x : ℕ) (r : List ℕ) → blank x ≡ false → afterBlanks (spaces n ++ (x ∷ r)) ≡ x ∷ r
+unfolding afterBlanks
+blanks-skip n x r h = spaces-skip n (x ∷ r) ∙ rw h
 
 -- ---- marks
 mark-here : (m : ℕ) (r : Rest) (l : List ℕ) → markHere m r l .ok ≡ true → l ≡ m ∷ markHere m r l .rest
@@ -79,21 +84,21 @@ end-by true [] h = (refl, refl)
 end-by true (x ∷ l) h = absurd (let z : suc (length l) ≡ 0 = eqb-true (suc (length l)) 0 h in omega arith)
 end-by false l h = never h
 
-pub end-sound : (r : Rest) → endC r .ok ≡ true → (r .ok ≡ true) × Mark 59 (r .rest) []
+pub end-sound : (r : Rest) → endC r .ok ≡ true → (r .ok ≡ true) × Mark (byte ";") (r .rest) []
 unfolding endC
 end-sound r h =
-    let e = end-by (markC 59 r .ok) (markC 59 r .rest) h in
-    let m = mark-sound 59 r (e .0) in
+    let e = end-by (markC (byte ";") r .ok) (markC (byte ";") r .rest) h in
+    let m = mark-sound (byte ";") r (e .0) in
     (m .0, rw (e .1) at (m .1))
 
-pub end-complete : (l : List ℕ) (o : Bool) (f : List ℕ) → Mark 59 l [] → endC (at l o f) ≡ at [] o f
+pub end-complete : (l : List ℕ) (o : Bool) (f : List ℕ) → Mark (byte ";") l [] → endC (at l o f) ≡ at [] o f
 unfolding endC blank
-end-complete l o f k = rw (mark-complete 59 l [] o f refl k)
+end-complete l o f k = rw (mark-complete (byte ";") l [] o f refl k)
 
 -- ---- tokens
 -- a byte that a token of more than one byte may start with
 abbrev pub starts : ℕ → Bool
-starts x = wordByte x || eqb x 37
+starts x = wordByte x || eqb x (byte "%")
 
 -- a byte that starts one, then word bytes
 unfoldable pub whole : List ℕ → Bool
@@ -135,7 +140,7 @@ pub word-at : (w l r : List ℕ) → whole w ≡ true → Word w l r → afterBl
 unfolding blank wordByte letter whole
 word-at [] l r g k = never g
 word-at (x ∷ u) l r g k =
-    let d : blank x ≡ false = other x 32 (and-split (starts x) (all wordByte u) g .0) refl in
+    let d : blank x ≡ false = other x (byte " ") (and-split (starts x) (all wordByte u) g .0) refl in
     ap (λ (v : List ℕ). afterBlanks v) (k .parts) ∙ blanks-skip (k .blanks) x (u ++ r) d
 
 -- a token that is whole is a word of the text
@@ -159,7 +164,7 @@ word-sound l h =
 -- ---- a name's bytes, and a number's, are a whole token
 sigil-starts : (x : ℕ) → sigil x ≡ true → starts x ≡ true
 unfolding sigil wordByte
-sigil-starts x h = go (letter x || between 48 57 x) (eqb x 95) (eqb x 36) (eqb x 37) h
+sigil-starts x h = go (letter x || between (byte "0") (byte "9") x) (eqb x (byte "_")) (eqb x (byte "$")) (eqb x (byte "%")) h
   where
     go : (a b c d : Bool) → (b || c || d) ≡ true → (a || b || c || d) ≡ true
     go true b c d k = refl
@@ -199,9 +204,9 @@ unfolding hexMark someDigits whole
 hex-whole [] h k = never k
 hex-whole (x ∷ []) h k = never k
 hex-whole (x ∷ (y ∷ u)) h k =
-    let p = and-split (eqb x 48) (eqb y 120 || eqb y 88) h in
+    let p = and-split (eqb x (byte "0")) (eqb y (byte "x") || eqb y (byte "X")) h in
     let q = and-split (ltb 0 (length u)) (all (isDigit 16) u) k in
-    let z : wordByte x ≡ true = rw (eqb-true x 48 (p .0)) (figure-word 48 refl) in
+    let z : wordByte x ≡ true = rw (eqb-true x (byte "0") (p .0)) (figure-word (byte "0") refl) in
     rw (z, x-word y (p .1), digits-word 16 u (omega arith) (q .1))
 
 pub number-whole : (w : List ℕ) → isNumber w ≡ true → whole w ≡ true

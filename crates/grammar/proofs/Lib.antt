@@ -4,8 +4,11 @@ pub mod Rows
 pub mod Exact
 pub mod Back
 pub mod Trip
+pub mod Readers
 pub mod Stops
 pub mod Overs
+pub mod PlanTokens
 pub mod Places
+pub mod OnePlace
 pub mod Theorems
 pub mod Examples

@@ -3,6 +3,7 @@ use Prim.Native.Nat.{ℕ}
 use mathlib.Core.Path.{_≡_, refl}
 use mathlib.Core.List.{List, [], _∷_}
 use mathlib.Core.Bool.{Bool, true}
+use Rattle.tokens.specs.Text.{byte}
 use Rattle.tokens.specs.Bytes.{blank}
 use Rattle.tokens.specs.Cursors.{Rest, markC}
 use Rattle.statement.specs.Forms.{Slot, Values}
@@ -16,10 +17,10 @@ more-sound : (ks : List Slot) (r : Rest) → moreRowC ks r .next .ok ≡ true �
 unfolding moreRowC
 more-sound [] r h = let e = end-sound r h in (e .0, tt, e .1)
 more-sound (k ∷ ks) r h =
-    let a = markC 44 r in
+    let a = markC (byte ",") r in
     let i = more-sound ks (slotC k a .next) h in
     let p = slot-sound k a (i .0) in
-    let q = mark-sound 44 r (p .0) in
+    let q = mark-sound (byte ",") r (p .0) in
     (q .0, (p .1, i .1), (a .rest, slotC k a .next .rest, q .1, p .2, i .2))
 
 pub row-sound : (ks : List Slot) (r : Rest) → rowC ks r .next .ok ≡ true → (r .ok ≡ true) × (vs : Values ks) × RowText ks vs (r .rest)
@@ -47,7 +48,7 @@ more-complete [] vs l o f t = record { far = f; is = rw (end-complete l o f t) }
 more-complete (k ∷ ks) vs l o f t =
     let p = slot-complete k (vs .0) (t .0) (t .1) o f (t .3) in
     let i = more-complete ks (vs .1) (t .1) (overBy (sizedSlot k (vs .0)) o) (p .far) (t .4) in
-    record { far = i .far; is = rw (mark-complete 44 l (t .0) o f refl (t .2), p .is, i .is) }
+    record { far = i .far; is = rw (mark-complete (byte ",") l (t .0) o f refl (t .2), p .is, i .is) }
 
 pub row-complete : (ks : List Slot) (vs : Values ks) (l : List ℕ) (o : Bool) (f : List ℕ) → RowText ks vs l → Reads (rowC ks (at l o f)) (cutRow ks vs) [] (overRow ks vs o)
 unfolding rowC
@@ -65,7 +66,7 @@ more-one : (ks : List Slot) (vs us : Values ks) (l : List ℕ) → MoreRow ks vs
 unfolding blank
 more-one [] vs us l a b = refl
 more-one (k ∷ ks) vs us l a b =
-    let p = mark-one 44 l (a .0) (b .0) refl (a .2) (b .2) in
+    let p = mark-one (byte ",") l (a .0) (b .0) refl (a .2) (b .2) in
     let q = slot-one k (vs .0) (us .0) (a .0) (a .1) (b .1) (a .3) (rw p (b .3)) in
     pair-by k ks vs us (q .0) (more-one ks (vs .1) (us .1) (a .1) (a .4) (rw (q .1) (b .4)))
 

@@ -5,16 +5,18 @@ use native.Mathlib.Omega.{arith}
 use mathlib.Core.Path.{_≡_, refl, sym, ap, _∙_}
 use mathlib.Core.List.{List, [], _∷_, _++_, append-assoc}
 use mathlib.Core.Bool.{Bool, true, false, cond}
-use lib.ListN.{length, getD, take, drop, take-append-drop}
+use lib.ListN.{length, getD, take, drop}
 use lib.Seq.{take-at, drop-at, length-take-le, getD-drop}
 use lib.Dec.{eqb}
 use borrow.Author.Tests.{ne-eqb, eqb-true}
+use Rattle.tokens.specs.Text.{byte}
 use Rattle.tokens.specs.Bytes.{letter, wordByte, blank, runLen, afterBlanks, tokenLen, tokenOf, afterToken}
 use Rattle.grammar.specs.Claims.{After, here, past}
 use Rattle.laws.proofs.BoolLaws.{never, cond-same}
 use Rattle.tokens.proofs.Runs.{run-le, run-all, all-run, run-next}
 use Rattle.tokens.proofs.Lengths.{token-le}
-use Rattle.grammar.proofs.Lexing.{starts, token-parts}
+use Rattle.grammar.specs.Spells.{spaces}
+use Rattle.grammar.proofs.Lexing.{blanks-parts, spaces-skip, starts, token-parts}
 
 -- ---- rows
 -- where reading stands: what is left, and whether all before it did fit
@@ -60,22 +62,8 @@ pub run-stops : (f : ℕ → Bool) (z : List ℕ) → f 0 ≡ false → f (getD 
 run-stops f z h = rw (getD-drop (runLen f z) z 0 0, add-zero (runLen f z)) (run-next f h z)
 
 -- ---- blanks
-blanks : List ℕ → List ℕ
-blanks l = take (runLen blank l) l
-
-blanks-skip : (l x : List ℕ) → afterBlanks (blanks l ++ x) ≡ afterBlanks x
-unfolding afterBlanks blanks
-blanks-skip [] x = refl
-blanks-skip (c ∷ l) x = go (blank c) refl (blanks-skip l x)
-  where
-    go : (b : Bool) → blank c ≡ b → drop (runLen blank (take (runLen blank l) l ++ x)) (take (runLen blank l) l ++ x) ≡ drop (runLen blank x) x
-        → drop (runLen blank (take (cond b (suc (runLen blank l)) 0) (c ∷ l) ++ x)) (take (cond b (suc (runLen blank l)) 0) (c ∷ l) ++ x) ≡ drop (runLen blank x) x
-    go true e i = rw e i
-    go false e i = refl
-
-blanks-split : (l : List ℕ) → l ≡ blanks l ++ afterBlanks l
-unfolding afterBlanks blanks
-blanks-split l = sym (take-append-drop (runLen blank l) l)
+abbrev blanks : List ℕ → List ℕ
+blanks l = spaces (runLen blank l)
 
 blanks-end : (l : List ℕ) → blank (getD (afterBlanks l) 0 0) ≡ false
 unfolding afterBlanks blank
@@ -132,7 +120,7 @@ module _ (b y : List ℕ) (n : 0 < length b) (h : Seam b y) where
 -- ---- what is left after some tokens
 blank-past : (x : ℕ) (s : List ℕ) → blank x ≡ true → afterToken (x ∷ s) ≡ s
 unfolding blank afterToken tokenLen wordByte letter
-blank-past x s e = rw (eqb-true x 32 e)
+blank-past x s e = rw (eqb-true x (byte " ") e)
 
 after-blanks : (s l : List ℕ) → After (afterBlanks s) l → After s l
 unfolding afterBlanks
@@ -157,7 +145,7 @@ head-stays (x ∷ b) y n = refl
 -- a space and a byte for each token, the shorter way at each branch
 abbrev pub easy : Row → List ℕ
 easy end = []
-easy (one f g) = 32 ∷ f .wit ∷ easy g
+easy (one f g) = byte " " ∷ f .wit ∷ easy g
 easy (branch f g h) = easy h
 
 abbrev pub Open : Row → Type 0
@@ -173,7 +161,7 @@ Good (branch f g h) = Open h × (f .test (tokenOf (afterBlanks (easy h))) ≡ fa
 
 -- nothing, or a space first
 abbrev pub Light : List ℕ → Type 0
-Light y = (f : ℕ → Bool) → f 32 ≡ false → f 0 ≡ false → f (getD y 0 0) ≡ false
+Light y = (f : ℕ → Bool) → f (byte " ") ≡ false → f 0 ≡ false → f (getD y 0 0) ≡ false
 
 light-word : (y : List ℕ) → Light y → wordByte (getD y 0 0) ≡ false
 unfolding wordByte letter
@@ -184,10 +172,10 @@ easy-light end f a b = b
 easy-light (one f g) k a b = a
 easy-light (branch f g h) k a b = easy-light h k a b
 
-abbrev Past : Kind → Row → Row → Type 0
+abbrev pub Past : Kind → Row → Row → Type 0
 Past f g r = (x : List ℕ) → f .test (tokenOf (afterBlanks x)) ≡ true → reads r x ≡ reads g (afterToken (afterBlanks x))
 
-one-yes : (f : Kind) (g : Row) → Past f g (one f g)
+pub one-yes : (f : Kind) (g : Row) → Past f g (one f g)
 unfolding reads
 one-yes f g x e = rw e
 
@@ -195,11 +183,11 @@ one-no : (f : Kind) (g : Row) (x : List ℕ) → f .test (tokenOf (afterBlanks x
 unfolding reads
 one-no f g x e = rw e
 
-branch-yes : (f : Kind) (g h : Row) → Past f g (branch f g h)
+pub branch-yes : (f : Kind) (g h : Row) → Past f g (branch f g h)
 unfolding reads
 branch-yes f g h x e = rw e
 
-branch-no : (f : Kind) (g h : Row) (x : List ℕ) → f .test (tokenOf (afterBlanks x)) ≡ false → reads (branch f g h) x ≡ reads h x
+pub branch-no : (f : Kind) (g h : Row) (x : List ℕ) → f .test (tokenOf (afterBlanks x)) ≡ false → reads (branch f g h) x ≡ reads h x
 unfolding reads
 branch-no f g h x e = rw e
 
@@ -213,7 +201,7 @@ easy-first : (f : Kind) (g : Row) → tokenLen (f .wit ∷ easy g) ≡ 1
 unfolding tokenLen
 easy-first f g = rw (head-none wordByte (easy g) (light-word (easy g) (easy-light g)), cond-same)
 
-easy-blank : (f : Kind) (y : List ℕ) → afterBlanks (32 ∷ f .wit ∷ y) ≡ f .wit ∷ y
+easy-blank : (f : Kind) (y : List ℕ) → afterBlanks (byte " " ∷ f .wit ∷ y) ≡ f .wit ∷ y
 unfolding afterBlanks blank
 easy-blank f y = rw (f .dark)
 
@@ -224,7 +212,7 @@ easy-goes end k = end-good
     end-good = unfold reads in refl
 easy-goes (one f g) k = one-good (easy-goes g k)
   where
-    one-good : reads g (easy g) .ok ≡ true → reads (one f g) (32 ∷ f .wit ∷ easy g) .ok ≡ true
+    one-good : reads g (easy g) .ok ≡ true → reads (one f g) (byte " " ∷ f .wit ∷ easy g) .ok ≡ true
     one-good i = unfold reads tokenOf afterToken in (rw (easy-blank f (easy g), easy-first f g, f .fits) i)
 easy-goes (branch f g h) k = ap okOf (branch-no f g h (easy h) (k .1)) ∙ easy-goes h (k .3)
 
@@ -271,7 +259,7 @@ end-stops (x ∷ s) l h =
 stays : (s y : List ℕ) → 0 < length (afterBlanks s) → afterBlanks (blanks s ++ (tokenOf (afterBlanks s) ++ y)) ≡ tokenOf (afterBlanks s) ++ y
 stays s y n =
     let b = afterBlanks s in
-    blanks-skip s (tokenOf b ++ y) ∙ dark-stays (tokenOf b ++ y) (rw (head-stays b y n) (blanks-end s))
+    spaces-skip (runLen blank s) (tokenOf b ++ y) ∙ dark-stays (tokenOf b ++ y) (rw (head-stays b y n) (blanks-end s))
 
 one-skip : (f : Kind) (g : Row) (x y : List ℕ) → afterBlanks x ≡ afterBlanks y → reads (one f g) x ≡ reads (one f g) y
 unfolding reads
@@ -284,14 +272,14 @@ here-stops f g s l k e h =
     λ t i.
     let j : tokenOf t ≡ tokenOf (afterBlanks s) = i ∙ ap (λ (w : List ℕ). tokenOf w) (sym q) in
     let d : afterBlanks t ≡ t = dark-stays t (rw (same-head t (afterBlanks s) j) (blanks-end s)) in
-    ap (λ (w : List ℕ). tokenOf w) (blanks-skip s t ∙ d) ∙ j in
+    ap (λ (w : List ℕ). tokenOf w) (spaces-skip (runLen blank s) t ∙ d) ∙ j in
     let x = easy (one f g) in
-    let skip : afterBlanks (blanks s ++ x) ≡ afterBlanks x = blanks-skip s x in
+    let skip : afterBlanks (blanks s ++ x) ≡ afterBlanks x = spaces-skip (runLen blank s) x in
     let arrived : After (afterBlanks s) l = rw q here in
     record {
       reached = after-blanks s l arrived;
       before = blanks s;
-      parts = rw (← q) (blanks-split s);
+      parts = rw (← q) (blanks-parts s);
       more = x;
       light = easy-light (one f g);
       goes = ap okOf (one-skip f g (blanks s ++ x) x skip) ∙ easy-goes (one f g) k;
@@ -315,7 +303,7 @@ past-stops f g r law s l e i =
     record {
       reached = after-blanks s l (past (i .reached));
       before = blanks s ++ (tokenOf b ++ i .before);
-      parts = rw (join l, ← i .parts, ← token-parts b) (blanks-split s);
+      parts = rw (join l, ← i .parts, ← token-parts b) (blanks-parts s);
       more = i .more;
       light = i .light;
       goes = rw (join (i .more)) (ap okOf (step (i .before ++ i .more) seam-more) ∙ i .goes);

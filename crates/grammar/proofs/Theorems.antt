@@ -18,7 +18,8 @@ use Rattle.grammar.specs.Claims.{Theorems}
 use Rattle.grammar.proofs.Back.{name-back}
 use Rattle.grammar.proofs.Exact.{exact}
 use Rattle.grammar.proofs.Trip.{trip, writable, canonical}
-use Rattle.grammar.proofs.Places.{places, overs, ones}
+use Rattle.grammar.proofs.Places.{places, overs}
+use Rattle.grammar.proofs.OnePlace.{ones}
 
 names : (v w : List ℕ) → isName v ≡ true → isName w ≡ true → packed v ≡ packed w → v ≡ w
 names v w p q e = sym (name-back v p) ∙ ap nameBytes e ∙ name-back w q

@@ -6,7 +6,8 @@ use mathlib.Core.List.{List, [], _∷_, _++_, append-assoc}
 use mathlib.Core.Bool.{Bool, true, false, _&&_, not, cond}
 use lib.ListN.{length}
 use lib.Dec.{ltb, leb, eqb}
-use borrow.Author.Tests.{eq-eqb, eqb-true, leb-true, le-leb, lt-ltb, not-false}
+use borrow.Author.Tests.{eq-eqb, eqb-true, leb-true, le-leb, lt-ltb, not-false, ltb-true}
+use Rattle.tokens.specs.Text.{byte}
 use Rattle.tokens.specs.declared.Name.{Name}
 use Rattle.tokens.specs.Bytes.{letter, wordByte, opcodeByte, runLen}
 use Rattle.tokens.specs.Names.{isName, packed, nameBytes, sameName, nameGiven}
@@ -22,7 +23,7 @@ use Rattle.statement.specs.declared.Statement.the-variants as s
 use Rattle.statement.specs.declared.Opcode.{Opcode}
 use Rattle.statement.specs.declared.Opcode.the-variants.{Mov32, Mov64, Alloc, Dealloc, Relinquish, Load, Store, WaitLoad, WaitStore, FenceBefore, FenceAfter, Multiply, Exit}
 use Rattle.statement.specs.declared.Reading.the-variants.{Got}
-use Rattle.statement.specs.Forms.{Slot, name, number, inBrackets, address, operand, names, Value, Values, max32, row, Whole, plain, make}
+use Rattle.statement.specs.Forms.{Slot, name, number, inBrackets, address, operand, names, Value, Values, maxOffset, row, Whole, plain, make}
 use Rattle.statement.specs.Reading.{readOf, registersOf}
 use Rattle.grammar.specs.Spells.{spaces, Mark, NameText, NumberText, BracketText, OffsetText, bare, plus, AddressText, OperandText, byName, byAddress, MoreNames, closes, comma, NamesText, opens, SlotText, MoreRow, RowText, Spells, sizedOperand, sizedSlot, sized}
 use Rattle.statement.specs.Canonical.{sparse, opcodeOf, mmaValues, valuesOf, offsetText, addressText, operandText, moreNamesText, namesText, slotText, moreRowText, rowText, textOf, allNames, addressGiven, operandGiven, slotGiven, rowGiven, countOf, given}
@@ -30,22 +31,27 @@ use Rattle.grammar.specs.Claims.{Reads, Trip, Writable, Canonical}
 use Rattle.tokens.proofs.Names.{same-true}
 use Rattle.laws.proofs.BoolLaws.{and-split, never}
 use Rattle.grammar.proofs.Rows.{overRow}
-use Rattle.grammar.proofs.Exact.{over-none, over-sized, exact}
+use Rattle.grammar.proofs.Exact.{got-same, over-none, over-sized, exact}
 use Rattle.grammar.proofs.Back.{packed-given, decimal-number, decimal-value}
-use Rattle.statement.proofs.Bound.{text-short}
+use Rattle.statement.specs.Opcodes.{opcodes}
+use Rattle.statement.proofs.Every.{every}
+use Rattle.statement.proofs.Bound.{names-few, text-short}
 
 -- ---- limits of numbers that a decimal of 20 digits can write
-abbrev Small : Slot → Type 0
-Small name = Unit {0}
-Small (number limit) = limit < 10 ^ 20
-Small inBrackets = Unit {0}
-Small address = Unit {0}
-Small operand = Unit {0}
-Small names = Unit {0}
+abbrev small : Slot → Bool
+small name = true
+small (number limit) = ltb limit (10 ^ 20)
+small inBrackets = true
+small address = true
+small operand = true
+small names = true
 
-abbrev SmallRow : List Slot → Type 0
-SmallRow [] = Unit {0}
-SmallRow (k ∷ ks) = Small k × SmallRow ks
+abbrev smallRow : List Slot → Bool
+smallRow [] = true
+smallRow (k ∷ ks) = small k && smallRow ks
+
+row-small : (o : Opcode) → smallRow (row o) ≡ true
+row-small = every (λ o. smallRow (row o)) (λ o. true) (unfold opcodes in refl)
 
 -- ---- canonical texts of operands spell them, after n spaces and before what ends a word
 name-spelled : (n : ℕ) (v : Name) (r : List ℕ) → nameGiven v ≡ true → runLen wordByte r ≡ 0 → NameText v (spaces n ++ (nameBytes v ++ r)) r
@@ -60,46 +66,46 @@ number-spelled n v r h e = record { bytes = decimal v; spelled = record { blanks
 mark-spelled : (n m : ℕ) (r : List ℕ) → Mark m (spaces n ++ (m ∷ r)) r
 mark-spelled n m r = record { blanks = n; parts = refl }
 
-bracket-spelled : (n : ℕ) (v : Name) (r : List ℕ) → nameGiven v ≡ true → BracketText v (spaces n ++ (91 ∷ ((nameBytes v ++ 93 ∷ []) ++ r))) r
+bracket-spelled : (n : ℕ) (v : Name) (r : List ℕ) → nameGiven v ≡ true → BracketText v (spaces n ++ (byte "[" ∷ ((nameBytes v ++ byte "]" ∷ []) ++ r))) r
 unfolding wordByte letter
 bracket-spelled n v r h =
     record {
-      l₁ = (nameBytes v ++ 93 ∷ []) ++ r;
-      l₂ = 93 ∷ r;
-      opens = mark-spelled n 91 ((nameBytes v ++ 93 ∷ []) ++ r);
-      inner = rw append-assoc (name-spelled 0 v (93 ∷ r) h refl);
-      closes = mark-spelled 0 93 r;
+      l₁ = (nameBytes v ++ byte "]" ∷ []) ++ r;
+      l₂ = byte "]" ∷ r;
+      opens = mark-spelled n (byte "[") ((nameBytes v ++ byte "]" ∷ []) ++ r);
+      inner = rw append-assoc (name-spelled 0 v (byte "]" ∷ r) h refl);
+      closes = mark-spelled 0 (byte "]") r;
     }
 
-offset-spelled : (v : ℕ) (r : List ℕ) → v ≤ max32 → OffsetText v (offsetText v ++ (93 ∷ r)) (93 ∷ r)
+offset-spelled : (v : ℕ) (r : List ℕ) → v ≤ maxOffset → OffsetText v (offsetText v ++ (byte "]" ∷ r)) (byte "]" ∷ r)
 unfolding wordByte letter
 offset-spelled v r h = go (eqb v 0) refl
   where
-    go : (b : Bool) → eqb v 0 ≡ b → OffsetText v (cond b [] (43 ∷ decimal v) ++ (93 ∷ r)) (93 ∷ r)
+    go : (b : Bool) → eqb v 0 ≡ b → OffsetText v (cond b [] (byte "+" ∷ decimal v) ++ (byte "]" ∷ r)) (byte "]" ∷ r)
     go true e = rw (eqb-true v 0 e) bare
-    go false e = plus (mark-spelled 0 43 (decimal v ++ (93 ∷ r))) (number-spelled 0 v (93 ∷ r) (omega arith) refl)
+    go false e = plus (mark-spelled 0 (byte "+") (decimal v ++ (byte "]" ∷ r))) (number-spelled 0 v (byte "]" ∷ r) (omega arith) refl)
 
-offset-ends : (v : ℕ) (r : List ℕ) → runLen wordByte (offsetText v ++ (93 ∷ r)) ≡ 0
+offset-ends : (v : ℕ) (r : List ℕ) → runLen wordByte (offsetText v ++ (byte "]" ∷ r)) ≡ 0
 unfolding wordByte letter
 offset-ends v r = go (eqb v 0)
   where
-    go : (b : Bool) → runLen wordByte (cond b [] (43 ∷ decimal v) ++ (93 ∷ r)) ≡ 0
+    go : (b : Bool) → runLen wordByte (cond b [] (byte "+" ∷ decimal v) ++ (byte "]" ∷ r)) ≡ 0
     go true = refl
     go false = refl
 
 address-spelled : (n : ℕ) (v : Address) (r : List ℕ) → addressGiven v ≡ true → AddressText v (spaces n ++ (addressText v ++ r)) r
 unfolding addressText
 address-spelled n v r h =
-    let p = and-split (nameGiven (v .base)) (leb (v .offset) max32) h in
-    let rest : List ℕ = (nameBytes (v .base) ++ (offsetText (v .offset) ++ 93 ∷ [])) ++ r in
+    let p = and-split (nameGiven (v .base)) (leb (v .offset) maxOffset) h in
+    let rest : List ℕ = (nameBytes (v .base) ++ (offsetText (v .offset) ++ byte "]" ∷ [])) ++ r in
     record {
       l₁ = rest;
-      l₂ = offsetText (v .offset) ++ (93 ∷ r);
-      l₃ = 93 ∷ r;
-      opens = mark-spelled n 91 rest;
-      base = simp append-assoc (name-spelled 0 (v .base) (offsetText (v .offset) ++ (93 ∷ r)) (p .0) (offset-ends (v .offset) r));
-      offset = offset-spelled (v .offset) r (leb-true (v .offset) max32 (p .1));
-      closes = mark-spelled 0 93 r;
+      l₂ = offsetText (v .offset) ++ (byte "]" ∷ r);
+      l₃ = byte "]" ∷ r;
+      opens = mark-spelled n (byte "[") rest;
+      base = simp append-assoc (name-spelled 0 (v .base) (offsetText (v .offset) ++ (byte "]" ∷ r)) (p .0) (offset-ends (v .offset) r));
+      offset = offset-spelled (v .offset) r (leb-true (v .offset) maxOffset (p .1));
+      closes = mark-spelled 0 (byte "]") r;
     }
 
 operand-spelled : (n : ℕ) (v : Operand) (r : List ℕ) → operandGiven v ≡ true → runLen wordByte r ≡ 0 → OperandText v (spaces n ++ (operandText v ++ r)) r
@@ -114,11 +120,11 @@ more-ends (n ∷ ns) r = refl
 
 more-spelled : (ns : List Name) (r : List ℕ) → allNames ns ≡ true → MoreNames ns (moreNamesText ns ++ r) r
 unfolding moreNamesText
-more-spelled [] r h = closes (mark-spelled 0 125 r)
+more-spelled [] r h = closes (mark-spelled 0 (byte "}") r)
 more-spelled (n ∷ ns) r h =
     let p = and-split (nameGiven n) (allNames ns) h in
-    let t : NameText n (32 ∷ ((nameBytes n ++ moreNamesText ns) ++ r)) (moreNamesText ns ++ r) = rw append-assoc (name-spelled 1 n (moreNamesText ns ++ r) (p .0) (more-ends ns r)) in
-    comma (mark-spelled 0 44 (32 ∷ ((nameBytes n ++ moreNamesText ns) ++ r))) t (more-spelled ns r (p .1))
+    let t : NameText n (byte " " ∷ ((nameBytes n ++ moreNamesText ns) ++ r)) (moreNamesText ns ++ r) = rw append-assoc (name-spelled 1 n (moreNamesText ns ++ r) (p .0) (more-ends ns r)) in
+    comma (mark-spelled 0 (byte ",") (byte " " ∷ ((nameBytes n ++ moreNamesText ns) ++ r))) t (more-spelled ns r (p .1))
 
 names-spelled : (n : ℕ) (v : List Name) (r : List ℕ) → slotGiven names v ≡ true → NamesText v (spaces n ++ (namesText v ++ r)) r
 unfolding namesText
@@ -126,14 +132,13 @@ names-spelled n [] r h = never h
 names-spelled n (v ∷ ns) r h =
     let p = and-split (ltb 0 (suc (length ns)) && leb (suc (length ns)) 128) (nameGiven v && allNames ns) h in
     let q = and-split (nameGiven v) (allNames ns) (p .1) in
-    let k = leb-true (suc (length ns)) 128 (and-split (ltb 0 (suc (length ns))) (leb (suc (length ns)) 128) (p .0) .1) in
     let t : NameText v ((nameBytes v ++ moreNamesText ns) ++ r) (moreNamesText ns ++ r) = rw append-assoc (name-spelled 0 v (moreNamesText ns ++ r) (q .0) (more-ends ns r)) in
-    let few : length ns ≤ 127 = omega arith in
-    opens few (mark-spelled n 123 ((nameBytes v ++ moreNamesText ns) ++ r)) t (more-spelled ns r (q .1))
+    let few : length ns ≤ 127 = omega (arith, names-few (v ∷ ns) h) in
+    opens few (mark-spelled n (byte "{") ((nameBytes v ++ moreNamesText ns) ++ r)) t (more-spelled ns r (q .1))
 
-slot-spelled : (k : Slot) (n : ℕ) (v : Value k) (r : List ℕ) → Small k → slotGiven k v ≡ true → runLen wordByte r ≡ 0 → SlotText k v (spaces n ++ (slotText k v ++ r)) r
+slot-spelled : (k : Slot) (n : ℕ) (v : Value k) (r : List ℕ) → small k ≡ true → slotGiven k v ≡ true → runLen wordByte r ≡ 0 → SlotText k v (spaces n ++ (slotText k v ++ r)) r
 slot-spelled name n v r b h e = name-spelled n v r h e
-slot-spelled (number limit) n v r b h e = let z = leb-true v limit h in number-spelled n v r (omega arith) e
+slot-spelled (number limit) n v r b h e = number-spelled n v r (omega (arith, leb-true v limit h, ltb-true limit (10 ^ 20) b)) e
 slot-spelled inBrackets n v r b h e = bracket-spelled n v r h
 slot-spelled address n v r b h e = address-spelled n v r h
 slot-spelled operand n v r b h e = operand-spelled n v r h e
@@ -145,42 +150,28 @@ unfolding moreRowText wordByte letter
 row-ends [] vs = refl
 row-ends (k ∷ ks) vs = refl
 
-more-row-spelled : (ks : List Slot) (vs : Values ks) → SmallRow ks → rowGiven ks vs ≡ true → MoreRow ks vs (moreRowText ks vs)
+more-row-spelled : (ks : List Slot) (vs : Values ks) → smallRow ks ≡ true → rowGiven ks vs ≡ true → MoreRow ks vs (moreRowText ks vs)
 unfolding moreRowText rowGiven
-more-row-spelled [] vs b h = mark-spelled 0 59 []
+more-row-spelled [] vs b h = mark-spelled 0 (byte ";") []
 more-row-spelled (k ∷ ks) vs b h =
     let p = and-split (slotGiven k (vs .0)) (rowGiven ks (vs .1)) h in
+    let q = and-split (small k) (smallRow ks) b in
     let rest : List ℕ = moreRowText ks (vs .1) in
-    (32 ∷ (slotText k (vs .0) ++ rest), rest, mark-spelled 0 44 (32 ∷ (slotText k (vs .0) ++ rest)), slot-spelled k 1 (vs .0) rest (b .0) (p .0) (row-ends ks (vs .1)), more-row-spelled ks (vs .1) (b .1) (p .1))
+    (byte " " ∷ (slotText k (vs .0) ++ rest), rest, mark-spelled 0 (byte ",") (byte " " ∷ (slotText k (vs .0) ++ rest)), slot-spelled k 1 (vs .0) rest (q .0) (p .0) (row-ends ks (vs .1)), more-row-spelled ks (vs .1) (q .1) (p .1))
 
-row-spelled : (ks : List Slot) (vs : Values ks) → SmallRow ks → rowGiven ks vs ≡ true → RowText ks vs (rowText ks vs)
+row-spelled : (ks : List Slot) (vs : Values ks) → smallRow ks ≡ true → rowGiven ks vs ≡ true → RowText ks vs (rowText ks vs)
 unfolding rowText rowGiven
-row-spelled [] vs b h = mark-spelled 0 59 []
+row-spelled [] vs b h = mark-spelled 0 (byte ";") []
 row-spelled (k ∷ ks) vs b h =
     let p = and-split (slotGiven k (vs .0)) (rowGiven ks (vs .1)) h in
+    let q = and-split (small k) (smallRow ks) b in
     let rest : List ℕ = moreRowText ks (vs .1) in
-    (rest, slot-spelled k 1 (vs .0) rest (b .0) (p .0) (row-ends ks (vs .1)), more-row-spelled ks (vs .1) (b .1) (p .1))
+    (rest, slot-spelled k 1 (vs .0) rest (q .0) (p .0) (row-ends ks (vs .1)), more-row-spelled ks (vs .1) (q .1) (p .1))
 
 opcode-ends : (ks : List Slot) (vs : Values ks) → runLen opcodeByte (rowText ks vs) ≡ 0
 unfolding rowText opcodeByte letter
 opcode-ends [] vs = refl
 opcode-ends (k ∷ ks) vs = refl
-
-row-small : (o : Opcode) → SmallRow (row o)
-row-small Mov32 = (tt, (omega arith, tt))
-row-small Mov64 = (tt, (omega arith, tt))
-row-small (Alloc shared) = (tt, (omega arith, tt))
-row-small Dealloc = (tt, (omega arith, tt))
-row-small Relinquish = tt
-row-small (Load shape num) = (tt, (tt, tt))
-row-small (Store shape num) = (tt, (tt, tt))
-row-small WaitLoad = tt
-row-small WaitStore = tt
-row-small FenceBefore = tt
-row-small FenceAfter = tt
-row-small (Multiply ws false kind) = (tt, (tt, (tt, (tt, (tt, tt)))))
-row-small (Multiply ws true kind) = (tt, (tt, (tt, (tt, (tt, (tt, tt))))))
-row-small Exit = tt
 
 -- ---- a statement's opcode and operands make it again
 no-names : (t : Statement) (regs : List Name) → eqb 0 (length regs) ≡ true → plain t ≡ record { statement = t; registers = regs }
@@ -224,7 +215,7 @@ text-spells t regs h =
 name-given : (v : Name) (l r : List ℕ) → NameText v l r → nameGiven v ≡ true
 name-given v l r t = rw (← t .value) (packed-given (t .bytes) (t .good))
 
-address-given : (v : Address) (l r : List ℕ) → AddressText v l r → leb (v .offset) max32 ≡ true → addressGiven v ≡ true
+address-given : (v : Address) (l r : List ℕ) → AddressText v l r → leb (v .offset) maxOffset ≡ true → addressGiven v ≡ true
 address-given v l r t h = rw (name-given (v .base) (t .l₁) (t .l₂) (t .base), h)
 
 operand-given : (v : Operand) (l r : List ℕ) → OperandText v l r → sizedOperand v ≡ true → operandGiven v ≡ true
@@ -291,9 +282,9 @@ slot-fits : (k : Slot) (v : Value k) → slotGiven k v ≡ true → sizedSlot k 
 slot-fits name v h = refl
 slot-fits (number limit) v h = h
 slot-fits inBrackets v h = refl
-slot-fits address v h = and-split (nameGiven (v .base)) (leb (v .offset) max32) h .1
+slot-fits address v h = and-split (nameGiven (v .base)) (leb (v .offset) maxOffset) h .1
 slot-fits operand (operand.Descriptor n) h = refl
-slot-fits operand (operand.Address a) h = and-split (nameGiven (a .base)) (leb (a .offset) max32) h .1
+slot-fits operand (operand.Address a) h = and-split (nameGiven (a .base)) (leb (a .offset) maxOffset) h .1
 slot-fits names v h = refl
 
 row-fits : (ks : List Slot) (vs : Values ks) → rowGiven ks vs ≡ true → overRow ks vs false ≡ false
@@ -317,9 +308,6 @@ text-back t regs h =
 -- one text reads as one statement, with one list of registers
 reads-one : (text : List ℕ) (t u : Statement) (regs rest : List Name) → Reads text t regs → Reads text u rest → (u ≡ t) × (rest ≡ regs)
 reads-one text t u regs rest a b = (got-same u t (sym (b .0) ∙ a .0), sym (b .1) ∙ a .1)
-  where
-    got-same : (x y : Statement) → Got x ≡ Got y → x ≡ y
-    got-same x y h = cc
 
 pub trip : (t : Statement) (regs : List Name) → given t regs ≡ true → Trip t regs
 trip t regs h =

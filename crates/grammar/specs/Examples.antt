@@ -57,8 +57,8 @@ All [] = Unit {0}
 All (e ∷ l) = Holds e × All l
 
 -- Spaces may stand between tokens, and need not.
-abbrev pub spaces : List Example
-spaces =
+abbrev pub spacing : List Example
+spacing =
     gives "exit;" 0 ∷
     gives "exit     ;" 0 ∷
     gives "mov.b32%x,1;" 0 ∷
@@ -140,13 +140,14 @@ forms =
     gives "@p exit;" 3 ∷
     []
 
--- Each form, with its typed statement.
+-- a name, and an address
 abbrev pub named : String → Name
 named text = packed (bytes text)
 
-abbrev pub past : String → ℕ → Address
-past text offset = record { base = named text; offset = offset }
+abbrev pub offsetBy : String → ℕ → Address
+offsetBy text offset = record { base = named text; offset = offset }
 
+-- Each form, with its typed statement.
 abbrev pub typed : List Example
 typed =
     reads "mov.b32 x, 7;" (Mov32 (named "x") 7) [] ∷
@@ -163,10 +164,10 @@ typed =
 
 -- Each SHAPE and each NUM, of ld and st. The registers stand in the order of the text.
 abbrev pub loads : Shape → Num → Statement
-loads shape num = Load (record { shape = shape; num = num; registers = 2; address = past "t" 3 })
+loads shape num = Load (record { shape = shape; num = num; registers = 2; address = offsetBy "t" 3 })
 
 abbrev pub stores : Shape → Num → Statement
-stores shape num = Store (record { shape = shape; num = num; registers = 2; address = past "t" 3 })
+stores shape num = Store (record { shape = shape; num = num; registers = 2; address = offsetBy "t" 3 })
 
 abbrev pub both : List Name
 both = named "r0" ∷ named "r1" ∷ []
@@ -193,15 +194,15 @@ accesses =
 
 -- Each kind of mma, with .ws and .sp or not, a descriptor or an address.
 abbrev pub multiplies : Bool → Kind → Operand → Metadata → Statement
-multiplies ws kind a metadata = Multiply (record { ws = ws; kind = kind; d = past "d" 1; a = a; b = named "b"; metadata = metadata; idesc = named "i"; predicate = named "p" })
+multiplies ws kind a metadata = Multiply (record { ws = ws; kind = kind; d = offsetBy "d" 1; a = a; b = named "b"; metadata = metadata; idesc = named "i"; predicate = named "p" })
 
 abbrev pub mmas : List Example
 mmas =
     reads "tcgen05.mma.cta_group::1.kind::f16 [d+1], a, b, i, p;" (multiplies false F16 (operand.Descriptor (named "a")) Dense) [] ∷
-    reads "tcgen05.mma.cta_group::1.kind::tf32 [d+1], [a+2], b, i, p;" (multiplies false Tf32 (operand.Address (past "a" 2)) Dense) [] ∷
+    reads "tcgen05.mma.cta_group::1.kind::tf32 [d+1], [a+2], b, i, p;" (multiplies false Tf32 (operand.Address (offsetBy "a" 2)) Dense) [] ∷
     reads "tcgen05.mma.ws.cta_group::1.kind::f8f6f4 [d+1], a, b, i, p;" (multiplies true F8f6f4 (operand.Descriptor (named "a")) Dense) [] ∷
-    reads "tcgen05.mma.sp.cta_group::1.kind::i8 [d+1], a, b, [m+3], i, p;" (multiplies false I8 (operand.Descriptor (named "a")) (Sparse (past "m" 3))) [] ∷
-    reads "tcgen05.mma.ws.sp.cta_group::1.kind::f16 [d+1], [a+2], b, [m+3], i, p;" (multiplies true F16 (operand.Address (past "a" 2)) (Sparse (past "m" 3))) [] ∷
+    reads "tcgen05.mma.sp.cta_group::1.kind::i8 [d+1], a, b, [m+3], i, p;" (multiplies false I8 (operand.Descriptor (named "a")) (Sparse (offsetBy "m" 3))) [] ∷
+    reads "tcgen05.mma.ws.sp.cta_group::1.kind::f16 [d+1], [a+2], b, [m+3], i, p;" (multiplies true F16 (operand.Address (offsetBy "a" 2)) (Sparse (offsetBy "m" 3))) [] ∷
     []
 
 -- The place of 3 is that of the first token at which no form can go on, of 4 that of the first number too large.
@@ -235,7 +236,7 @@ canonicals =
 
 -- ---- the claim: each example of each table holds
 abbrev pub tables : List (List Example)
-tables = spaces ∷ words ∷ numbers ∷ forms ∷ typed ∷ accesses ∷ mmas ∷ places ∷ canonicals ∷ []
+tables = spacing ∷ words ∷ numbers ∷ forms ∷ typed ∷ accesses ∷ mmas ∷ places ∷ canonicals ∷ []
 
 abbrev pub AllOf : List (List Example) → Type 0
 AllOf [] = Unit {0}

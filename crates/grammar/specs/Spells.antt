@@ -16,7 +16,7 @@ use Rattle.statement.specs.declared.Operand.{Operand}
 use Rattle.statement.specs.declared.Operand.the-variants as operand
 use Rattle.statement.specs.declared.Statement.{Statement}
 use Rattle.statement.specs.declared.Opcode.{Opcode}
-use Rattle.statement.specs.Forms.{word, Slot, name, number, inBrackets, address, operand, names, Value, Values, max32, row, Whole, make}
+use Rattle.statement.specs.Forms.{word, Slot, name, number, inBrackets, address, operand, names, Value, Values, maxOffset, row, Whole, make}
 use Rattle.statement.specs.Canonical.{opcodeOf, valuesOf}
 
 abbrev pub spaces : ℕ → List ℕ
@@ -113,13 +113,13 @@ pub record Spells (whole : Whole) (text : List ℕ) : Type 0 where
 -- ---- each number is in range, as the slots of the row say
 abbrev pub sizedOperand : Operand → Bool
 sizedOperand (operand.Descriptor n) = true
-sizedOperand (operand.Address a) = leb (a .offset) max32
+sizedOperand (operand.Address a) = leb (a .offset) maxOffset
 
 abbrev pub sizedSlot : (k : Slot) → Value k → Bool
 sizedSlot name v = true
 sizedSlot (number limit) v = leb v limit
 sizedSlot inBrackets v = true
-sizedSlot address v = leb (v .offset) max32
+sizedSlot address v = leb (v .offset) maxOffset
 sizedSlot operand v = sizedOperand v
 sizedSlot names v = true
 

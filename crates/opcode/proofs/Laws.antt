@@ -1,18 +1,18 @@
 -- Laws of comparing a word piece by piece, over plain lists. Assumes nothing.
-use Prim.Native.Nat.{ℕ, zero, suc, _+_, _-_, _<_, _≤_}
+use Prim.Native.Nat.{ℕ, suc, _+_, _-_, _<_, _≤_}
 use native.Mathlib.Numerals.{add-one}
 use native.Mathlib.Nat.{add-suc, le-of-lt}
 use native.Mathlib.Omega.{arith}
-use mathlib.Core.Path.{_≡_, refl, sym, ap, _∙_}
+use mathlib.Core.Path.{_≡_, refl, sym, _∙_}
 use mathlib.Core.List.{List, [], _∷_, _++_}
 use mathlib.Core.Bool.{Bool, true, false, _&&_, and-true, and-false, and-assoc}
 use lib.ListN.{length, getD, drop, drop-of-length-le, length-append, length-drop}
 use lib.Seq.{drop-cons, drop-drop, drop-nil, drop-length}
 use lib.Dec.{eqb}
-use borrow.Author.Tests.{eq-eqb, ne-eqb}
+use borrow.Author.Tests.{ne-eqb}
 use Rattle.statement.specs.declared.Shape.{Shape}
 use Rattle.statement.specs.declared.Shape.the-variants.{S32x32, S16x64, S16x128, S16x256}
-use Rattle.opcode.specs.Heads.{numPlace, kindPlace}
+use Rattle.opcode.specs.Candidates.{numPlace, kindPlace}
 use Rattle.opcode.specs.Pieces.{startsWith, Left, pieceC}
 
 -- ---- places are small

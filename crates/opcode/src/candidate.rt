@@ -1,13 +1,11 @@
 // Which opcode a text can start with: a few bytes tell.
-ghost use mathlib.Core.Bool.{cond};
 use instruction::Kind;
 use statement::Num;
 use statement::Opcode;
 use statement::Shape;
 ghost use mathlib.Core.Path.{_≡_};
 ghost use lib.ListN.{getD};
-ghost use lib.Dec.{eqb};
-ghost use Rattle.opcode.specs.Heads.{shapeBy, shapeOf, numPlace, numAt, numIn, kindPlace, kindAt, mmaOf, mmaIn, tcgen05In, candidateIn};
+ghost use Rattle.opcode.specs.Candidates.{shapeBy, shapeOf, numPlace, numAt, numIn, kindPlace, kindAt, mmaOf, mmaIn, movIn, waitIn, fenceIn, tcgen05In, candidateIn};
 
 // The byte at a position, 0 past the end.
 pub fn byte(w: &[u8], at: usize) -> u8
@@ -132,7 +130,7 @@ pub fn mma_in(w: &[u8]) -> Opcode
 }
 
 pub fn wait_by(w: &[u8]) -> Opcode
-    ensures { λ r. ⌜ r ≡ cond (eqb (getD (now (w .entry)) 14 0) 108) Opcode.WaitLoad Opcode.WaitStore ⌝ }
+    ensures { λ r. ⌜ r ≡ waitIn (now (w .entry)) ⌝ }
 {
     if byte(w, 14) == b'l' {
         Opcode::WaitLoad
@@ -142,7 +140,7 @@ pub fn wait_by(w: &[u8]) -> Opcode
 }
 
 pub fn fence_by(w: &[u8]) -> Opcode
-    ensures { λ r. ⌜ r ≡ cond (eqb (getD (now (w .entry)) 15 0) 98) Opcode.FenceBefore Opcode.FenceAfter ⌝ }
+    ensures { λ r. ⌜ r ≡ fenceIn (now (w .entry)) ⌝ }
 {
     if byte(w, 15) == b'b' {
         Opcode::FenceBefore
@@ -152,7 +150,7 @@ pub fn fence_by(w: &[u8]) -> Opcode
 }
 
 pub fn mov_by(w: &[u8]) -> Opcode
-    ensures { λ r. ⌜ r ≡ cond (eqb (getD (now (w .entry)) 5 0) 51) Opcode.Mov32 Opcode.Mov64 ⌝ }
+    ensures { λ r. ⌜ r ≡ movIn (now (w .entry)) ⌝ }
 {
     if byte(w, 5) == b'3' {
         Opcode::Mov32

@@ -14,7 +14,8 @@ ghost use lib.ListN.{drop};
 ghost use Rattle.tokens.specs.Text.{bytes};
 ghost use Rattle.statement.specs.Forms.{word, shapeText, numText};
 ghost use Rattle.opcode.specs.Pieces.{leftSeen, pieceC, whole};
-ghost use Rattle.opcode.specs.Heads.{headSeen, headOf, stops};
+ghost use Rattle.opcode.specs.Heads.{headSeen, headOf};
+ghost use Rattle.opcode.specs.Candidates.{stops};
 
 // An opcode and where it ends; 0 where there is none.
 pub struct Head {

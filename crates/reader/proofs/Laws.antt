@@ -5,7 +5,7 @@ use native.Mathlib.Nat.{sub-self}
 use native.Mathlib.Omega.{arith}
 use mathlib.Core.Path.{_≡_, refl, sym, ap, _∙_}
 use mathlib.Core.List.{List, [], _∷_}
-use mathlib.Core.Bool.{Bool, true, false, _&&_, cond}
+use mathlib.Core.Bool.{Bool, true, false, cond}
 use lib.ListN.{length, set, take, drop}
 use lib.Seq.{sets}
 use lib.Dec.{leb}
@@ -15,12 +15,13 @@ use borrow.Author.Tests.{leb-true, le-leb, lt-leb}
 use Rattle.tokens.specs.declared.Name.{Name}
 use Rattle.tokens.specs.declared.Cursor.{Cursor}
 use Rattle.tokens.specs.declared.NameRead.{NameRead}
+use Rattle.tokens.specs.Text.{byte}
 use Rattle.tokens.specs.Bytes.{afterBlanks, tokenOf}
 use Rattle.tokens.specs.Numbers.{isNumber, valueOf}
 use Rattle.tokens.specs.Cursors.{Rest, seen, off, Took, markC, endC, nameC, nameSeen, numberC}
 use Rattle.instruction.specs.declared.Kind.{Kind}
 use Rattle.statement.specs.declared.Statement.{Statement}
-use Rattle.statement.specs.declared.Statement.the-variants.{Exit}
+use Rattle.statement.specs.declared.Statement.the-variants.{Exit, Multiply as Multiplied}
 use Rattle.statement.specs.declared.Opcode.{Opcode}
 use Rattle.statement.specs.declared.Opcode.the-variants.{Mov32, Mov64, Alloc, Dealloc, Relinquish, Load, Store, WaitLoad, WaitStore, FenceBefore, FenceAfter, Multiply, Exit as ExitWord}
 use Rattle.statement.specs.declared.Found.{Found}
@@ -29,14 +30,14 @@ use Rattle.statement.specs.declared.Reading.{Reading}
 use Rattle.statement.specs.declared.Reading.the-variants.{Got, NoForm}
 use Rattle.statement.specs.Forms.{name, number, Values, Whole, plain}
 use Rattle.statement.specs.Opcodes.{recognise}
-use Rattle.statement.specs.Reading.{moreC, counted, his, los, answerOf, moreRowC, rowC, operandsC, start, opcodeLen, wholeBy, wholeC, readOf, fine, registersOf, told}
+use Rattle.statement.specs.Reading.{addressC, operandC, moreC, tally, his, los, answerOf, moreRowC, rowC, operandsC, start, opcodeLen, wholeBy, wholeC, readOf, fine, registersOf, told}
 use Rattle.statement.proofs.Readings.{Unread}
 use Rattle.opcode.specs.declared.Head.{Head}
 use Rattle.opcode.specs.Heads.{headSeen, headBy, headOf}
 use Rattle.statement.proofs.Opcode.{the-type}
 use Rattle.reader.specs.Lists.{listC}
 use Rattle.reader.specs.declared.Paired.{Paired}
-use Rattle.reader.specs.Rows.{opcodeOf, bracketedOf, limitOf, madeOf, namedC, pairC, metadataC, mmaC}
+use Rattle.reader.specs.Rows.{pairedOpcode, bracketedOf, limitOf, madeOf, namedC, pairC, metadataC}
 
 -- ---- numbers
 under-cond : (limit : ℕ) (b : Bool) (x y : Took ℕ) → (b ≡ true → x .value ≤ limit) → y .value ≤ limit → (cond b x y) .value ≤ limit
@@ -54,14 +55,14 @@ number-under limit r =
 
 -- ---- lists of names
 -- no comma: no name is left
-pub more-done : (s : List ℕ) (at d : Cursor) (k : ℕ) → seen s d ≡ markC 44 (seen s at) → d .ok ≡ false
-    → moreC k (seen s at) ≡ record { value = []; next = markC 125 (seen s at) }
+pub more-done : (s : List ℕ) (at d : Cursor) (k : ℕ) → seen s d ≡ markC (byte ",") (seen s at) → d .ok ≡ false
+    → moreC k (seen s at) ≡ record { value = []; next = markC (byte "}") (seen s at) }
 unfolding moreC
 more-done s at d zero h e = refl
 more-done s at d (suc k) h e = rw (← h, e)
 
 -- a comma: one name, and what is left after it
-pub more-took : (s : List ℕ) (at d : Cursor) (m : NameRead) (count : ℕ) → count < 128 → seen s d ≡ markC 44 (seen s at) → nameSeen s m ≡ nameC (seen s d) → d .ok ≡ true
+pub more-took : (s : List ℕ) (at d : Cursor) (m : NameRead) (count : ℕ) → count < 128 → seen s d ≡ markC (byte ",") (seen s at) → nameSeen s m ≡ nameC (seen s d) → d .ok ≡ true
     → moreC (128 - count) (seen s at) ≡ record { value = m .value ∷ moreC (128 - (count + 1)) (seen s (m .next)) .value; next = moreC (128 - (count + 1)) (seen s (m .next)) .next }
 unfolding moreC
 more-took s at d m count b h n e =
@@ -69,7 +70,7 @@ more-took s at d m count b h n e =
     rw (q, ← h, ← n, e)
 
 -- 128 names: no more are read
-pub more-full : (r : Rest) (count : ℕ) → 128 ≤ count → moreC (128 - count) r ≡ record { value = []; next = markC 125 r }
+pub more-full : (r : Rest) (count : ℕ) → 128 ≤ count → moreC (128 - count) r ≡ record { value = []; next = markC (byte "}") r }
 unfolding moreC
 more-full r count h =
     let q : 128 - count ≡ 0 = omega arith in
@@ -86,7 +87,7 @@ after-more count v m =
 
 -- the list ends: what is counted is all of it
 pub names-end : (count : ℕ) (x : Rest) (m : Took (List Name)) (v : Name) → after count (record { value = []; next = x }) ≡ after 1 m
-    → _≡_ {A = Took ℕ} (record { value = count; next = x }) (counted (record { value = v ∷ m .value; next = m .next }))
+    → _≡_ {A = Took ℕ} (record { value = count; next = x }) (tally (record { value = v ∷ m .value; next = m .next }))
 names-end count x m v h =
     let p : count + 0 ≡ 1 + length (m .value) = ap (λ t. t .value) h in
     let q : count ≡ suc (length (m .value)) = omega arith in
@@ -206,7 +207,7 @@ list-other ExitWord r h = refl
 
 -- ---- rows
 -- a name, a comma, a number and the end are the row
-pub pair-row : (b : Bool) (limit : ℕ) (r m e : Rest) (n : Took Name) (v : Took ℕ) → n ≡ namedC b r → m ≡ markC 44 (n .next) → v ≡ numberC limit m → e ≡ endC (v .next)
+pub pair-row : (b : Bool) (limit : ℕ) (r m e : Rest) (n : Took Name) (v : Took ℕ) → n ≡ namedC b r → m ≡ markC (byte ",") (n .next) → v ≡ numberC limit m → e ≡ endC (v .next)
     → _≡_ {A = Took (Values (name ∷ number limit ∷ []))} (record { value = (n .value, (v .value, tt)); next = e }) (pairC b limit r)
 unfolding rowC moreRowC
 pair-row true limit r m e n v p q t u = rw (u, t, q, p)
@@ -214,12 +215,26 @@ pair-row false limit r m e n v p q t u = rw (u, t, q, p)
 
 -- the row of each form of a name and a number, and its statement
 pub pair-told : (t : Paired) (s : List ℕ) (r : Rest) (q : Took (Values (name ∷ number (limitOf t) ∷ []))) → q ≡ pairC (bracketedOf t) (limitOf t) r
-    → answerOf s (q .next) (madeOf t (q .value .0) (q .value .1 .0)) ≡ told s (operandsC (opcodeOf t) r)
+    → answerOf s (q .next) (madeOf t (q .value .0) (q .value .1 .0)) ≡ told s (operandsC (pairedOpcode t) r)
 unfolding operandsC
 pair-told Paired.Mov32 s r q h = rw h
 pair-told Paired.Mov64 s r q h = rw h
 pair-told Paired.Alloc s r q h = rw h
 pair-told Paired.Dealloc s r q h = rw h
+
+-- an mma, dense or sparse
+unfoldable pub mmaC : Bool → Bool → Kind → Rest → Took Whole
+mmaC ws sp kind r =
+    let d = addressC r in
+    let a = operandC (markC (byte ",") (d .next)) in
+    let b = nameC (markC (byte ",") (a .next)) in
+    let m = metadataC sp (b .next) in
+    let i = nameC (markC (byte ",") (m .next)) in
+    let p = nameC (markC (byte ",") (i .next)) in
+    record {
+      value = plain (Multiplied (record { ws = ws; kind = kind; d = d .value; a = a .value; b = b .value; metadata = m .value; idesc = i .value; predicate = p .value }));
+      next = endC (p .next);
+    }
 
 -- the two rows of an mma are one
 pub mma-row : (ws sp : Bool) (kind : Kind) (r : Rest) → operandsC (Multiply ws sp kind) r ≡ mmaC ws sp kind r

@@ -3,28 +3,27 @@ use Rattle.tokens.specs.Text.{byte}
 use Prim.Native.Nat.{ℕ}
 use mathlib.Core.List.{List, [], _∷_}
 use mathlib.Core.Bool.{Bool, true, false, cond}
-use Rattle.instruction.specs.declared.Kind.{Kind}
 use Rattle.tokens.specs.declared.Name.{Name}
-use Rattle.tokens.specs.Cursors.{Rest, seen, Took, markC, endC, nameC}
+use Rattle.tokens.specs.Cursors.{Rest, seen, Took, markC, nameC}
 use Rattle.statement.specs.declared.Metadata.{Metadata}
 use Rattle.statement.specs.declared.Metadata.the-variants.{Dense, Sparse}
 use Rattle.statement.specs.declared.Statement.{Statement}
 use Rattle.statement.specs.declared.Statement.the-variants as s
 use Rattle.statement.specs.declared.Opcode.{Opcode}
 use Rattle.statement.specs.declared.Opcode.the-variants as o
-use Rattle.statement.specs.Forms.{name, number, inBrackets, Values, max32, max64, Whole, plain}
-use Rattle.statement.specs.Reading.{inBracketsC, addressC, operandC, rowC}
+use Rattle.statement.specs.Forms.{name, number, inBrackets, Values, max32, max64}
+use Rattle.statement.specs.Reading.{inBracketsC, addressC, rowC}
 use Rattle.reader.specs.declared.Pair.{Pair}
 use Rattle.reader.specs.declared.Paired.{Paired}
 use Rattle.reader.specs.declared.Paired.the-variants as p
 use Rattle.reader.specs.declared.MetadataRead.{MetadataRead}
 
 -- the opcodes whose operands are a name and a number
-abbrev pub opcodeOf : Paired → Opcode
-opcodeOf p.Mov32 = o.Mov32
-opcodeOf p.Mov64 = o.Mov64
-opcodeOf p.Alloc = o.Alloc false
-opcodeOf p.Dealloc = o.Dealloc
+abbrev pub pairedOpcode : Paired → Opcode
+pairedOpcode p.Mov32 = o.Mov32
+pairedOpcode p.Mov64 = o.Mov64
+pairedOpcode p.Alloc = o.Alloc false
+pairedOpcode p.Dealloc = o.Dealloc
 
 -- whether brackets stand around the name
 abbrev pub bracketedOf : Paired → Bool
@@ -66,17 +65,3 @@ metadataC sp r =
 
 abbrev pub metadataSeen : List ℕ → MetadataRead → Took Metadata
 metadataSeen s m = record { value = m .value; next = seen s (m .next) }
-
--- an mma, dense or sparse
-unfoldable pub mmaC : Bool → Bool → Kind → Rest → Took Whole
-mmaC ws sp kind r =
-    let d = addressC r in
-    let a = operandC (markC (byte ",") (d .next)) in
-    let b = nameC (markC (byte ",") (a .next)) in
-    let m = metadataC sp (b .next) in
-    let i = nameC (markC (byte ",") (m .next)) in
-    let p = nameC (markC (byte ",") (i .next)) in
-    record {
-      value = plain (s.Multiply (record { ws = ws; kind = kind; d = d .value; a = a .value; b = b .value; metadata = m .value; idesc = i .value; predicate = p .value }));
-      next = endC (p .next);
-    }

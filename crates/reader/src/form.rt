@@ -17,7 +17,7 @@ ghost use Prim.Native.Nat.{_≤_};
 ghost use Rattle.tokens.specs.Cursors.{seen, endC};
 ghost use Rattle.statement.specs.declared.Opcode.the-variants as opcode;
 ghost use Rattle.statement.specs.Reading.{answerOf, operandsC, told};
-ghost use Rattle.reader.specs.Rows.{opcodeOf, bracketedOf, limitOf, madeOf, pairC, pairSeen, metadataC, metadataSeen};
+ghost use Rattle.reader.specs.Rows.{pairedOpcode, bracketedOf, limitOf, madeOf, pairC, pairSeen, metadataC, metadataSeen};
 
 // No form where reading stopped, too large where a number was, else the statement.
 pub fn answer(s: &[u8], k: Cursor, t: Statement) -> Reading
@@ -99,7 +99,7 @@ fn made(t: Paired, n: Name, v: u64) -> Statement
 
 // A form of a name and a number.
 pub fn pair(s: &[u8], k: Cursor, t: Paired) -> Reading
-    ensures { λ r. ⌜ r ≡ told (now (s .entry)) (operandsC (opcodeOf t) (seen (now (s .entry)) k)) ⌝ }
+    ensures { λ r. ⌜ r ≡ told (now (s .entry)) (operandsC (pairedOpcode t) (seen (now (s .entry)) k)) ⌝ }
 {
     let p = name_number(s, k, bracketed(t), limit(t));
     let n = p.name;

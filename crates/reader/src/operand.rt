@@ -10,9 +10,10 @@ use tokens::NameRead;
 ghost use mathlib.Core.Path.{_≡_};
 ghost use lib.ListN.{length};
 ghost use lib.Seq.{sets};
+ghost use Rattle.tokens.specs.Text.{byte};
 ghost use Rattle.tokens.specs.Cursors.{seen, nameSeen, markC, numberC};
 ghost use Rattle.statement.specs.Forms.{max32};
-ghost use Rattle.statement.specs.Reading.{inBracketsC, offsetC, insideC, addressC, operandC, namesC, offsetSeen, addressSeen, operandSeen, countSeen, counted, his, los};
+ghost use Rattle.statement.specs.Reading.{inBracketsC, offsetC, insideC, addressC, operandC, namesC, offsetSeen, addressSeen, operandSeen, countSeen, tally, his, los};
 ghost use Rattle.reader.specs.Rows.{namedC};
 
 // The most names that a list has.
@@ -114,7 +115,7 @@ pub fn operand(s: &[u8], k: Cursor) -> OperandRead
 
 // { 1 to 128 names }: how many.
 pub fn names(s: &[u8], k: Cursor) -> CountRead
-    ensures { λ r. ⌜ countSeen (now (s .entry)) r ≡ counted (namesC (seen (now (s .entry)) k)) ⌝ }
+    ensures { λ r. ⌜ countSeen (now (s .entry)) r ≡ tally (namesC (seen (now (s .entry)) k)) ⌝ }
 {
     let a = lexer::cursor::mark(s, k, b'{');
     let n = lexer::cursor::name(s, a);
@@ -168,9 +169,9 @@ pub fn fill(s: &[u8], k: Cursor, hi: &mut [u64; 128], lo: &mut [u64; 128]) -> us
 
 // An address and a comma, then { 1 to 128 names }, as fill.
 pub fn fill_after(s: &[u8], k: Cursor, hi: &mut [u64; 128], lo: &mut [u64; 128]) -> usize
-    ensures count { λ r. ⌜ r ≡ length (namesC (markC 44 (addressC (seen (now (s .entry)) k) .next)) .value) ⌝ }
-    ensures first { λ r. ⌜ now (hi .exit) ≡ sets (now (hi .entry)) 0 (his (namesC (markC 44 (addressC (seen (now (s .entry)) k) .next)) .value)) ⌝ }
-    ensures second { λ r. ⌜ now (lo .exit) ≡ sets (now (lo .entry)) 0 (los (namesC (markC 44 (addressC (seen (now (s .entry)) k) .next)) .value)) ⌝ }
+    ensures count { λ r. ⌜ r ≡ length (namesC (markC (byte ",") (addressC (seen (now (s .entry)) k) .next)) .value) ⌝ }
+    ensures first { λ r. ⌜ now (hi .exit) ≡ sets (now (hi .entry)) 0 (his (namesC (markC (byte ",") (addressC (seen (now (s .entry)) k) .next)) .value)) ⌝ }
+    ensures second { λ r. ⌜ now (lo .exit) ≡ sets (now (lo .entry)) 0 (los (namesC (markC (byte ",") (addressC (seen (now (s .entry)) k) .next)) .value)) ⌝ }
 {
     let a = address(s, k);
     let k1 = a.next;

@@ -46,7 +46,7 @@ unfolding t0 t1 t2 lines sheet count every least s.isLive s.columnsOf s.without 
     s.widthOf s.numberOf s.bind cells.counted reasons.named reasons.roomed reasons.laneOfWarp reasons.warped reasons.sized reasons.permitted
     reasons.placed reasons.reads reasons.mListed reasons.nListed reasons.typesListed reasons.inside reasons.cleared reasons.openRules
     reasons.closedRules reasons.rules answerAt answerBy closing stopBy reasonBy stateBy startsBy given effect requested released sum heldAfter
-    peakUpTo ones onesIn cells.registersOf cells.lanesOf cells.columnsOf cells.miscounted
+    peakUpTo ones onesIn cells.registersFor cells.lanesOf cells.columnsOf cells.miscounted
 passes = refl
 
 starts-are : startsOf sheet ≡ 0 ∷ 64 ∷ 0 ∷ []

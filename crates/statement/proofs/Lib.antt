@@ -1,3 +1,4 @@
+pub mod Every
 pub mod Readings
 pub mod Words
 pub mod Bound

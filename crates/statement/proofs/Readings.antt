@@ -1,15 +1,14 @@
 -- Answers of the reader that are no statement. Assumes nothing.
-use Prim.Native.Nat.{ℕ}
 use native.Mathlib.Omega.{arith}
-use mathlib.Core.Path.{_≡_, refl, subst}
-use mathlib.Core.List.{List, [], _∷_}
-use mathlib.Core.Logic.{_⊎_, inl, inr}
+use mathlib.Core.Path.{_≡_, subst}
+use mathlib.Core.List.{[], _∷_}
+use mathlib.Core.Logic.{inl, inr}
 use denote.Enum.Declared.{tagOf}
 use types.Run.{OneOf}
 use Rattle.statement.specs.declared.Statement.{Statement}
 use Rattle.statement.specs.declared.Reading.{Reading}
 use Rattle.statement.proofs.Reading.{the-type}
-use Rattle.statement.specs.declared.Reading.the-variants.{Got, NoForm, TooLarge}
+use Rattle.statement.specs.declared.Reading.the-variants.{Got}
 
 abbrev pub Unread : Reading → Type 0
 Unread r = (t : Statement) → r ≡ Got t → ⊥

@@ -1,11 +1,10 @@
 -- The canonical text of a statement: from the same rows, one space after the opcode and after each comma, decimals, no +0. Assumes nothing.
 use Rattle.tokens.specs.Text.{bytes}
-use Prim.Native.Nat.{ℕ, zero, suc}
+use Prim.Native.Nat.{ℕ}
 use mathlib.Core.List.{List, [], _∷_, _++_}
 use mathlib.Core.Bool.{Bool, true, false, _&&_, cond}
 use lib.ListN.{length}
 use lib.Dec.{ltb, leb, eqb}
-use Rattle.instruction.specs.declared.Kind.{Kind}
 use Rattle.tokens.specs.declared.Name.{Name}
 use Rattle.tokens.specs.Names.{nameBytes, nameGiven}
 use Rattle.tokens.specs.Numbers.{decimal}
@@ -20,7 +19,7 @@ use Rattle.statement.specs.declared.Statement.the-variants as s
 use Rattle.statement.specs.declared.Opcode.{Opcode}
 use Rattle.statement.specs.declared.Opcode.the-variants.{Mov32, Mov64, Alloc, Dealloc, Relinquish, Load, Store, WaitLoad, WaitStore, FenceBefore, FenceAfter, Multiply, Exit}
 use Rattle.statement.specs.Views.{accessOf, of}
-use Rattle.statement.specs.Forms.{word, Slot, name, number, inBrackets, address, operand, names, Value, Values, max32, row, Whole}
+use Rattle.statement.specs.Forms.{word, Slot, name, number, inBrackets, address, operand, names, Value, Values, maxOffset, row}
 
 -- ---- a statement's opcode and operands
 abbrev pub sparse : Metadata → Bool
@@ -107,7 +106,7 @@ allNames [] = true
 allNames (n ∷ ns) = nameGiven n && allNames ns
 
 abbrev pub addressGiven : Address → Bool
-addressGiven a = nameGiven (a .base) && leb (a .offset) max32
+addressGiven a = nameGiven (a .base) && leb (a .offset) maxOffset
 
 abbrev pub operandGiven : Operand → Bool
 operandGiven (operand.Descriptor n) = nameGiven n

@@ -35,8 +35,9 @@ cells S16x64 = record { registers = 1; lanes = 16; columns = 2; largest = 128 }
 cells S16x128 = record { registers = 2; lanes = 16; columns = 4; largest = 64 }
 cells S16x256 = record { registers = 4; lanes = 16; columns = 8; largest = 32 }
 
-unfoldable pub registersOf : Shape → Num → ℕ
-registersOf shape num = cells shape .registers * times num
+-- of an access of a shape and an N: its registers, lanes and columns
+unfoldable pub registersFor : Shape → Num → ℕ
+registersFor shape num = cells shape .registers * times num
 
 unfoldable pub lanesOf : Shape → ℕ
 lanesOf shape = cells shape .lanes
@@ -46,7 +47,7 @@ columnsOf shape num = cells shape .columns * times num
 
 -- reason 5: N over the shape's largest, or another count of registers
 unfoldable pub miscounted : Access → Bool
-miscounted a = ltb (cells (a .shape) .largest) (times (a .num)) || not (eqb (a .registers) (registersOf (a .shape) (a .num)))
+miscounted a = ltb (cells (a .shape) .largest) (times (a .num)) || not (eqb (a .registers) (registersFor (a .shape) (a .num)))
 
 -- a statement keeps that rule: only a ld or st can break it
 unfoldable pub counted : Statement → Bool

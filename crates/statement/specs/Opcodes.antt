@@ -35,13 +35,19 @@ kinds = F16 ∷ Tf32 ∷ F8f6f4 ∷ I8 ∷ []
 abbrev pub flags : List Bool
 flags = false ∷ true ∷ []
 
+-- those with no SHAPE, NUM or KIND; ld and st; mma
+abbrev pub singles : List Opcode
+singles = Mov32 ∷ Mov64 ∷ Alloc false ∷ Alloc true ∷ Dealloc ∷ Relinquish ∷ WaitLoad ∷ WaitStore ∷ FenceBefore ∷ FenceAfter ∷ Exit ∷ []
+
+abbrev pub loadStores : List Opcode
+loadStores = each shapes (λ shape. each nums (λ num. Load shape num ∷ Store shape num ∷ []))
+
+abbrev pub mmas : List Opcode
+mmas = each flags (λ ws. each flags (λ sp. each kinds (λ kind. Multiply ws sp kind ∷ [])))
+
 -- every opcode
 unfoldable pub opcodes : List Opcode
-opcodes =
-    Mov32 ∷ Mov64 ∷ Alloc false ∷ Alloc true ∷ Dealloc ∷ Relinquish ∷ WaitLoad ∷ WaitStore ∷ FenceBefore ∷ FenceAfter ∷ Exit ∷ (
-    each shapes (λ shape. each nums (λ num. Load shape num ∷ Store shape num ∷ []))
-    ++ each flags (λ ws. each flags (λ sp. each kinds (λ kind. Multiply ws sp kind ∷ [])))
-    )
+opcodes = singles ++ (loadStores ++ mmas)
 
 -- ---- the opcode of a word
 abbrev pub foundBy : Option Opcode → Found

@@ -1,13 +1,13 @@
 -- How a statement is read: the opcode, its row of operands, the answer. Assumes nothing.
 use Rattle.tokens.specs.Text.{byte}
 use Prim.Native.Nat.{ℕ, zero, suc, _-_}
-use mathlib.Core.List.{List, [], _∷_}
+use mathlib.Core.List.{List, [], _∷_, map}
 use mathlib.Core.Bool.{Bool, true, false, _&&_, cond}
 use lib.ListN.{length, take, drop}
-use lib.Dec.{leb, eqb}
+use lib.Dec.{leb}
 use Rattle.tokens.specs.declared.Name.{Name}
 use Rattle.tokens.specs.Bytes.{opcodeByte, runLen}
-use Rattle.tokens.specs.Cursors.{Rest, seen, on, off, Took, markC, endC, nameC, numberC}
+use Rattle.tokens.specs.Cursors.{Rest, seen, off, Took, markC, endC, nameC, numberC}
 use Rattle.statement.specs.declared.Address.{Address}
 use Rattle.statement.specs.declared.Operand.{Operand}
 use Rattle.statement.specs.declared.Operand.the-variants as operand
@@ -22,7 +22,7 @@ use Rattle.statement.specs.declared.OffsetRead.{OffsetRead}
 use Rattle.statement.specs.declared.AddressRead.{AddressRead}
 use Rattle.statement.specs.declared.OperandRead.{OperandRead}
 use Rattle.statement.specs.declared.CountRead.{CountRead}
-use Rattle.statement.specs.Forms.{Slot, name, number, inBrackets, address, operand, names, Value, Values, max32, row, Whole, plain, make}
+use Rattle.statement.specs.Forms.{Slot, name, number, inBrackets, address, operand, names, Value, Values, maxOffset, row, Whole, plain, make}
 use Rattle.statement.specs.Opcodes.{recognise}
 
 -- ---- operands
@@ -32,7 +32,7 @@ inBracketsC r = let n = nameC (markC (byte "[") r) in record { value = n .value;
 
 -- + number, or nothing, which is 0
 unfoldable pub offsetC : Rest → Took ℕ
-offsetC r = let d = markC (byte "+") r in cond (d .ok) (numberC max32 d) (record { value = 0; next = r })
+offsetC r = let d = markC (byte "+") r in cond (d .ok) (numberC maxOffset d) (record { value = 0; next = r })
 
 -- name ] or name + number ]
 unfoldable pub insideC : Rest → Took Address
@@ -148,8 +148,8 @@ abbrev pub countSeen : List ℕ → CountRead → Took ℕ
 countSeen t r = record { value = r .value; next = seen t (r .next) }
 
 -- how many there are
-abbrev pub counted : Took (List Name) → Took ℕ
-counted r = record { value = length (r .value); next = r .next }
+abbrev pub tally : Took (List Name) → Took ℕ
+tally r = record { value = length (r .value); next = r .next }
 
 -- the answer for what was read of a text
 abbrev pub told : List ℕ → Took Whole → Reading
@@ -157,12 +157,10 @@ told text t = answerOf text (t .next) (t .value .statement)
 
 -- ---- the registers' names in two lists of numbers
 abbrev pub his : List Name → List ℕ
-his [] = []
-his (n ∷ ns) = n .hi ∷ his ns
+his ns = map (λ (n : Name). n .hi) ns
 
 abbrev pub los : List Name → List ℕ
-los [] = []
-los (n ∷ ns) = n .lo ∷ los ns
+los ns = map (λ (n : Name). n .lo) ns
 
 -- the names that two lists hold
 abbrev pub paired : List ℕ → List ℕ → List Name

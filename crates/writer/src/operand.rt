@@ -9,7 +9,7 @@ ghost use Prim.Native.Nat.{_≤_, _<_};
 ghost use lib.ListN.{length};
 ghost use lib.Dec.{leb};
 ghost use Rattle.tokens.specs.Names.{nameGiven};
-ghost use Rattle.statement.specs.Forms.{max32, inBrackets};
+ghost use Rattle.statement.specs.Forms.{maxOffset, inBrackets};
 ghost use Rattle.statement.specs.Canonical.{slotText, offsetText, addressText, addressGiven, operandText, operandGiven, namesText, allNames};
 ghost use Rattle.writer.specs.Outputs.{outSeen, addC, namedText, firsts, namesGiven};
 
@@ -34,7 +34,7 @@ pub fn named(t: &mut Buffer, at: usize, n: Name, bracketed: bool) -> usize
 
 // +number, or nothing for 0.
 fn offset(t: &mut Buffer, at: usize, v: u32) -> usize
-    ensures { λ r. ⌜ outSeen (now (t .exit)) r ≡ addC (offsetText v) (leb v max32) (outSeen (now (t .entry)) at) ⌝ }
+    ensures { λ r. ⌜ outSeen (now (t .exit)) r ≡ addC (offsetText v) (leb v maxOffset) (outSeen (now (t .entry)) at) ⌝ }
 {
     if v == 0 {
         return at;

@@ -1,7 +1,7 @@
 -- `cells::registers` meets its contract. The row's registers and N are small, so their product fits. Assumes nothing.
 use mathlib.Core.Path.{ap}
 use Rattle.cells.specs.declared.Row.{Row}
-use Rattle.statement.specs.Cells.{cells, registersOf}
+use Rattle.statement.specs.Cells.{cells, registersFor}
 use Rattle.cells.proofs.Laws.{registers-le, product}
 use borrow.Author.Needs.{needs}
 use Rattle.cells.proofs.registers.Statement.{statement}
@@ -22,7 +22,7 @@ mul-result c =
     }
 
 returns : tie.Need-returns
-unfolding registersOf
+unfolding registersFor
 returns c = rw (← (ap (λ (t : Row). t .registers) (c .before .before .row-of .ensures)), ← c .before .times-of .ensures)
 
 pub registers-spec : {M : Type 1} → statement M

@@ -1,6 +1,6 @@
--- `opcode::head_of` meets its contract. The laws of heads: the candidate's word decides it. Assumes nothing.
-use Rattle.opcode.specs.Pieces.{leftSeen}
-use Rattle.opcode.proofs.Heads.{head-is, head-none}
+-- `opcode::head_of` meets its contract. It finds the head by the candidate, which is the head by the table. Assumes nothing.
+use Rattle.opcode.specs.Candidates.{headIn}
+use Rattle.opcode.proofs.Heads.{candidate-head}
 use borrow.Author.Needs.{needs}
 use Rattle.opcode.proofs.head_of.Statement.{statement}
 use Rattle.opcode.proofs.head_of.Tie as tie
@@ -15,19 +15,20 @@ stops-at-requires : tie.Need-stops-at-requires
 stops-at-requires c κs = search needs
 
 returns : tie.Need-returns
+unfolding headIn
 returns c =
-    let a = c .before .before .before .before .before .before .args in
-    let past = c .before .before .before .past in
-    head-is (a .w .now) (c .before .before .before .before .candidate-in .result) (leftSeen (a .w .now) (past .result)) (past .ensures) (rw (←
-    c .before .before .stops-at .ensures) (c .if1 .taken))
+    let c₁ = c .before .before in
+    let c₂ = c₁ .before in
+    let c₃ = c₂ .before in
+    rw (← c₃ .candidate-in .ensures, ← c₂ .past .ensures, ← c₁ .stops-at .ensures, c .if1 .taken) at (candidate-head (c₃ .before .before .args .w .now))
 
 returns-2 : tie.Need-returns-2
+unfolding headIn
 returns-2 c =
-    let a = c .before .before .before .before .before .before .args in
-    let candidate-in = c .before .before .before .before .candidate-in in
-    let past = c .before .before .before .past in
-    head-none (a .w .now) (candidate-in .result) (leftSeen (a .w .now) (past .result)) (past .ensures) (candidate-in .ensures) (rw (←
-    c .before .before .stops-at .ensures) (c .if1 .left))
+    let c₁ = c .before .before in
+    let c₂ = c₁ .before in
+    let c₃ = c₂ .before in
+    rw (← c₃ .candidate-in .ensures, ← c₂ .past .ensures, ← c₁ .stops-at .ensures, c .if1 .left) at (candidate-head (c₃ .before .before .args .w .now))
 
 pub head-of-spec : {M : Type 1} → statement M
 head-of-spec =

@@ -11,15 +11,15 @@ use Rattle.statement.specs.declared.Reading.{Reading}
 use Rattle.statement.specs.Forms.{Whole}
 use Rattle.statement.specs.Reading.{operandsC, rowC, told}
 use Rattle.reader.specs.declared.Paired.{Paired}
-use Rattle.reader.specs.Rows.{opcodeOf}
+use Rattle.reader.specs.Rows.{pairedOpcode}
 use borrow.Author.Needs.{needs}
 use Rattle.reader.proofs.operands.Statement.{statement}
 use Rattle.reader.proofs.operands.Tie as tie
 
 -- the form that an opcode chose reads the opcode's operands
-pair-of : (s : List ℕ) (r : Rest) (x : Reading) (t p : Paired) (o : Opcode) → t ≡ p → operandsC o r ≡ operandsC (opcodeOf p) r → x ≡ told s (operandsC (opcodeOf t) r)
+pair-of : (s : List ℕ) (r : Rest) (x : Reading) (t p : Paired) (o : Opcode) → t ≡ p → operandsC o r ≡ operandsC (pairedOpcode p) r → x ≡ told s (operandsC (pairedOpcode t) r)
     → x ≡ told s (operandsC o r)
-pair-of s r x t p o e f h = h ∙ ap (λ (q : Paired). told s (operandsC (opcodeOf q) r)) e ∙ sym (ap (λ (q : Took Whole). told s q) f)
+pair-of s r x t p o e f h = h ∙ ap (λ (q : Paired). told s (operandsC (pairedOpcode q) r)) e ∙ sym (ap (λ (q : Took Whole). told s q) f)
 
 alloc-any : (b : Bool) (r : Rest) → operandsC (Alloc b) r ≡ operandsC (Alloc false) r
 unfolding operandsC

@@ -1,6 +1,6 @@
 -- `opcode::candidate::kind_at` meets its contract. Each way out rewrites the definition by the tests that led there. Assumes nothing.
 use borrow.Author.Tests.{eq-eqb, ne-eqb}
-use Rattle.opcode.specs.Heads.{kindAt}
+use Rattle.opcode.specs.Candidates.{kindAt}
 use Rattle.opcode.proofs.candidate.kind_at.Statement.{statement}
 use Rattle.opcode.proofs.candidate.kind_at.Tie as tie
 

@@ -1,6 +1,6 @@
 -- `opcode::candidate::mma_in` meets its contract. The test on the byte at 12 picks the case, as in the definition. Assumes nothing.
 use borrow.Author.Tests.{eq-eqb, ne-eqb}
-use Rattle.opcode.specs.Heads.{mmaIn}
+use Rattle.opcode.specs.Candidates.{mmaIn}
 use borrow.Author.Needs.{needs}
 use Rattle.opcode.proofs.candidate.mma_in.Statement.{statement}
 use Rattle.opcode.proofs.candidate.mma_in.Tie as tie

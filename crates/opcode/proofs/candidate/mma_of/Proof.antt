@@ -1,7 +1,7 @@
 -- `opcode::candidate::mma_of` meets its contract. Its callees' contracts, one after the other, are the definition; a place is small. Assumes nothing.
 use native.Mathlib.Omega.{arith}
 use Rattle.opcode.proofs.Laws.{kind-place-le}
-use Rattle.opcode.specs.Heads.{mmaOf}
+use Rattle.opcode.specs.Candidates.{mmaOf}
 use borrow.Author.Needs.{needs}
 use Rattle.opcode.proofs.candidate.mma_of.Statement.{statement}
 use Rattle.opcode.proofs.candidate.mma_of.Tie as tie

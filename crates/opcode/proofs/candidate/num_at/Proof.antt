@@ -1,6 +1,6 @@
 -- `opcode::candidate::num_at` meets its contract. Each way out rewrites the definition by the tests that led there. Assumes nothing.
 use borrow.Author.Tests.{eq-eqb, ne-eqb}
-use Rattle.opcode.specs.Heads.{numAt}
+use Rattle.opcode.specs.Candidates.{numAt}
 use Rattle.opcode.proofs.candidate.num_at.Statement.{statement}
 use Rattle.opcode.proofs.candidate.num_at.Tie as tie
 

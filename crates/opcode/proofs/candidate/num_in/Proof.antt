@@ -1,7 +1,7 @@
 -- `opcode::candidate::num_in` meets its contract. Its callees' contracts, one after the other, are the definition; a place is small. Assumes nothing.
 use native.Mathlib.Omega.{arith}
 use Rattle.opcode.proofs.Laws.{num-place-le}
-use Rattle.opcode.specs.Heads.{numIn}
+use Rattle.opcode.specs.Candidates.{numIn}
 use borrow.Author.Needs.{needs}
 use Rattle.opcode.proofs.candidate.num_in.Statement.{statement}
 use Rattle.opcode.proofs.candidate.num_in.Tie as tie

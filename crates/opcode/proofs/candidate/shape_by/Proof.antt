@@ -1,6 +1,6 @@
 -- `opcode::candidate::shape_by` meets its contract. Each way out rewrites the definition by the tests that led there. Assumes nothing.
 use borrow.Author.Tests.{eq-eqb, ne-eqb}
-use Rattle.opcode.specs.Heads.{shapeBy}
+use Rattle.opcode.specs.Candidates.{shapeBy}
 use Rattle.opcode.proofs.candidate.shape_by.Statement.{statement}
 use Rattle.opcode.proofs.candidate.shape_by.Tie as tie
 

@@ -1,5 +1,5 @@
 -- `opcode::candidate::shape_of` meets its contract. Its callees' contracts, one after the other, are the definition. Assumes nothing.
-use Rattle.opcode.specs.Heads.{shapeOf}
+use Rattle.opcode.specs.Candidates.{shapeOf}
 use borrow.Author.Needs.{needs}
 use Rattle.opcode.proofs.candidate.shape_of.Statement.{statement}
 use Rattle.opcode.proofs.candidate.shape_of.Tie as tie

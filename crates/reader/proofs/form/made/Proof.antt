@@ -1,7 +1,7 @@
 -- `reader::form::made` meets its contract: in each arm the form is known, and with it the limit. Assumes nothing.
 use Prim.Native.Nat.{_≤_}
 use native.Mathlib.Omega.{arith}
-use mathlib.Core.Path.{ap, subst}
+use mathlib.Core.Path.{subst}
 use Rattle.reader.specs.declared.Paired.{Paired}
 use Rattle.reader.specs.Rows.{limitOf}
 use borrow.Author.Needs.{needs}

@@ -1,8 +1,7 @@
 -- `reader::form::multiply` meets its contract. Each operand's contract, from the first on, and the answer's are the row of both kinds of mma. Assumes nothing.
 use borrow.Author.Needs.{needs}
 use Rattle.tokens.specs.Cursors.{seen}
-use Rattle.reader.specs.Rows.{mmaC}
-use Rattle.reader.proofs.Laws.{mma-row}
+use Rattle.reader.proofs.Laws.{mmaC, mma-row}
 use Rattle.reader.proofs.form.multiply.Statement.{statement}
 use Rattle.reader.proofs.form.multiply.Tie as tie
 

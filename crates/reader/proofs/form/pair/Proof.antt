@@ -1,6 +1,5 @@
 -- `reader::form::pair` meets its contract: what was read is the row of the form, and its statement is the form's. Assumes nothing.
 use Rattle.tokens.specs.Cursors.{seen}
-use Rattle.reader.specs.Rows.{pairSeen}
 use Rattle.reader.proofs.Laws.{pair-told}
 use borrow.Author.Needs.{needs}
 use Rattle.reader.proofs.form.pair.Statement.{statement}

@@ -5,6 +5,7 @@ use native.Mathlib.Omega.{arith}
 use mathlib.Core.Path.{_≡_, refl, _∙_}
 use borrow.Author.Needs.{needs}
 use borrow.Author.Tests.{not-true, not-false}
+use Rattle.tokens.specs.Text.{byte}
 use Rattle.tokens.specs.Cursors.{seen, markC}
 use Rattle.statement.specs.Reading.{moreC, namesC}
 use Rattle.reader.proofs.Laws.{after, after-more, more-took, more-done, more-full, names-end}
@@ -43,7 +44,7 @@ returns c =
     let name₁ = c₂ .name in
     let loop₁ = c₁ .loop in
     let mark2 = c .before .before .before .mark2 in
-    rw (← c₃ .mark .ensures .0, ← name₁ .ensures .0, c .mark3 .ensures .0) (names-end (loop₁ .count) (markC 125 (seen (a .s .now) (loop₁ .at))) (moreC 127
+    rw (← c₃ .mark .ensures .0, ← name₁ .ensures .0, c .mark3 .ensures .0) (names-end (loop₁ .count) (markC (byte "}") (seen (a .s .now) (loop₁ .at))) (moreC 127
     (seen (a .s .now) (name₁ .result .next))) (name₁ .result .value) (rw (more-done (a .s .now) (loop₁ .at) (mark2 .result) _ (mark2 .ensures .0)
     (not-true _ (c .before .if1 .taken))) at (loop₁ .inv .1)))
 
@@ -80,7 +81,7 @@ returns-2 c =
     let a = c .before .before .before .before .before .before .before .args in
     let name₁ = c .before .before .before .before .name in
     let loop₁ = c .before .before .loop in
-    rw (← c .before .before .before .before .before .mark .ensures .0, ← name₁ .ensures .0, c .mark4 .ensures .0) (names-end (loop₁ .count) (markC 125 (seen
+    rw (← c .before .before .before .before .before .mark .ensures .0, ← name₁ .ensures .0, c .mark4 .ensures .0) (names-end (loop₁ .count) (markC (byte "}") (seen
     (a .s .now) (loop₁ .at))) (moreC 127 (seen (a .s .now) (name₁ .result .next))) (name₁ .result .value) (rw (more-full (seen (a .s .now)
     (loop₁ .at)) (loop₁ .count) (c .before .loop-test .left)) at (loop₁ .inv .1)))
 
