@@ -12,8 +12,8 @@ use Rattle.laws.specs.Rules.{Rule, rule}
 use Rattle.tokens.specs.declared.Name.{Name}
 use Rattle.statement.specs.declared.Statement.{Statement}
 use Rattle.rules.specs.State.{State, Placer, Allocation, isLive, isBound, isFree, lowest, total}
-use Rattle.statement.specs.Views.{isExit}
-use Rattle.rules.specs.Sheet.{Line, badLayout, noForm, tooLarge, statement, lineRules, Sheet, Placing, stateBy, startsBy, rulesBy, stopBy, answerBy}
+use Rattle.statement.specs.Views.{exitIn}
+use Rattle.rules.specs.Sheet.{Line, statement, actIn, lineRules, Sheet, Placing, stateBy, startsBy, rulesBy, stopBy, answerBy}
 
 -- ---- lists of rules
 -- every rule is kept
@@ -61,10 +61,7 @@ pub record Orderly (s : State) : Type 0 where
 
 -- ---- the passed sheet
 abbrev pub exits : Line → Bool
-exits badLayout = false
-exits noForm = false
-exits tooLarge = false
-exits (statement w t) = isExit t
+exits x = exitIn (actIn x)
 
 -- a passed sheet is one that the rules give 0 or 16
 abbrev pub Passing : ℕ → Type 0
