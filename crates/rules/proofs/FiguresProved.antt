@@ -13,7 +13,7 @@ use Rattle.statement.specs.Views.{Act, actOf, exitIn}
 use Rattle.rules.specs.declared.Answer.{Answer}
 use Rattle.rules.specs.State.{State, Placer, total}
 use Rattle.rules.specs.Sheet.{Line, Sheet, Placing, lineRules, lineEffect, effect, stateBy, startsBy, reasonBy, stopBy, sum, heldAfter, peakUpTo, answer, answerBy}
-use Rattle.rules.specs.Claims.{AllKept, exits, acceptedLines, liveAfter, FiguresExact}
+use Rattle.rules.specs.Claims.{AllKept, exits, acceptedLines, liveAfter, MostLive, FiguresExact}
 use Rattle.laws.proofs.BoolLaws.{bool, clash}
 use Rattle.rules.proofs.RuleLaws.{accepted-line, exits-kept}
 use Rattle.rules.proofs.Figures.{held-total}
@@ -168,15 +168,24 @@ module _ (placing : Placing) (sheet : Sheet) (room : ℕ) where
   all-accepted : Clear placing sheet → acceptedLines placing sheet room ≡ size
   all-accepted c = ap (λ b. cond b stop 0) (c .header) ∙ stop-none placing lines size (c .zeros)
 
+  -- the peak after some accepted lines is the most that was live
+  most-live : (n : ℕ) → n ≤ stop → MostLive placing sheet room n (peakUpTo lines n)
+  most-live n p =
+      let o = peak-once lines n in
+      record {
+        most = λ k h. omega (arith, live-held n k p h, peak-most lines n k h);
+        once = (o .0, (o .1 .0, sym (live-held n (o .0) p (o .1 .0)) ∙ o .1 .1));
+      }
+
   -- under any placing, for every sheet and every number of places lent
   pub figures-exact : FiguresExact placing sheet room
   figures-exact =
       let n = acceptedLines placing sheet room in
-      let o = peak-once lines n in
       record {
+        held-each = λ k h. live-held n k (stands .few) h;
+        peak-each = λ k h. most-live k (omega (arith, h, stands .few));
         held = stands .held;
         nothing = λ p. let c = passing-clear placing sheet room p in subst (λ m. live m ≡ 0) (sym (all-accepted c)) (clear-nothing c);
-        most = λ k h. omega (arith, stands .peak, live-held n k (stands .few) h, peak-most lines n k h);
-        once = (o .0, (o .1 .0, sym (live-held n (o .0) (stands .few) (o .1 .0)) ∙ o .1 .1 ∙ sym (stands .peak)));
+        peak = subst (λ v. MostLive placing sheet room n v) (sym (stands .peak)) (most-live n (stands .few));
         roomy = stands .roomy;
       }
