@@ -2,3 +2,4 @@ pub mod SheetLaws
 pub mod SheetTheorems
 pub mod Examples
 pub mod ReaderTheorems
+pub mod LimitsProved
