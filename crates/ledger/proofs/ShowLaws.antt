@@ -14,6 +14,7 @@ use Rattle.laws.specs.Tests.{isSome}
 use Rattle.request.specs.Request.{legal}
 use Rattle.tokens.specs.declared.Name.{Name}
 use Rattle.statement.specs.declared.Statement.the-variants.{Alloc, Dealloc, Relinquish}
+use Rattle.statement.specs.Views as act
 use Rattle.rules.specs.State as rules
 use Rattle.rules.specs.State.{State, Allocation, lowest, opened}
 use Rattle.rules.specs.Reasons.{isWarp, openRules}
@@ -156,7 +157,7 @@ module _ (l : Ledger) (s : State) (h : Shows l s) where
       (least-hit (fitsAt (l .columns) k) 16 d)
 
   alloc-shows : (n : Name) (w k : ℕ) → rules.isLive n (s .live) ≡ false → mayBook l w ≡ true → legal k ≡ true → place l k < 16
-      → Shows (withAllocation l (place l k) n w k) (effect lowest s w (Alloc n k))
+      → Shows (withAllocation l (place l k) n w k) (effect lowest s w (act.requests n k))
   unfolding effect
   alloc-shows n w k a b c d = record {
     slots = subst (λ (o : Option ℕ). Slots (set (l .hi) (place l k) (n .hi)) (set (l .lo) (place l k) (n .lo)) (set (l .columns) (place l k) k) (added n k o (s .live)))
@@ -166,11 +167,11 @@ module _ (l : Ledger) (s : State) (h : Shows l s) where
     relinquished = h .relinquished;
   }
 
-  allocated : (n : Name) (w k : ℕ) → allocOf l n w k .reason ≡ 0 → Shows (allocOf l n w k .next) (effect lowest s w (Alloc n k))
+  allocated : (n : Name) (w k : ℕ) → allocOf l n w k .reason ≡ 0 → Shows (allocOf l n w k .next) (effect lowest s w (act.requests n k))
   unfolding allocOf
   allocated n w k e =
       let a = alloc-kept n w k e in
-      subst (λ (b : Booked). Shows (b .next) (effect lowest s w (Alloc n k)))
+      subst (λ (b : Booked). Shows (b .next) (effect lowest s w (act.requests n k)))
       (sym (booked-next l (withAllocation l (place l k) n w k) (firstBroken (allocRules l n w k)) (place l k * 32) (a .4)))
       (alloc-shows n w k (a .0) (a .1) (a .2) (a .3))
 
@@ -181,12 +182,12 @@ module _ (l : Ledger) (s : State) (h : Shows l s) where
       rw (placed-at (s .live) k (place l k) (place-test k (a .2)) (a .3))
       (ap (λ (b : Booked). b .start ∷ []) (sym (booked-next l (withAllocation l (place l k) n w k) (firstBroken (allocRules l n w k)) (place l k * 32) (a .4))))
 
-  released : (n : Name) (w k : ℕ) → releaseOf l n w k .reason ≡ 0 → Shows (releaseOf l n w k .next) (effect lowest s w (Dealloc n k))
+  released : (n : Name) (w k : ℕ) → releaseOf l n w k .reason ≡ 0 → Shows (releaseOf l n w k .next) (effect lowest s w (act.releases n k))
   unfolding releaseOf effect
   released n w k e =
       let z : firstBroken (releaseRules l n w k) ≡ 0 = sym (booked-reason l (withoutAllocation l (slot l n)) (firstBroken (releaseRules l n w k)) 0) ∙ e in
       let a = kept (isLive l n) _ 6 (omega arith) z in
-      subst (λ (b : Booked). Shows (b .next) (effect lowest s w (Dealloc n k)))
+      subst (λ (b : Booked). Shows (b .next) (effect lowest s w (act.releases n k)))
       (sym (booked-next l (withoutAllocation l (slot l n)) (firstBroken (releaseRules l n w k)) 0 z))
       (record {
         slots = slots-release (l .hi) (l .lo) (l .columns) (s .live) (h .slots) n (ltb-true (slot l n) 16 (a .0));
@@ -194,12 +195,12 @@ module _ (l : Ledger) (s : State) (h : Shows l s) where
         relinquished = h .relinquished;
       })
 
-  relinquished : (w : ℕ) → relinquishOf l w .reason ≡ 0 → Shows (relinquishOf l w .next) (effect lowest s w Relinquish)
+  relinquished : (w : ℕ) → relinquishOf l w .reason ≡ 0 → Shows (relinquishOf l w .next) (effect lowest s w act.relinquishes)
   unfolding relinquishOf effect
   relinquished w e =
       let z : firstBroken (relinquishRules l w) ≡ 0 = sym (booked-reason l (afterRelinquish l w) (firstBroken (relinquishRules l w)) 0) ∙ e in
       let a = kept (mayBook l w) 0 8 (omega arith) z in
-      subst (λ (b : Booked). Shows (b .next) (effect lowest s w Relinquish))
+      subst (λ (b : Booked). Shows (b .next) (effect lowest s w act.relinquishes))
       (sym (booked-next l (afterRelinquish l w) (firstBroken (relinquishRules l w)) 0 z))
       (record { slots = h .slots; warp = fixes (l .fixed) (l .warp) w (a .0) ∙ ap (λ (o : Option ℕ). fixed o w) (h .warp); relinquished = refl })
 

@@ -11,6 +11,7 @@ use lib.ListN.{getD, length}
 use Rattle.laws.specs.Rules.{firstBroken}
 use Rattle.tokens.specs.declared.Name.{Name}
 use Rattle.statement.specs.declared.Statement.the-variants.{Alloc, Dealloc, Relinquish}
+use Rattle.statement.specs.Views as act
 use Rattle.rules.specs.State as rules
 use Rattle.rules.specs.State.{State, Allocation, lowest}
 use Rattle.rules.specs.Reasons.{openRules}
@@ -66,7 +67,7 @@ pub record Tells (l : Ledger) (s : State) : Type 0 where
   pub release : (n : Name) (held w k : ℕ) → firstBroken (openRules lowest s held w (Dealloc n k)) ≡ releaseOf l n w k .reason
   pub relinquish : (held w : ℕ) → firstBroken (openRules lowest s held w Relinquish) ≡ relinquishOf l w .reason
   -- and the next ledger of a method that accepts shows what the line does
-  pub allocated : (n : Name) (w k : ℕ) → allocOf l n w k .reason ≡ 0 → Shows (allocOf l n w k .next) (effect lowest s w (Alloc n k))
+  pub allocated : (n : Name) (w k : ℕ) → allocOf l n w k .reason ≡ 0 → Shows (allocOf l n w k .next) (effect lowest s w (act.requests n k))
   pub started : (n : Name) (w k : ℕ) → allocOf l n w k .reason ≡ 0 → startList (lowest (s .live) k) ≡ allocOf l n w k .start ∷ []
-  pub released : (n : Name) (w k : ℕ) → releaseOf l n w k .reason ≡ 0 → Shows (releaseOf l n w k .next) (effect lowest s w (Dealloc n k))
-  pub relinquished : (w : ℕ) → relinquishOf l w .reason ≡ 0 → Shows (relinquishOf l w .next) (effect lowest s w Relinquish)
+  pub released : (n : Name) (w k : ℕ) → releaseOf l n w k .reason ≡ 0 → Shows (releaseOf l n w k .next) (effect lowest s w (act.releases n k))
+  pub relinquished : (w : ℕ) → relinquishOf l w .reason ≡ 0 → Shows (relinquishOf l w .next) (effect lowest s w act.relinquishes)

@@ -5,3 +5,4 @@ pub mod SheetLaws
 pub mod SheetTheorems
 pub mod Examples
 pub mod ReaderTheorems
+pub mod LimitsProved

@@ -4,8 +4,8 @@ use Prim.Native.Nat.{ℕ, zero, suc, _+_, _-_, _*_, _<_, _≤_}
 use native.Mathlib.Omega.{arith}
 use mathlib.Core.Path.{_≡_, refl, sym, ap, _∙_, subst}
 use mathlib.Core.List.{List, [], _∷_, _++_, append-nil}
-use mathlib.Core.Bool.{Bool, true, false, cond}
-use mathlib.Core.Option.{none, some}
+use mathlib.Core.Bool.{Bool, true, false, cond, _||_}
+use mathlib.Core.Option.{Option, none, some}
 use mathlib.Core.Logic.{inl}
 use lib.ListN.{length, getD, drop, replicate, length-append, length-replicate, List·getD-append, List·getD-eq-default}
 use lib.Seq.{sets, sets-eq, getD-append-add, getD-drop}
@@ -16,14 +16,14 @@ use Rattle.laws.proofs.BoolLaws.{or-neither}
 use Rattle.laws.proofs.TestLaws.{never, each}
 use Rattle.tokens.specs.Numbers.{decimal}
 use Rattle.request.specs.Request.{legal}
-use Rattle.statement.specs.declared.Statement.the-variants.{Mov32, Mov64, Alloc, Dealloc, Relinquish, Load, Store, WaitLoad, WaitStore, FenceBefore, FenceAfter, Multiply, Exit}
+use Rattle.statement.specs.Views as act
+use Rattle.statement.specs.Views.{Ask, Act, requestIn, requestOf, exitIn, of}
 use Rattle.lines.specs.Sheet.{Content, fault, contentAfter, lineCount, headed, oversize}
 use Rattle.rules.specs.declared.Answer.{Answer}
 use Rattle.rules.specs.State.{State, Allocation, slot, lowest}
-use Rattle.rules.specs.Reasons.{sized}
-use Rattle.rules.specs.Sheet.{Line, badLayout, noForm, tooLarge, statement, ours, given, startList, heldAfter, stateBy, startsBy, rulesBy, lineRules, answer, answerOf, startsOf, placesAfter}
+use Rattle.rules.specs.Sheet.{Line, actIn, ours, given, startList, heldAfter, stateBy, startsBy, rulesBy, lineRules, answer, answerOf, startsOf, placesAfter}
 use Rattle.rules.specs.Claims.{AllKept, Passed, exits}
-use Rattle.rules.proofs.RuleLaws.{accepted}
+use Rattle.rules.proofs.RuleLaws.{accepted-line, request-kept}
 use Rattle.rules.proofs.RulesProved.{Clear, passing-clear, clear-passed, passed-figures}
 use Rattle.rules.proofs.FiguresProved.{figures-exact}
 use Rattle.progress.specs.Going.{seen}
@@ -149,22 +149,11 @@ low-start l v = by (ltb (slot l v) 16) refl
 
 low-given : (s : State) (x : Line) → Low (given lowest s x)
 unfolding given
-low-given s badLayout = tt
-low-given s noForm = tt
-low-given s tooLarge = tt
-low-given s (statement w (Mov32 n v)) = tt
-low-given s (statement w (Mov64 n v)) = tt
-low-given s (statement w (Alloc n v)) = low-start (s .live) v
-low-given s (statement w (Dealloc n v)) = tt
-low-given s (statement w Relinquish) = tt
-low-given s (statement w (Load a)) = tt
-low-given s (statement w (Store a)) = tt
-low-given s (statement w WaitLoad) = tt
-low-given s (statement w WaitStore) = tt
-low-given s (statement w FenceBefore) = tt
-low-given s (statement w FenceAfter) = tt
-low-given s (statement w (Multiply m)) = tt
-low-given s (statement w Exit) = tt
+low-given s x = by (requestIn (actIn x))
+  where
+    by : (o : Option Ask) → Low (of o (λ r. startList (lowest (s .live) (r .columns))) [])
+    by none = tt
+    by (some r) = low-start (s .live) (r .columns)
 
 pub starts-low : (line : ℕ → Line) (k : ℕ) → Low (startsBy ours line k)
 unfolding startsBy
@@ -178,23 +167,12 @@ legal-most v h =
 
 -- the row of a line that is accepted
 small-row : (s : State) (held : ℕ) (x : Line) (v : ℕ) → v < 512 → AllKept (lineRules lowest s held x) → Small (rowOf x v)
-unfolding rowOf sized
-small-row s held badLayout v h k = tt
-small-row s held noForm v h k = tt
-small-row s held tooLarge v h k = tt
-small-row s held (statement w (Mov32 n c)) v h k = tt
-small-row s held (statement w (Mov64 n c)) v h k = tt
-small-row s held (statement w (Alloc n c)) v h k = ((omega (arith, h), omega (arith, legal-most c (accepted lowest s held w (Alloc n c) (k .1) .sizes))), tt)
-small-row s held (statement w (Dealloc n c)) v h k = tt
-small-row s held (statement w Relinquish) v h k = tt
-small-row s held (statement w (Load a)) v h k = tt
-small-row s held (statement w (Store a)) v h k = tt
-small-row s held (statement w WaitLoad) v h k = tt
-small-row s held (statement w WaitStore) v h k = tt
-small-row s held (statement w FenceBefore) v h k = tt
-small-row s held (statement w FenceAfter) v h k = tt
-small-row s held (statement w (Multiply m)) v h k = tt
-small-row s held (statement w Exit) v h k = tt
+unfolding rowOf
+small-row s held x v h k = accepted-line lowest s held x k (λ x. Small (rowOf x v)) (λ w t p a. by (requestOf t) (λ r e. request-kept lowest s held w t a r e .0))
+  where
+    by : (o : Option Ask) → ((r : Ask) → o ≡ some r → legal (r .columns) ≡ true) → Small (of o (λ r. record { name = r .name; start = v; columns = r .columns } ∷ []) [])
+    by none f = tt
+    by (some r) f = ((omega (arith, h), omega (arith, legal-most (r .columns) (f r refl))), tt)
 
 small-append : (l m : List Reported) → Small l → Small m → Small (l ++ m)
 small-append [] m p q = q
@@ -211,22 +189,17 @@ small-rows line starts l (suc n) h =
 
 exit-row : (x : Line) (v : ℕ) → exits x ≡ true → rowOf x v ≡ []
 unfolding rowOf
-exit-row badLayout v e = refl
-exit-row noForm v e = refl
-exit-row tooLarge v e = refl
-exit-row (statement w (Mov32 n c)) v e = refl
-exit-row (statement w (Mov64 n c)) v e = refl
-exit-row (statement w (Alloc n c)) v e = never e
-exit-row (statement w (Dealloc n c)) v e = refl
-exit-row (statement w Relinquish) v e = refl
-exit-row (statement w (Load a)) v e = refl
-exit-row (statement w (Store a)) v e = refl
-exit-row (statement w WaitLoad) v e = refl
-exit-row (statement w WaitStore) v e = refl
-exit-row (statement w FenceBefore) v e = refl
-exit-row (statement w FenceAfter) v e = refl
-exit-row (statement w (Multiply m)) v e = refl
-exit-row (statement w Exit) v e = refl
+exit-row x v e = by (actIn x) e
+  where
+    by : (x : Act) → exitIn x ≡ true → of {B = List Reported} (requestIn x) (λ r. record { name = r .name; start = v; columns = r .columns } ∷ []) [] ≡ []
+    by (act.binds n width c) e = refl
+    by (act.requests n c) e = never e
+    by (act.releases n c) e = refl
+    by act.relinquishes e = refl
+    by (act.accesses a) e = refl
+    by (act.multiplies m) e = refl
+    by act.exits e = refl
+    by act.nothing e = refl
 
 last-row : (line : ℕ → Line) (starts : List ℕ) (m : ℕ) → exits (line m) ≡ true → length (rowsUpTo line starts (suc m)) ≤ m
 unfolding rowsUpTo

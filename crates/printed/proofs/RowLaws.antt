@@ -19,12 +19,12 @@ use Rattle.statement.specs.declared.Reading.{Reading}
 use Rattle.statement.specs.declared.Reading.the-variants.{Got, NoForm, TooLarge}
 use Rattle.statement.specs.declared.Statement.{Statement}
 use Rattle.statement.specs.declared.Statement.the-variants.{Mov32, Mov64, Alloc, Dealloc, Relinquish, Load, Store, WaitLoad, WaitStore, FenceBefore, FenceAfter, Multiply, Exit}
-use Rattle.statement.specs.Views.{Ask, requestOf, of}
+use Rattle.statement.specs.Views.{Ask, requestIn, requestOf, of}
 use Rattle.statement.proofs.Readings.{Unread}
 use Rattle.lines.specs.Sheet.{Content, laid, contentAfter, lineCount, lineAt, headed, bodyAt, After}
 use Rattle.lines.specs.declared.Line as found
 use Rattle.lines.proofs.SheetTheorems.{after-header, one-more, all-done, step-laid, step-after}
-use Rattle.rules.specs.Sheet.{Line, badLayout, noForm, tooLarge, statement, lineOf}
+use Rattle.rules.specs.Sheet.{Line, actIn, lineOf}
 use Rattle.progress.specs.Going.{seen}
 use Rattle.judge.specs.Judged.{linesOf}
 use Rattle.report.specs.Report.{Reported, rowText, rowsText, putText, putEnd}
@@ -60,22 +60,10 @@ alloc-other FenceAfter h = refl
 alloc-other (Multiply m) h = refl
 alloc-other Exit h = refl
 
-no-form : (x : ℕ) → rowOf noForm x ≡ []
-unfolding rowOf
-no-form x = refl
-
-too-large : (x : ℕ) → rowOf tooLarge x ≡ []
-unfolding rowOf
-too-large x = refl
-
 row-by : (o : Option Ask) (x : ℕ)
     → of o (λ r. record { name = r .name; start = x; columns = r .columns } ∷ []) [] ≡ rowBy (of o (λ r. record { ok = true; name = r .name; columns = r .columns }) noAlloc) x
 row-by none x = refl
 row-by (some r) x = refl
-
-statement-row : (w : ℕ) (t : Statement) (x : ℕ) → rowOf (statement w t) x ≡ rowBy (allocOf t) x
-unfolding rowOf allocOf
-statement-row w t x = row-by (requestOf t) x
 
 -- a text that does not read asks for nothing
 pub alloc-unread : (r : Reading) → Unread r → noAlloc ≡ allocIn r
@@ -84,9 +72,10 @@ alloc-unread (NoForm at) h = refl
 alloc-unread (TooLarge at) h = refl
 
 line-row : (w : ℕ) (r : Reading) (x : ℕ) → rowOf (lineOf w r) x ≡ rowBy (allocIn r) x
-line-row w (Got t) x = statement-row w t x
-line-row w (NoForm at) x = no-form x
-line-row w (TooLarge at) x = too-large x
+unfolding rowOf allocOf
+line-row w (Got t) x = row-by (requestOf t) x
+line-row w (NoForm at) x = refl
+line-row w (TooLarge at) x = refl
 
 -- the row of a line by its content
 content-row : (s : List ℕ) (k w : ℕ) (t : List ℕ) (x : ℕ) → contentAfter (suc k) s ≡ laid w t → rowOf (linesOf s k) x ≡ rowBy (allocIn (readOf t)) x
@@ -110,10 +99,7 @@ few-by (some r) x = omega arith
 
 row-le : (x : Line) (v : ℕ) → length (rowOf x v) ≤ 1
 unfolding rowOf
-row-le badLayout v = omega arith
-row-le noForm v = omega arith
-row-le tooLarge v = omega arith
-row-le (statement w t) v = few-by (requestOf t) v
+row-le x v = few-by (requestIn (actIn x)) v
 
 module _ (line : ℕ → Line) (starts : List ℕ) where
   abbrev upTo : ℕ → List Reported

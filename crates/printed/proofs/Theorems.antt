@@ -3,7 +3,7 @@
 use Prim.Native.Nat.{ℕ, zero, suc, _-_, _<_, _≤_}
 use native.Mathlib.Omega.{arith}
 use mathlib.Core.Path.{_≡_, refl}
-use mathlib.Core.List.{List}
+use mathlib.Core.List.{List, [], _∷_}
 use mathlib.Core.Bool.{true}
 use mathlib.Core.Option.{Option, none, some}
 use lib.ListN.{length, getD, take, length-append}
@@ -11,15 +11,14 @@ use lib.Dec.{leb}
 use borrow.Author.Tests.{le-leb}
 use Rattle.laws.specs.Tests.{isSome}
 use Rattle.laws.proofs.TestLaws.{never}
-use Rattle.statement.specs.declared.Statement.the-variants.{Mov32, Mov64, Alloc, Dealloc, Relinquish, Load, Store, WaitLoad, WaitStore, FenceBefore, FenceAfter, Multiply, Exit}
+use Rattle.statement.specs.Views.{Ask, requestOf, of}
 use Rattle.lines.specs.Sheet.{lineCount}
 use Rattle.rules.specs.State.{State, lowest}
-use Rattle.rules.specs.Reasons.{placed}
-use Rattle.rules.specs.Sheet.{Line, badLayout, noForm, tooLarge, statement, ours, given, startList, heldAfter, stateBy, startsBy, rulesBy, lineRules, startsOf}
+use Rattle.rules.specs.Sheet.{Line, ours, given, startList, heldAfter, stateBy, startsBy, rulesBy, lineRules, startsOf}
 use Rattle.rules.specs.Claims.{AllKept}
-use Rattle.rules.proofs.RuleLaws.{accepted}
+use Rattle.rules.proofs.RuleLaws.{accepted-line, request-kept}
 use Rattle.judge.specs.Judged.{linesOf, sheetOf}
-use Rattle.report.specs.Report.{reportRoom}
+use Rattle.report.specs.Report.{Reported, reportRoom}
 use Rattle.report.proofs.ReportLaws.{put-whole}
 use Rattle.printed.specs.Printed.{rowOf, rowsUpTo, rowsOf, answered, reportOf, printedOf, roomAfter}
 use Rattle.printed.proofs.PassLaws.{report-fits, is-passed}
@@ -40,23 +39,14 @@ one-start none e = never e
 one-start (some x) e = refl
 
 row-start : (s : State) (held : ℕ) (x : Line) (v : ℕ) → AllKept (lineRules lowest s held x) → length (rowOf x v) ≡ length (given lowest s x)
-unfolding rowOf given placed
-row-start s held badLayout v k = refl
-row-start s held noForm v k = refl
-row-start s held tooLarge v k = refl
-row-start s held (statement w (Mov32 n c)) v k = refl
-row-start s held (statement w (Mov64 n c)) v k = refl
-row-start s held (statement w (Alloc n c)) v k = one-start (lowest (s .live) c) (accepted lowest s held w (Alloc n c) (k .1) .places)
-row-start s held (statement w (Dealloc n c)) v k = refl
-row-start s held (statement w Relinquish) v k = refl
-row-start s held (statement w (Load a)) v k = refl
-row-start s held (statement w (Store a)) v k = refl
-row-start s held (statement w WaitLoad) v k = refl
-row-start s held (statement w WaitStore) v k = refl
-row-start s held (statement w FenceBefore) v k = refl
-row-start s held (statement w FenceAfter) v k = refl
-row-start s held (statement w (Multiply m)) v k = refl
-row-start s held (statement w Exit) v k = refl
+unfolding rowOf given
+row-start s held x v k =
+    accepted-line lowest s held x k (λ x. length (rowOf x v) ≡ length (given lowest s x)) (λ w t p a. by (requestOf t) (λ r e. request-kept lowest s held w t a r e .1))
+  where
+    by : (o : Option Ask) → ((r : Ask) → o ≡ some r → isSome (lowest (s .live) (r .columns)) ≡ true)
+        → length {A = Reported} (of o (λ r. record { name = r .name; start = v; columns = r .columns } ∷ []) []) ≡ length (of o (λ r. startList (lowest (s .live) (r .columns))) [])
+    by none f = refl
+    by (some r) f = one-start (lowest (s .live) (r .columns)) (f r refl)
 
 rows-starts : (line : ℕ → Line) (starts : List ℕ) (n : ℕ) → ((k : ℕ) → k < n → AllKept (rulesBy ours line k)) → length (rowsUpTo line starts n) ≡ length (startsBy ours line n)
 unfolding rowsUpTo startsBy

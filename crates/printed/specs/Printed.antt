@@ -6,10 +6,10 @@ use mathlib.Core.List.{List, [], _∷_, _++_}
 use lib.ListN.{length, getD}
 use lib.Seq.{sets}
 use lib.Dec.{leb}
-use Rattle.statement.specs.Views.{requestOf, of}
+use Rattle.statement.specs.Views.{requestIn, of}
 use Rattle.lines.specs.Sheet.{lineCount}
 use Rattle.rules.specs.declared.Answer.{Answer}
-use Rattle.rules.specs.Sheet.{Line, badLayout, noForm, tooLarge, statement, startsOf}
+use Rattle.rules.specs.Sheet.{Line, actIn, startsOf}
 use Rattle.rules.specs.Claims.{Passing}
 use Rattle.run.specs.Demand3.{Demand3}
 use Rattle.judge.specs.Judged.{linesOf, sheetOf, judgedOf}
@@ -18,10 +18,7 @@ use Rattle.printed.specs.declared.Printed.{Printed}
 
 -- the row of a line: an alloc has its name, its start and its columns; no other line has a row
 unfoldable pub rowOf : Line → ℕ → List Reported
-rowOf badLayout start = []
-rowOf noForm start = []
-rowOf tooLarge start = []
-rowOf (statement w t) start = of (requestOf t) (λ r. record { name = r .name; start = start; columns = r .columns } ∷ []) []
+rowOf x start = of (requestIn (actIn x)) (λ r. record { name = r .name; start = start; columns = r .columns } ∷ []) []
 
 -- the rows of the first k lines after line 1, in order: each alloc takes the next start
 unfoldable pub rowsUpTo : (ℕ → Line) → List ℕ → ℕ → List Reported

@@ -11,14 +11,15 @@ use lib.ListN.{length, take, drop, length-append}
 use borrow.Author.Tests.{ltb-true}
 use Rattle.lines.specs.declared.Line as lines
 use Rattle.lines.specs.Sheet.{fault, laid, contentSeen}
+use Rattle.laws.proofs.BoolLaws.{and-r}
 use Rattle.request.specs.Request.{legal}
 use Rattle.request.proofs.RequestLaws.{request-exact}
-use Rattle.statement.specs.Views.{Ask, requestOf, releaseOf, for, holds, of}
+use Rattle.statement.specs.Views.{Ask, requestIn, requestOf, releaseOf, for, holds, of}
 use Rattle.rules.specs.State.{State, Allocation, slot, lowest, columnsOf}
 use Rattle.rules.specs.Reasons.{sized}
-use Rattle.rules.specs.Sheet.{Line, badLayout, noForm, tooLarge, statement, lineRules, startList, given, requested, released, sum, heldAfter, ours, stateAfter, startsBy, startsUpTo, rulesBy}
+use Rattle.rules.specs.Sheet.{Line, actIn, lineRules, startList, given, requested, released, sum, heldAfter, ours, stateAfter, startsBy, startsUpTo, rulesBy}
 use Rattle.rules.specs.Claims.{AllKept}
-use Rattle.rules.proofs.RuleLaws.{accepted}
+use Rattle.rules.proofs.RuleLaws.{accepted-line}
 
 -- a line found by places: a layout fault, or its warp and the bytes of its statement
 pub fault-seen : (s : List ℕ) (l : lines.Line) → l .ok ≡ false → contentSeen s l ≡ fault
@@ -32,15 +33,13 @@ laid-seen s l h = ap (λ (b : Bool). cond b (laid (l .warp) (take (l .end - l .s
 -- ---- what is asked for
 asked-by : (s : State) (o p : Option Ask) → holds (for o (λ r. legal (r .columns)) ∷ for p (λ r. eqb (columnsOf (r .name) (s .live)) (r .columns)) ∷ []) ≡ true → of o (λ r. r .columns) 0 ≤ 512
 asked-by s none p e = omega arith
-asked-by s (some r) p e = request-exact (r .columns) .power e .most
+asked-by s (some r) p e =
+    request-exact (r .columns) .power (and-r (holds (for p (λ r. eqb (columnsOf (r .name) (s .live)) (r .columns)) ∷ [])) (legal (r .columns)) e) .most
 
 -- an accepted line asks for at most 512 columns
 pub asked-most : (s : State) (held : ℕ) (x : Line) → AllKept (lineRules lowest s held x) → requested x ≤ 512
 unfolding requested sized
-asked-most s held badLayout h = omega arith
-asked-most s held noForm h = omega arith
-asked-most s held tooLarge h = omega arith
-asked-most s held (statement w t) h = asked-by s (requestOf t) (releaseOf t) (accepted lowest s held w t (h .1) .sizes)
+asked-most s held x h = accepted-line lowest s held x h (λ x. requested x ≤ 512) (λ w t p a. asked-by s (requestOf t) (releaseOf t) (a .sizes))
 
 -- k accepted lines hold at most 512 columns for each
 sum-most : (line : ℕ → Line) (k : ℕ) → ((j : ℕ) → j < k → AllKept (rulesBy ours line j)) → sum requested line k ≤ 512 * k
@@ -65,10 +64,7 @@ given-by s (some r) = one-start (lowest (s .live) (r .columns))
 
 given-few : (s : State) (x : Line) → length (given lowest s x) ≤ 1
 unfolding given
-given-few s badLayout = omega arith
-given-few s noForm = omega arith
-given-few s tooLarge = omega arith
-given-few s (statement w t) = given-by s (requestOf t)
+given-few s x = given-by s (requestIn (actIn x))
 
 pub starts-few : (line : ℕ → Line) (k : ℕ) → length (startsUpTo line k) ≤ k
 unfolding startsBy
@@ -97,7 +93,4 @@ start-by s (some r) start e = place-below (slot (s .live) (r .columns)) start (l
 -- a start is below 512
 pub start-below : (s : State) (x : Line) (start : ℕ) → given lowest s x ≡ start ∷ [] → start < 512
 unfolding given
-start-below s badLayout start e = none-below start e
-start-below s noForm start e = none-below start e
-start-below s tooLarge start e = none-below start e
-start-below s (statement w t) start e = start-by s (requestOf t) start e
+start-below s x start e = start-by s (requestIn (actIn x)) start e

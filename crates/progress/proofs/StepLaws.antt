@@ -17,6 +17,7 @@ use Rattle.statement.specs.declared.Reading.{Reading}
 use Rattle.statement.specs.declared.Reading.the-variants.{Got, NoForm, TooLarge}
 use Rattle.statement.specs.Reading.{readOf, reasonOf}
 use Rattle.statement.proofs.Readings.{Unread}
+use Rattle.statement.specs.Views.{actOf}
 use Rattle.rules.specs.State.{State, lowest}
 use Rattle.rules.specs.Reasons.{rules}
 use Rattle.rules.specs.Sheet.{Line, badLayout, noForm, tooLarge, statement, lineRules, lineOf, effect, given, requested, released}
@@ -54,7 +55,7 @@ unread-done held w (TooLarge at) h a status r e = refused-done held tooLarge 4 (
 read-done : (held w : ℕ) (t : Statement) (a : Arrays) (status : Status) (r : Step) (b : Arrays) → w < 4 → StatementDone held w t a status r b → LineDone held (statement w t) a status r b
 read-done held w t a status r b h d s k =
     let q : firstBroken (lineRules lowest s held (statement w t)) ≡ firstBroken (rules lowest s held w t) = ap (λ (x : Bool). cond x (firstBroken (rules lowest s held w t)) 2) (lt-ltb w 4 h) in
-    subst (λ (n : ℕ). Gives n (effect lowest s w t) (given lowest s (statement w t)) (requested (statement w t)) (released (statement w t)) a status r b) (sym q) (d s k)
+    subst (λ (n : ℕ). Gives n (effect lowest s w (actOf t)) (given lowest s (statement w t)) (requested (statement w t)) (released (statement w t)) a status r b) (sym q) (d s k)
 
 module _ (s : List ℕ) (at held : ℕ) (l : lines.Line) (e : l ≡ lineAt s at) where
   abbrev text : List ℕ

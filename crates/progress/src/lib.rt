@@ -8,7 +8,7 @@ ghost use Prim.Native.Nat.{_+_, _-_, _%_, _≤_, _<_, max};
 ghost use lib.Dec.{eqb};
 ghost use lib.ListN.{length, set};
 ghost use Rattle.lines.specs.Sheet.{lineAt};
-ghost use Rattle.steps.specs.Steps.{arrays, only, Sized, LineDone};
+ghost use Rattle.steps.specs.Steps.{arraysNow, arraysIn, arraysOut, only, Sized, LineDone};
 ghost use Rattle.progress.specs.Going.{opening, lineSeen, passedBy, countedOf, Small, Ready, Went};
 
 // What is known after some accepted lines, beside the arrays and the starts: what is kept, the requests, the columns held and
@@ -82,9 +82,9 @@ fn step(
     status: Status,
     held: u32,
 ) -> Stepped
-    requires { ⌜ Sized (arrays (now hi) (now lo) (now columns) (now «value_hi») (now «value_lo») (now numbers) (now widths)) ⌝ }
-    ensures done { λ r. ⌜ LineDone held (lineSeen (now (sheet .entry)) at) (arrays (now (hi .entry)) (now (lo .entry)) (now (columns .entry)) (now («value_hi» .entry)) (now («value_lo» .entry)) (now (numbers .entry)) (now (widths .entry))) status (r .step)
-        (arrays (now (hi .exit)) (now (lo .exit)) (now (columns .exit)) (now («value_hi» .exit)) (now («value_lo» .exit)) (now (numbers .exit)) (now (widths .exit))) ⌝ }
+    requires { ⌜ Sized (arraysNow hi lo columns «value_hi» «value_lo» numbers widths) ⌝ }
+    ensures done { λ r. ⌜ LineDone held (lineSeen (now (sheet .entry)) at) (arraysIn hi lo columns «value_hi» «value_lo» numbers widths) status (r .step)
+        (arraysOut hi lo columns «value_hi» «value_lo» numbers widths) ⌝ }
     ensures next { λ r. ⌜ r .next ≡ lineAt (now (sheet .entry)) at .next ⌝ }
 {
     let line = lines::line_at(sheet, at);
@@ -196,9 +196,9 @@ pub fn advance(
     given: &mut [u16; 4096],
     p: Progress,
 ) -> Advanced
-    requires { ⌜ Ready (lineSeen (now sheet) at) (now given) (arrays (now hi) (now lo) (now columns) (now «value_hi») (now «value_lo») (now numbers) (now widths)) p ⌝ }
-    ensures went { λ r. ⌜ Went (lineSeen (now (sheet .entry)) at) (now (given .entry)) (arrays (now (hi .entry)) (now (lo .entry)) (now (columns .entry)) (now («value_hi» .entry)) (now («value_lo» .entry)) (now (numbers .entry)) (now (widths .entry))) p r (now (given .exit))
-        (arrays (now (hi .exit)) (now (lo .exit)) (now (columns .exit)) (now («value_hi» .exit)) (now («value_lo» .exit)) (now (numbers .exit)) (now (widths .exit))) ⌝ }
+    requires { ⌜ Ready (lineSeen (now sheet) at) (now given) (arraysNow hi lo columns «value_hi» «value_lo» numbers widths) p ⌝ }
+    ensures went { λ r. ⌜ Went (lineSeen (now (sheet .entry)) at) (now (given .entry)) (arraysIn hi lo columns «value_hi» «value_lo» numbers widths) p r (now (given .exit))
+        (arraysOut hi lo columns «value_hi» «value_lo» numbers widths) ⌝ }
     ensures next { λ r. ⌜ r .next ≡ lineAt (now (sheet .entry)) at .next ⌝ }
 {
     let status = p.status;

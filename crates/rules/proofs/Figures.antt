@@ -9,13 +9,14 @@ use native.Mathlib.Omega.{arith}
 use Rattle.laws.specs.Tests.{isSome}
 use Rattle.tokens.specs.declared.Name.{Name}
 use Rattle.tokens.specs.Names.{sameName}
+use Rattle.statement.specs.declared.Statement.{Statement}
 use Rattle.statement.specs.Views as act
 use Rattle.statement.specs.Views.{Act, actOf, requestIn, releaseIn, of}
 use Rattle.rules.specs.State.{State, Allocation, Placer, isLive, columnsOf, without, total}
-use Rattle.rules.specs.Sheet.{Line, badLayout, noForm, tooLarge, statement, Placing, lineRules, lineEffect, acted, effect, added, requested, released, sum, heldAfter, stateBy, rulesBy}
+use Rattle.rules.specs.Sheet.{Line, Placing, lineRules, lineEffect, effect, added, requested, released, sum, heldAfter, stateBy, rulesBy}
 use Rattle.rules.specs.Claims.{AllKept}
 use Rattle.laws.proofs.BoolLaws.{clash}
-use Rattle.rules.proofs.RuleLaws.{accepted, request-kept, releases-kept}
+use Rattle.rules.proofs.RuleLaws.{Accepted, accepted-line, request-kept, releases-kept}
 
 -- taking out an allocation takes its columns
 pub total-without : (n : Name) (l : List Allocation) → isLive n l ≡ true → total (without n l) + columnsOf n l ≡ total l
@@ -37,23 +38,22 @@ total-added n v (some s) l e = refl
 -- one accepted line
 balance-step : (place : Placer) (s : State) (held : ℕ) (x : Line) → AllKept (lineRules place s held x) → total (s .live) + requested x ≡ total (lineEffect place s x .live) + released x
 unfolding effect requested released
-balance-step place s held badLayout h = refl
-balance-step place s held noForm h = refl
-balance-step place s held tooLarge h = refl
-balance-step place s held (statement w t) h = at (actOf t) refl
+balance-step place s held x h =
+    accepted-line place s held x h (λ x. total (s .live) + requested x ≡ total (lineEffect place s x .live) + released x) (λ w t p a. at w t a (actOf t) refl)
   where
-    at : (x : Act) → actOf t ≡ x → total (s .live) + of (requestIn x) (λ r. r .columns) 0 ≡ total (acted place s w x .live) + of (releaseIn x) (λ r. r .columns) 0
-    at (act.binds n width v) e = refl
-    at (act.requests n v) e =
-        omega (arith, total-added n v (place (s .live) v) (s .live) (request-kept place s held w t (accepted place s held w t (h .1)) (record { name = n; columns = v }) (ap requestIn e) .1))
-    at (act.releases n v) e =
-        let k = releases-kept place s held w t (accepted place s held w t (h .1)) n v e in
+    at : (w : ℕ) (t : Statement) → Accepted place s held w t → (x : Act) → actOf t ≡ x
+        → total (s .live) + of (requestIn x) (λ r. r .columns) 0 ≡ total (effect place s w x .live) + of (releaseIn x) (λ r. r .columns) 0
+    at w t a (act.binds n width v) e = refl
+    at w t a (act.requests n v) e =
+        omega (arith, total-added n v (place (s .live) v) (s .live) (request-kept place s held w t a (record { name = n; columns = v }) (ap requestIn e) .1))
+    at w t a (act.releases n v) e =
+        let k = releases-kept place s held w t a n v e in
         omega (arith, total-without n (s .live) (k .0), k .1)
-    at act.relinquishes e = refl
-    at (act.accesses a) e = refl
-    at (act.multiplies m) e = refl
-    at act.exits e = refl
-    at act.nothing e = refl
+    at w t a act.relinquishes e = refl
+    at w t a (act.accesses x) e = refl
+    at w t a (act.multiplies m) e = refl
+    at w t a act.exits e = refl
+    at w t a act.nothing e = refl
 
 module _ (placing : Placing) (line : ℕ → Line) where
   -- what is asked for is what was given back and what is live

@@ -12,30 +12,28 @@ use Rattle.statement.specs.Views as act
 use Rattle.statement.specs.Views.{Act, actOf, exitIn}
 use Rattle.rules.specs.declared.Answer.{Answer}
 use Rattle.rules.specs.State.{State, Placer, total}
-use Rattle.rules.specs.Sheet.{Line, badLayout, noForm, tooLarge, statement, Sheet, Placing, lineRules, lineEffect, acted, effect, stateBy, startsBy, reasonBy, stopBy, sum, heldAfter, peakUpTo, answer, answerBy}
-use Rattle.rules.specs.Claims.{AllKept, exits, acceptedLines, liveAfter, FiguresExact}
+use Rattle.rules.specs.Sheet.{Line, Sheet, Placing, lineRules, lineEffect, effect, stateBy, startsBy, reasonBy, stopBy, sum, heldAfter, peakUpTo, answer, answerBy}
+use Rattle.rules.specs.Claims.{AllKept, exits, acceptedLines, liveAfter, MostLive, FiguresExact}
 use Rattle.laws.proofs.BoolLaws.{bool, clash}
-use Rattle.rules.proofs.RuleLaws.{accepted, exits-kept}
+use Rattle.rules.proofs.RuleLaws.{accepted-line, exits-kept}
 use Rattle.rules.proofs.Figures.{held-total}
 use Rattle.rules.proofs.RulesProved.{zero-kept, stop-le, stop-hit, stop-before, stop-none, Clear, clear-passed, passing-clear, bad-header, at-stop, at-end}
 
 -- an accepted exit leaves nothing live
 exit-clears : (place : Placer) (s : State) (held : ℕ) (x : Line) → held ≡ total (s .live) → AllKept (lineRules place s held x) → exits x ≡ true → total (lineEffect place s x .live) ≡ 0
 unfolding effect
-exit-clears place s held badLayout q h e = absurd (clash e refl)
-exit-clears place s held noForm q h e = absurd (clash e refl)
-exit-clears place s held tooLarge q h e = absurd (clash e refl)
-exit-clears place s held (statement w t) q h e = at (actOf t) e
+exit-clears place s held x q h =
+    accepted-line place s held x h (λ x. exits x ≡ true → total (lineEffect place s x .live) ≡ 0) (λ w t p a e. at w (actOf t) e (sym q ∙ exits-kept place s held w t a e))
   where
-    at : (x : Act) → exitIn x ≡ true → total (acted place s w x .live) ≡ 0
-    at (act.binds n width v) f = absurd (clash f refl)
-    at (act.requests n v) f = absurd (clash f refl)
-    at (act.releases n v) f = absurd (clash f refl)
-    at act.relinquishes f = absurd (clash f refl)
-    at (act.accesses a) f = absurd (clash f refl)
-    at (act.multiplies m) f = absurd (clash f refl)
-    at act.exits f = sym q ∙ exits-kept place s held w t (accepted place s held w t (h .1)) e
-    at act.nothing f = absurd (clash f refl)
+    at : (w : ℕ) (x : Act) → exitIn x ≡ true → total (s .live) ≡ 0 → total (effect place s w x .live) ≡ 0
+    at w (act.binds n width v) f z = absurd (clash f refl)
+    at w (act.requests n v) f z = absurd (clash f refl)
+    at w (act.releases n v) f z = absurd (clash f refl)
+    at w act.relinquishes f z = absurd (clash f refl)
+    at w (act.accesses a) f z = absurd (clash f refl)
+    at w (act.multiplies m) f z = absurd (clash f refl)
+    at w act.exits f z = z
+    at w act.nothing f z = absurd (clash f refl)
 
 -- ---- the peak
 held-first : (line : ℕ → Line) → heldAfter line 0 ≡ 0
@@ -170,15 +168,24 @@ module _ (placing : Placing) (sheet : Sheet) (room : ℕ) where
   all-accepted : Clear placing sheet → acceptedLines placing sheet room ≡ size
   all-accepted c = ap (λ b. cond b stop 0) (c .header) ∙ stop-none placing lines size (c .zeros)
 
+  -- the peak after some accepted lines is the most that was live
+  most-live : (n : ℕ) → n ≤ stop → MostLive placing sheet room n (peakUpTo lines n)
+  most-live n p =
+      let o = peak-once lines n in
+      record {
+        most = λ k h. omega (arith, live-held n k p h, peak-most lines n k h);
+        once = (o .0, (o .1 .0, sym (live-held n (o .0) p (o .1 .0)) ∙ o .1 .1));
+      }
+
   -- under any placing, for every sheet and every number of places lent
   pub figures-exact : FiguresExact placing sheet room
   figures-exact =
       let n = acceptedLines placing sheet room in
-      let o = peak-once lines n in
       record {
+        held-each = λ k h. live-held n k (stands .few) h;
+        peak-each = λ k h. most-live k (omega (arith, h, stands .few));
         held = stands .held;
         nothing = λ p. let c = passing-clear placing sheet room p in subst (λ m. live m ≡ 0) (sym (all-accepted c)) (clear-nothing c);
-        most = λ k h. omega (arith, stands .peak, live-held n k (stands .few) h, peak-most lines n k h);
-        once = (o .0, (o .1 .0, sym (live-held n (o .0) (stands .few) (o .1 .0)) ∙ o .1 .1 ∙ sym (stands .peak)));
+        peak = subst (λ v. MostLive placing sheet room n v) (sym (stands .peak)) (most-live n (stands .few));
         roomy = stands .roomy;
       }

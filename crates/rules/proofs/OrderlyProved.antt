@@ -12,15 +12,16 @@ use lib.ListN.{length}
 use borrow.Author.Tests.{not-true, ltb-true}
 use Rattle.tokens.specs.declared.Name.{Name}
 use Rattle.tokens.specs.Names.{sameName}
+use Rattle.statement.specs.declared.Statement.{Statement}
 use Rattle.statement.specs.Views as act
 use Rattle.statement.specs.Views.{Act, actOf}
 use Rattle.rules.specs.State.{State, Allocation, Binding, Placer, isLive, without, isBound, bind}
 use Rattle.rules.specs.Reasons.{roomFor}
-use Rattle.rules.specs.Sheet.{Line, badLayout, noForm, tooLarge, statement, Placing, lineRules, lineEffect, acted, effect, added, moved, heldAfter, stateBy, rulesBy}
+use Rattle.rules.specs.Sheet.{Line, Placing, lineRules, lineEffect, effect, added, moved, heldAfter, stateBy, rulesBy}
 use Rattle.rules.specs.Claims.{AllKept, Orderly}
 use Rattle.tokens.proofs.Names.{same-true}
 use Rattle.laws.proofs.BoolLaws.{and-r, or-cases, clash}
-use Rattle.rules.proofs.RuleLaws.{accepted, binds-kept, requests-kept}
+use Rattle.rules.proofs.RuleLaws.{Accepted, accepted-line, binds-kept, requests-kept}
 
 -- ---- the table of values
 -- what is bound afterwards is the name, or was bound
@@ -93,7 +94,8 @@ mov-orderly s n width v p r o =
     at m live (inl e) = clash (subst (λ k. isLive k (s .live) ≡ true) (sym (same-true n m e)) live) (not-true (isLive n (s .live)) p)
     at m live (inr e) = o .apart m live e
 
-alloc-orderly : (s : State) (n : Name) (v : ℕ) (place : Placer) (w : ℕ) → not (isLive n (s .live)) && not (isBound n (s .values)) ≡ true → Orderly s → Orderly (acted place s w (act.requests n v))
+alloc-orderly : (s : State) (n : Name) (v : ℕ) (place : Placer) (w : ℕ) → not (isLive n (s .live)) && not (isBound n (s .values)) ≡ true → Orderly s → Orderly (effect place s w (act.requests n v))
+unfolding effect
 alloc-orderly s n v place w p o = record { few = o .few; apart = λ m live bound. at m bound (live-added m n v (place (s .live) v) (s .live) live) }
   where
     at : (m : Name) → isBound m (s .values) ≡ true → (sameName n m ≡ true) ⊎ (isLive m (s .live) ≡ true) → ⊥
@@ -102,20 +104,17 @@ alloc-orderly s n v place w p o = record { few = o .few; apart = λ m live bound
 
 orderly-step : (place : Placer) (s : State) (held : ℕ) (x : Line) → AllKept (lineRules place s held x) → Orderly s → Orderly (lineEffect place s x)
 unfolding effect
-orderly-step place s held badLayout h o = o
-orderly-step place s held noForm h o = o
-orderly-step place s held tooLarge h o = o
-orderly-step place s held (statement w t) h o = at (actOf t) refl
+orderly-step place s held x h o = accepted-line place s held x h (λ x. Orderly (lineEffect place s x)) (λ w t p a. at w t a (actOf t) refl)
   where
-    at : (x : Act) → actOf t ≡ x → Orderly (acted place s w x)
-    at (act.binds n width v) e = let k = binds-kept place s held w t (accepted place s held w t (h .1)) n v width e in mov-orderly s n width v (k .0) (k .1) o
-    at (act.requests n v) e = alloc-orderly s n v place w (requests-kept place s held w t (accepted place s held w t (h .1)) n v e) o
-    at (act.releases n v) e = record { few = o .few; apart = λ m live bound. o .apart m (live-without m n (s .live) live) bound }
-    at act.relinquishes e = record { few = o .few; apart = o .apart }
-    at (act.accesses a) e = o
-    at (act.multiplies m) e = o
-    at act.exits e = record { few = o .few; apart = o .apart }
-    at act.nothing e = o
+    at : (w : ℕ) (t : Statement) → Accepted place s held w t → (x : Act) → actOf t ≡ x → Orderly (effect place s w x)
+    at w t a (act.binds n width v) e = let k = binds-kept place s held w t a n v width e in mov-orderly s n width v (k .0) (k .1) o
+    at w t a (act.requests n v) e = alloc-orderly s n v place w (requests-kept place s held w t a n v e) o
+    at w t a (act.releases n v) e = record { few = o .few; apart = λ m live bound. o .apart m (live-without m n (s .live) live) bound }
+    at w t a act.relinquishes e = record { few = o .few; apart = o .apart }
+    at w t a (act.accesses x) e = o
+    at w t a (act.multiplies m) e = o
+    at w t a act.exits e = record { few = o .few; apart = o .apart }
+    at w t a act.nothing e = o
 
 -- after any number of accepted lines, under any placing
 pub orderly : (placing : Placing) (line : ℕ → Line) (n : ℕ) → ((k : ℕ) → k < n → AllKept (rulesBy placing line k)) → Orderly (stateBy placing line n)

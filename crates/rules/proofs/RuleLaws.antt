@@ -7,7 +7,7 @@ use mathlib.Core.Option.{some}
 use mathlib.Core.List.{List, [], _∷_, _++_}
 use native.Mathlib.Omega.{arith}
 use lib.Dec.{ltb, eqb}
-use borrow.Author.Tests.{not-true, eqb-true, eq-eqb, ne-eqb}
+use borrow.Author.Tests.{not-true, ltb-true, eqb-true, eq-eqb, ne-eqb}
 use Rattle.laws.specs.Tests.{all, isSome}
 use Rattle.laws.specs.Rules.{Rule, rule, firstBroken}
 use Rattle.tokens.specs.declared.Name.{Name}
@@ -157,12 +157,21 @@ accepted place s held w t h = by (s .exited) refl h
     by true e k = absurd (kept-closed t k)
     by false e k = kept-open place s held w t e k
 
+-- a line that keeps every rule is a statement, of one of four warps
+pub accepted-line : (place : Placer) (s : State) (held : ℕ) (x : Line) → AllKept (lineRules place s held x) → (P : Line → Type 0)
+    → ((w : ℕ) (t : Statement) → w < 4 → Accepted place s held w t → P (statement w t)) → P x
+accepted-line place s held badLayout h P f = absurd (clash (h .0) refl)
+accepted-line place s held noForm h P f = absurd (clash (h .0) refl)
+accepted-line place s held tooLarge h P f = absurd (clash (h .0) refl)
+accepted-line place s held (statement w t) h P f = f w t (ltb-true w 4 (h .0)) (accepted place s held w t (h .1))
+
 -- a request that is accepted is legal, and has a start
 pub request-kept : (place : Placer) (s : State) (held w : ℕ) (t : Statement) → Accepted place s held w t → (r : Ask) → requestOf t ≡ some r
     → (legal (r .columns) ≡ true) × (isSome (place (s .live) (r .columns)) ≡ true)
 unfolding sized placed
 request-kept place s held w t a r e = (
-  subst (λ q. holds (for q (λ r. legal (r .columns)) ∷ for (releaseOf t) (λ r. eqb (columnsOf (r .name) (s .live)) (r .columns)) ∷ []) ≡ true) e (a .sizes),
+  and-r (holds (for (releaseOf t) (λ r. eqb (columnsOf (r .name) (s .live)) (r .columns)) ∷ [])) (legal (r .columns))
+      (subst (λ q. holds (for q (λ r. legal (r .columns)) ∷ for (releaseOf t) (λ r. eqb (columnsOf (r .name) (s .live)) (r .columns)) ∷ []) ≡ true) e (a .sizes)),
   subst (λ q. holds (for q (λ r. isSome (place (s .live) (r .columns))) ∷ []) ≡ true) e (a .places),
 )
 

@@ -11,59 +11,48 @@ use lib.ListN.{length}
 use borrow.Author.Tests.{not-true, not-false, eqb-true, eqb-false, ltb-true, ltb-false, leb-true, leb-false, lt-ltb, le-ltb, eq-eqb, ne-eqb}
 use Rattle.laws.specs.Rules.{rule, firstBroken}
 use Rattle.statement.specs.Views as act
-use Rattle.statement.specs.Views.{Act, actOf, exitIn}
+use Rattle.statement.specs.Views.{Act, exitIn}
 use Rattle.rules.specs.Counting.{least}
 use Rattle.rules.specs.State.{State, Placer}
-use Rattle.rules.specs.Reasons.{rules, closedRules, openRules}
-use Rattle.rules.specs.Sheet.{Line, badLayout, noForm, tooLarge, statement, Sheet, Placing, lineRules, lineEffect, acted, effect, stateBy, startsBy, rulesBy, reasonBy, stopBy, heldAfter, peakUpTo, answer, closing, answerAt, answerBy}
+use Rattle.rules.specs.Sheet.{Line, turnOf, actIn, Sheet, Placing, lineRules, lineEffect, effect, stateBy, startsBy, rulesBy, reasonBy, stopBy, heldAfter, peakUpTo, answer, closing, answerAt, answerBy}
 use Rattle.rules.specs.Claims.{AllKept, exits, Passing, Passed, endRules, ownRules, rulesAt, Refused, RulesExact}
 use Rattle.rules.specs.declared.Answer.{Answer}
 use Rattle.laws.proofs.BoolLaws.{bool, clash}
 use Rattle.rules.proofs.CountingLaws.{least-le, least-hit, least-below}
-use Rattle.rules.proofs.RuleLaws.{lacks, kept-closed, kept-none, none-kept, never, first-is, is-first, lacks-both, in-turn-kept, in-turn-broken, line-numbered}
+use Rattle.rules.proofs.RuleLaws.{lacks, accepted-line, kept-none, none-kept, never, first-is, is-first, lacks-both, in-turn-kept, in-turn-broken, line-numbered}
 
 -- ---- lines and exit
 pub exit-ends : (place : Placer) (s : State) (x : Line) → exits x ≡ true → lineEffect place s x .exited ≡ true
 unfolding effect
-exit-ends place s badLayout e = absurd (clash e refl)
-exit-ends place s noForm e = absurd (clash e refl)
-exit-ends place s tooLarge e = absurd (clash e refl)
-exit-ends place s (statement w t) e = at (actOf t) e
+exit-ends place s x e = at (turnOf x .warp) (actIn x) e
   where
-    at : (x : Act) → exitIn x ≡ true → acted place s w x .exited ≡ true
-    at (act.binds n width v) e = absurd (clash e refl)
-    at (act.requests n v) e = absurd (clash e refl)
-    at (act.releases n v) e = absurd (clash e refl)
-    at act.relinquishes e = absurd (clash e refl)
-    at (act.accesses a) e = absurd (clash e refl)
-    at (act.multiplies m) e = absurd (clash e refl)
-    at act.exits e = refl
-    at act.nothing e = absurd (clash e refl)
+    at : (w : ℕ) (x : Act) → exitIn x ≡ true → effect place s w x .exited ≡ true
+    at w (act.binds n width v) e = absurd (clash e refl)
+    at w (act.requests n v) e = absurd (clash e refl)
+    at w (act.releases n v) e = absurd (clash e refl)
+    at w act.relinquishes e = absurd (clash e refl)
+    at w (act.accesses a) e = absurd (clash e refl)
+    at w (act.multiplies m) e = absurd (clash e refl)
+    at w act.exits e = refl
+    at w act.nothing e = absurd (clash e refl)
 
 pub other-stays : (place : Placer) (s : State) (x : Line) → exits x ≡ false → lineEffect place s x .exited ≡ s .exited
 unfolding effect
-other-stays place s badLayout e = refl
-other-stays place s noForm e = refl
-other-stays place s tooLarge e = refl
-other-stays place s (statement w t) e = at (actOf t) e
+other-stays place s x e = at (turnOf x .warp) (actIn x) e
   where
-    at : (x : Act) → exitIn x ≡ false → acted place s w x .exited ≡ s .exited
-    at (act.binds n width v) e = refl
-    at (act.requests n v) e = refl
-    at (act.releases n v) e = refl
-    at act.relinquishes e = refl
-    at (act.accesses a) e = refl
-    at (act.multiplies m) e = refl
-    at act.exits e = absurd (clash refl e)
-    at act.nothing e = refl
+    at : (w : ℕ) (x : Act) → exitIn x ≡ false → effect place s w x .exited ≡ s .exited
+    at w (act.binds n width v) e = refl
+    at w (act.requests n v) e = refl
+    at w (act.releases n v) e = refl
+    at w act.relinquishes e = refl
+    at w (act.accesses a) e = refl
+    at w (act.multiplies m) e = refl
+    at w act.exits e = absurd (clash refl e)
+    at w act.nothing e = refl
 
 -- after exit every line breaks a rule
 pub no-more : (place : Placer) (s : State) (held : ℕ) (x : Line) → AllKept (lineRules place s held x) → s .exited ≡ true → ⊥
-unfolding rules
-no-more place s held badLayout h e = clash (h .0) refl
-no-more place s held noForm h e = clash (h .0) refl
-no-more place s held tooLarge h e = clash (h .0) refl
-no-more place s held (statement w t) h e = kept-closed t (subst (λ b. AllKept (cond b (closedRules t) (openRules place s held w t))) e (h .1))
+no-more place s held x h e = accepted-line place s held x h (λ x. ⊥) (λ w t p a. clash e (a .open′))
 
 -- ---- the lines' own reasons
 module _ (placing : Placing) (line : ℕ → Line) where

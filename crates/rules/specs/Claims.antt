@@ -12,8 +12,8 @@ use Rattle.laws.specs.Rules.{Rule, rule}
 use Rattle.tokens.specs.declared.Name.{Name}
 use Rattle.statement.specs.declared.Statement.{Statement}
 use Rattle.rules.specs.State.{State, Placer, Allocation, isLive, isBound, isFree, lowest, total}
-use Rattle.statement.specs.Views.{isExit}
-use Rattle.rules.specs.Sheet.{Line, badLayout, noForm, tooLarge, statement, lineRules, Sheet, Placing, stateBy, startsBy, rulesBy, stopBy, answerBy}
+use Rattle.statement.specs.Views.{exitIn}
+use Rattle.rules.specs.Sheet.{Line, statement, actIn, lineRules, Sheet, Placing, stateBy, startsBy, rulesBy, stopBy, heldAfter, peakUpTo, answerBy}
 
 -- ---- lists of rules
 -- every rule is kept
@@ -61,10 +61,7 @@ pub record Orderly (s : State) : Type 0 where
 
 -- ---- the passed sheet
 abbrev pub exits : Line → Bool
-exits badLayout = false
-exits noForm = false
-exits tooLarge = false
-exits (statement w t) = isExit t
+exits x = exitIn (actIn x)
 
 -- a passed sheet is one that the rules give 0 or 16
 abbrev pub Passing : ℕ → Type 0
@@ -121,12 +118,18 @@ module _ (placing : Placing) (sheet : Sheet) (room : ℕ) where
   abbrev pub liveAfter : ℕ → ℕ
   liveAfter k = total (stateBy placing (sheet .line) k .live)
 
+  -- the most that is live after any of the first n
+  pub record MostLive (n peak : ℕ) : Type 0 where
+    pub most : (k : ℕ) → k ≤ n → liveAfter k ≤ peak
+    pub once : (k : ℕ) × ((k ≤ n) × (liveAfter k ≡ peak))
+
   pub record FiguresExact : Type 0 where
-    -- held: what is live after the accepted lines, which on a pass and 16 is nothing
+    -- after each accepted line the columns held, by which exit is decided, are those that are live, and the peak is the most that were
+    pub held-each : (k : ℕ) → k ≤ acceptedLines → heldAfter (sheet .line) k ≡ liveAfter k
+    pub peak-each : (k : ℕ) → k ≤ acceptedLines → MostLive k (peakUpTo (sheet .line) k)
+    -- the answer has those after the accepted lines; on a pass and 16 nothing is held
     pub held : answerBy placing sheet room .held ≡ liveAfter acceptedLines
     pub nothing : Passing (answerBy placing sheet room .reason) → liveAfter acceptedLines ≡ 0
-    -- peak: the most that is live after any of them
-    pub most : (k : ℕ) → k ≤ acceptedLines → liveAfter k ≤ answerBy placing sheet room .peak
-    pub once : (k : ℕ) × ((k ≤ acceptedLines) × (liveAfter k ≡ answerBy placing sheet room .peak))
+    pub peak : MostLive acceptedLines (answerBy placing sheet room .peak)
     -- on a pass the lent list has room for every start
     pub roomy : answerBy placing sheet room .reason ≡ 0 → length (startsBy placing (sheet .line) (sheet .count)) ≤ room

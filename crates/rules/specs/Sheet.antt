@@ -14,7 +14,7 @@ use Rattle.statement.specs.declared.Statement.{Statement}
 use Rattle.rules.specs.declared.Answer.{Answer}
 use Rattle.rules.specs.Counting.{least}
 use Rattle.statement.specs.Views as act
-use Rattle.statement.specs.Views.{Act, actOf, requestOf, releaseOf, of}
+use Rattle.statement.specs.Views.{Act, Turn, actOf, requestIn, releaseIn, of}
 use Rattle.rules.specs.State.{State, opened, Allocation, Placer, lowest, without, bind}
 use Rattle.rules.specs.Reasons.{rules}
 
@@ -31,6 +31,16 @@ abbrev pub lineOf : ℕ → Reading → Line
 lineOf w (Got t) = statement w t
 lineOf w (NoForm at) = noForm
 lineOf w (TooLarge at) = tooLarge
+
+-- what a line does, and by which warp; a line that gives no statement does nothing
+abbrev pub turnOf : Line → Turn
+turnOf badLayout = record { warp = 0; act = act.nothing }
+turnOf noForm = record { warp = 0; act = act.nothing }
+turnOf tooLarge = record { warp = 0; act = act.nothing }
+turnOf (statement w t) = record { warp = w; act = actOf t }
+
+abbrev pub actIn : Line → Act
+actIn x = turnOf x .act
 
 -- line 1 is right or not; the lines after it, counted from 0 (so `line 0` is line 2 of the sheet), and how many they are
 pub record Sheet : Type 0 where
@@ -60,25 +70,18 @@ abbrev pub moved : State → Name → ℕ → ℕ → State
 moved s n width v = record { live = s .live; values = bind (record { name = n; width = width; number = v }) (s .values); warp = s .warp; relinquished = s .relinquished; exited = s .exited }
 
 -- the state after what it does: alloc adds, dealloc removes, mov binds; alloc and relinquish fix the warp; all else leaves it as it was
-abbrev pub acted : Placer → State → ℕ → Act → State
-acted place s w (act.binds n width v) = moved s n width v
-acted place s w (act.requests n v) = record { live = added n v (place (s .live) v) (s .live); values = s .values; warp = fixed (s .warp) w; relinquished = s .relinquished; exited = s .exited }
-acted place s w (act.releases n v) = record { live = without n (s .live); values = s .values; warp = s .warp; relinquished = s .relinquished; exited = s .exited }
-acted place s w act.relinquishes = record { live = s .live; values = s .values; warp = fixed (s .warp) w; relinquished = true; exited = s .exited }
-acted place s w (act.accesses a) = s
-acted place s w (act.multiplies m) = s
-acted place s w act.exits = record { live = s .live; values = s .values; warp = s .warp; relinquished = s .relinquished; exited = true }
-acted place s w act.nothing = s
-
--- by what the statement does
-unfoldable pub effect : Placer → State → ℕ → Statement → State
-effect place s w t = acted place s w (actOf t)
+unfoldable pub effect : Placer → State → ℕ → Act → State
+effect place s w (act.binds n width v) = moved s n width v
+effect place s w (act.requests n v) = record { live = added n v (place (s .live) v) (s .live); values = s .values; warp = fixed (s .warp) w; relinquished = s .relinquished; exited = s .exited }
+effect place s w (act.releases n v) = record { live = without n (s .live); values = s .values; warp = s .warp; relinquished = s .relinquished; exited = s .exited }
+effect place s w act.relinquishes = record { live = s .live; values = s .values; warp = fixed (s .warp) w; relinquished = true; exited = s .exited }
+effect place s w (act.accesses a) = s
+effect place s w (act.multiplies m) = s
+effect place s w act.exits = record { live = s .live; values = s .values; warp = s .warp; relinquished = s .relinquished; exited = true }
+effect place s w act.nothing = s
 
 abbrev pub lineEffect : Placer → State → Line → State
-lineEffect place s badLayout = s
-lineEffect place s noForm = s
-lineEffect place s tooLarge = s
-lineEffect place s (statement w t) = effect place s w t
+lineEffect place s x = effect place s (turnOf x .warp) (actIn x)
 
 -- the start that a request is given
 abbrev pub startList : Option ℕ → List ℕ
@@ -86,23 +89,14 @@ startList none = []
 startList (some start) = start ∷ []
 
 unfoldable pub given : Placer → State → Line → List ℕ
-given place s badLayout = []
-given place s noForm = []
-given place s tooLarge = []
-given place s (statement w t) = of (requestOf t) (λ r. startList (place (s .live) (r .columns))) []
+given place s x = of (requestIn (actIn x)) (λ r. startList (place (s .live) (r .columns))) []
 
 -- columns asked for and given back by a line
 unfoldable pub requested : Line → ℕ
-requested badLayout = 0
-requested noForm = 0
-requested tooLarge = 0
-requested (statement w t) = of (requestOf t) (λ r. r .columns) 0
+requested x = of (requestIn (actIn x)) (λ r. r .columns) 0
 
 unfoldable pub released : Line → ℕ
-released badLayout = 0
-released noForm = 0
-released tooLarge = 0
-released (statement w t) = of (releaseOf t) (λ r. r .columns) 0
+released x = of (releaseIn (actIn x)) (λ r. r .columns) 0
 
 -- ---- by line: after the first k lines below line 1, if each is accepted
 -- the sum of a figure over the first k lines

@@ -9,7 +9,7 @@ use mathlib.Core.Logic.{_⊎_, inl, inr}
 use native.Mathlib.Omega.{arith}
 use lib.Dec.{leb, eqb}
 use lib.ListN.{getD}
-use borrow.Author.Tests.{not-true, ltb-true, leb-true, le-leb, eqb-true, eq-eqb}
+use borrow.Author.Tests.{not-true, leb-true, le-leb, eqb-true, eq-eqb}
 use Rattle.laws.specs.Tests.{all, isSome}
 use Rattle.laws.specs.Layout.{says, stands}
 use Rattle.laws.specs.Format.{kept}
@@ -36,15 +36,14 @@ use Rattle.statement.specs.Cells as cells
 use Rattle.rules.specs.State as s
 use Rattle.rules.specs.State.{State, Allocation, Binding, Placer}
 use Rattle.rules.specs.Reasons as reasons
-use Rattle.rules.specs.Sheet.{Line, badLayout, noForm, tooLarge, statement, Placing, lineRules, lineEffect, added, acted, effect, heldAfter, stateBy, rulesBy}
+use Rattle.rules.specs.Sheet.{Line, turnOf, actIn, Placing, lineRules, lineEffect, added, effect, heldAfter, stateBy, rulesBy}
 use Rattle.rules.specs.Claims.{AllKept}
 use Rattle.rules.proofs.RulesProved.{no-more}
 use Rattle.laws.proofs.BoolLaws.{and-l, and-r, or-cases, clash}
-use Rattle.rules.proofs.RuleLaws.{Accepted, accepted, request-kept, requests-kept, releases-kept, accesses-kept, multiplies-kept, exits-kept}
+use Rattle.rules.proofs.RuleLaws.{Accepted, accepted-line, request-kept, requests-kept, releases-kept, accesses-kept, multiplies-kept, exits-kept}
 use Rattle.tokens.proofs.Names.{same-true}
 use Rattle.run.specs.Run as run
 use Rattle.run.specs.Run.{Holding, Region, region, Run, Phase, going, stoppedAt, exited, ended, nOf, orZero, has, hasName, hasBoth, without, lies, allLie, bookedBy, operandRegions, metadataRegions, known, startAt, mayUse, heldColumns, able, done, inPhase, go, after}
-use Rattle.run.specs.Demand3.{turnOf}
 use Rattle.run.proofs.Sound.{total, Sound, counted}
 
 -- ---- holdings and allocations
@@ -354,11 +353,11 @@ noted-alike st r n m width v g =
     ap (λ o. cond (sameName n m) (some v) o) (g .numbers m) ∙ sym (lookup-bind m (record { name = n; width = width; number = v }) (st .values))
 
 does : (starts : List ℕ) (place : Placer) (st : State) (r : Run) (held w : ℕ) (t : Statement)
-    → Accepted place st held w t → Agree st r → Follows (done starts r (actOf t) .phase) (effect place st w t) (done starts r (actOf t))
+    → Accepted place st held w t → Agree st r → Follows (done starts r (actOf t) .phase) (effect place st w (actOf t)) (done starts r (actOf t))
 unfolding done effect
 does starts place st r held w t a g = at (actOf t) refl
   where
-    at : (x : Act) → actOf t ≡ x → Follows (done starts r x .phase) (acted place st w x) (done starts r x)
+    at : (x : Act) → actOf t ≡ x → Follows (done starts r x .phase) (effect place st w x) (done starts r x)
     at (act.binds n width v) e = record { alike = g .alike; numbers = λ m. noted-alike st r n m width v g; open′ = g .open′; goes = refl }
     at (act.requests n v) e =
         let k = request-kept place st held w t a (record { name = n; columns = v }) (ap requestIn e) in
@@ -377,7 +376,7 @@ does starts place st r held w t a g = at (actOf t) refl
           goes = refl;
         }
     at act.relinquishes e =
-        subst (λ p. Follows p (acted place st w act.relinquishes) r) (sym (g .goes)) (record { alike = g .alike; numbers = g .numbers; open′ = g .open′; goes = g .goes })
+        subst (λ p. Follows p (effect place st w act.relinquishes) r) (sym (g .goes)) (record { alike = g .alike; numbers = g .numbers; open′ = g .open′; goes = g .goes })
     at (act.accesses x) e = stays st r g
     at (act.multiplies m) e = stays st r g
     at act.exits e = (refl, g .alike)
@@ -385,25 +384,22 @@ does starts place st r held w t a g = at (actOf t) refl
 
 -- ---- lines
 pub able-line : (starts : List ℕ) (place : Placer) (st : State) (r : Run) (held : ℕ) (x : Line) → held ≡ s.total (st .live) → AllKept (lineRules place st held x) → Agree st r → Sound r
-    → able starts r (turnOf x .act) ≡ freeFor (r .live) (turnOf x .act) (startAt starts (r .requests))
-able-line starts place st r held badLayout q h g d = absurd (clash (h .0) refl)
-able-line starts place st r held noForm q h g d = absurd (clash (h .0) refl)
-able-line starts place st r held tooLarge q h g d = absurd (clash (h .0) refl)
-able-line starts place st r held (statement w t) q h g d = able-is starts place st r held w t (ltb-true w 4 (h .0)) q (accepted place st held w t (h .1)) g d
+    → able starts r (actIn x) ≡ freeFor (r .live) (actIn x) (startAt starts (r .requests))
+able-line starts place st r held x q h g d =
+    accepted-line place st held x h (λ x. able starts r (actIn x) ≡ freeFor (r .live) (actIn x) (startAt starts (r .requests)))
+    (λ w t p a. able-is starts place st r held w t p q a g d)
 
 does-line : (starts : List ℕ) (place : Placer) (st : State) (r : Run) (held : ℕ) (x : Line) → AllKept (lineRules place st held x) → Agree st r
-    → Follows (done starts r (turnOf x .act) .phase) (lineEffect place st x) (done starts r (turnOf x .act))
-does-line starts place st r held badLayout h g = absurd (clash (h .0) refl)
-does-line starts place st r held noForm h g = absurd (clash (h .0) refl)
-does-line starts place st r held tooLarge h g = absurd (clash (h .0) refl)
-does-line starts place st r held (statement w t) h g = does starts place st r held w t (accepted place st held w t (h .1)) g
+    → Follows (done starts r (actIn x) .phase) (lineEffect place st x) (done starts r (actIn x))
+does-line starts place st r held x h g =
+    accepted-line place st held x h (λ x. Follows (done starts r (actIn x) .phase) (lineEffect place st x) (done starts r (actIn x))) (λ w t p a. does starts place st r held w t a g)
 
 steps : (starts : List ℕ) (place : Placer) (st : State) (r : Run) (held number : ℕ) (x : Line) (p : Phase) → r .phase ≡ p → AllKept (lineRules place st held x) → Follows p st r
     → Follows (go p starts r number (turnOf x) .phase) (lineEffect place st x) (go p starts r number (turnOf x))
 unfolding go
-steps starts place st r held number x going q h g = at (able starts r (turnOf x .act))
+steps starts place st r held number x going q h g = at (able starts r (actIn x))
   where
-    at : (t : Bool) → Follows (cond t (done starts r (turnOf x .act)) (inPhase (stoppedAt number) r) .phase) (lineEffect place st x) (cond t (done starts r (turnOf x .act)) (inPhase (stoppedAt number) r))
+    at : (t : Bool) → Follows (cond t (done starts r (actIn x)) (inPhase (stoppedAt number) r) .phase) (lineEffect place st x) (cond t (done starts r (actIn x)) (inPhase (stoppedAt number) r))
     at true = does-line starts place st r held x h g
     at false = tt
 steps starts place st r held number x (stoppedAt l) q h g = subst (λ p. Follows p (lineEffect place st x) r) (sym q) tt

@@ -11,14 +11,14 @@ use lib.Dec.{leb}
 use borrow.Author.Tests.{leb-true, leb-false, le-leb, lt-ltb, eqb-true}
 use Rattle.tokens.specs.Names.{sameName}
 use Rattle.statement.specs.Views as act
-use Rattle.statement.specs.Views.{Act, Ask, requestIn, of}
+use Rattle.statement.specs.Views.{Act, Turn, Ask, requestIn, of}
 use Rattle.rules.specs.Sheet.{Sheet, Placing, heldAfter, stateBy, rulesBy}
 use Rattle.rules.specs.Claims.{AllKept}
 use Rattle.laws.proofs.BoolLaws.{and-l, and-r, or-cases, bool, clash}
 use Rattle.tokens.proofs.Names.{same-true}
 use Rattle.rules.proofs.Figures.{held-total}
 use Rattle.rules.proofs.RulesProved.{Clear, zero-kept}
-use Rattle.run.specs.Run.{Turn, Holding, Region, Run, Phase, going, stoppedAt, exited, ended, within, heldColumns, usable, startAt, mayUse, has, lies, allLie, bookedBy, known, able, done, inPhase, go, after, finish, outcome}
+use Rattle.run.specs.Run.{Holding, Region, Run, Phase, going, stoppedAt, exited, ended, within, heldColumns, usable, startAt, mayUse, has, lies, allLie, bookedBy, known, able, done, inPhase, go, after, finish, outcome}
 use Rattle.run.specs.Demand3.{turnsOf, Among, Inside, AllInside, Requests, Reached, Asks, Fails, Outcome, Willing, Fallen, Whichever}
 use Rattle.run.proofs.Sound.{sound, sums}
 use Rattle.run.proofs.Agree.{Agree, Follows, follows, freeFor, able-line}
@@ -168,7 +168,7 @@ all-inside [] l e = tt
 all-inside (a ∷ xs) l e = (inside a l (and-l (has (lies a) l) (allLie xs l) e), all-inside xs l (and-r (has (lies a) l) (allLie xs l) e))
 
 able-inside : (starts : List ℕ) (r : Run) (t : Act) → able starts r t ≡ true → (known (r .notes) t ≡ true) × AllInside (bookedBy (r .notes) t) (r .live)
-unfolding able bookedBy known
+unfolding able bookedBy known allLie
 able-inside starts r (act.binds n w v) e = (refl, tt)
 able-inside starts r (act.requests n v) e = (refl, tt)
 able-inside starts r (act.releases n v) e = (refl, tt)
@@ -183,7 +183,7 @@ able-inside starts r act.nothing e = (refl, tt)
 
 -- ---- the exit
 exit-empty : (starts : List ℕ) (r : Run) (t : Act) → r .phase ≡ going → able starts r t ≡ true → done starts r t .phase ≡ exited → heldColumns (done starts r t .live) ≡ 0
-unfolding able done
+unfolding able done bookedBy known allLie
 exit-empty starts r (act.binds n w v) q e f = absurd (going-exited refl f)
 exit-empty starts r (act.requests n v) q e f = absurd (going-exited refl f)
 exit-empty starts r (act.releases n v) q e f = absurd (going-exited refl f)

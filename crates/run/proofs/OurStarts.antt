@@ -24,16 +24,16 @@ use Rattle.rules.specs.Counting.{every, least}
 use Rattle.rules.specs.State as s
 use Rattle.rules.specs.State.{State, Allocation, covers, isFree, freeFrom, slot, lowest}
 use Rattle.rules.specs.Reasons as reasons
-use Rattle.rules.specs.Sheet.{Line, badLayout, noForm, tooLarge, statement, Sheet, ours, lineRules, lineEffect, added, acted, effect, given, startList, stateBy, startsBy, rulesBy, heldAfter, peakUpTo, answerBy, startsOf, placesAfter}
+use Rattle.rules.specs.Sheet.{Line, statement, turnOf, actIn, Sheet, ours, lineRules, lineEffect, added, effect, given, startList, stateBy, startsBy, rulesBy, heldAfter, peakUpTo, answerBy, startsOf, placesAfter}
 use Rattle.rules.specs.Claims.{AllKept}
 use Rattle.laws.proofs.BoolLaws.{and-l, and-r, and-join, not-or, bool, clash}
 use Rattle.rules.proofs.CountingLaws.{every-at, every-all, least-hit, least-below}
-use Rattle.rules.proofs.RuleLaws.{Accepted, accepted, request-kept, releases-kept}
+use Rattle.rules.proofs.RuleLaws.{Accepted, accepted-line, request-kept, releases-kept}
 use Rattle.rules.proofs.Figures.{held-total}
 use Rattle.rules.proofs.RulesProved.{Clear, zero-kept, no-more, passed-figures}
 use Rattle.rules.proofs.FiguresProved.{figures-exact}
 use Rattle.run.specs.Run.{Holding, Run, Phase, going, stoppedAt, exited, ended, within, held, heldColumns, usable, startAt, mayUse, has, hasName, without, orZero, able, done, go, after, peakOf}
-use Rattle.run.specs.Demand3.{turnOf, turnsOf, Requests, Asks, Placed, Reached}
+use Rattle.run.specs.Demand3.{turnsOf, Requests, Asks, Placed, Reached}
 use Rattle.run.proofs.Sound.{sound, counted, usable-at}
 use Rattle.run.proofs.Agree.{Alike, Agree, Follows, freeFor, total-alike, dealloc-both}
 use Rattle.run.proofs.AnyStarts.{Is, goes, stopped, out, over, phase, done-goes, go-by, beside, agrees, able-at, any-starts}
@@ -183,12 +183,12 @@ one-start none e = absurd (clash e refl)
 one-start (some x) e = refl
 
 own-done : (starts : List ℕ) (st : State) (r : Run) (held w : ℕ) (t : Statement) → Accepted lowest st held w t → Agree st r → Same (st .live) (r .live) → Given starts (r .requests) st t
-    → Same (effect lowest st w t .live) (done starts r (actOf t) .live) × (done starts r (actOf t) .requests ≡ r .requests + length (given lowest st (statement w t)))
+    → Same (effect lowest st w (actOf t) .live) (done starts r (actOf t) .live) × (done starts r (actOf t) .requests ≡ r .requests + length (given lowest st (statement w t)))
 unfolding done effect given
 own-done starts st r held w t a m e g = at (actOf t) refl
   where
     at : (x : Act) → actOf t ≡ x
-        → Same (acted lowest st w x .live) (done starts r x .live) × (done starts r x .requests ≡ r .requests + length (of (requestIn x) (λ y. startList (lowest (st .live) (y .columns))) []))
+        → Same (effect lowest st w x .live) (done starts r x .live) × (done starts r x .requests ≡ r .requests + length (of (requestIn x) (λ y. startList (lowest (st .live) (y .columns))) []))
     at (act.binds n width v) f = (e, omega arith)
     at (act.requests n v) f =
         let q : Ask = record { name = n; columns = v } in
@@ -226,22 +226,24 @@ own-same (stoppedAt l) st r q o = absurd o
 own-same exited st r q o = o
 own-same ended st r q o = o
 
-own-step : (starts l rest : List ℕ) (st : State) (r : Run) (held number : ℕ) (x : Line)
-    → AllKept (lineRules lowest st held x) → r .phase ≡ going → Agree st r
-    → able starts r (turnOf x .act) ≡ freeFor (r .live) (turnOf x .act) (startAt starts (r .requests))
-    → Same (st .live) (r .live) → r .requests ≡ length l → starts ≡ (l ++ given lowest st x) ++ rest
+-- what one line more of our run is
+abbrev OwnStep : (starts l rest : List ℕ) → State → Run → ℕ → Line → Type 0
+OwnStep starts l rest st r number x =
+    able starts r (actIn x) ≡ freeFor (r .live) (actIn x) (startAt starts (r .requests)) → starts ≡ (l ++ given lowest st x) ++ rest
     → Own (go (r .phase) starts r number (turnOf x) .phase) (lineEffect lowest st x) (go (r .phase) starts r number (turnOf x)) (length (l ++ given lowest st x))
-own-step starts l rest st r held number badLayout h q m b e f g = absurd (clash (h .0) refl)
-own-step starts l rest st r held number noForm h q m b e f g = absurd (clash (h .0) refl)
-own-step starts l rest st r held number tooLarge h q m b e f g = absurd (clash (h .0) refl)
-own-step starts l rest st r held number (statement w t) h q m b e f g =
-    let a = accepted lowest st held w t (h .1) in
-    let u : Given starts (r .requests) st t = subst (λ j. Given starts j st t) (sym f) (given-by starts l rest st held w t a g) in
-    let o = own-done starts st r held w t a m e u in
-    go-by starts r number (turnOf (statement w t)) q (λ z. Own (z .phase) (effect lowest st w t) z (length (l ++ given lowest st (statement w t))))
-    (λ d. own-phase (done starts r (actOf t) .phase) (effect lowest st w t) (done starts r (actOf t)) (length (l ++ given lowest st (statement w t))) (λ j. done-goes starts r (actOf t) j q) (o .0)
-    (o .1 ∙ omega (arith, f, length-append l (given lowest st (statement w t)))))
-    (λ d. absurd (clash (b ∙ own-free starts st r held w t a e u) d))
+
+own-step : (starts l rest : List ℕ) (st : State) (r : Run) (held number : ℕ) (x : Line)
+    → AllKept (lineRules lowest st held x) → r .phase ≡ going → Agree st r → Same (st .live) (r .live) → r .requests ≡ length l → OwnStep starts l rest st r number x
+own-step starts l rest st r held number x h q m e f = accepted-line lowest st held x h (OwnStep starts l rest st r number) at
+  where
+    at : (w : ℕ) (t : Statement) → w < 4 → Accepted lowest st held w t → OwnStep starts l rest st r number (statement w t)
+    at w t p a b g =
+        let u : Given starts (r .requests) st t = subst (λ j. Given starts j st t) (sym f) (given-by starts l rest st held w t a g) in
+        let o = own-done starts st r held w t a m e u in
+        go-by starts r number (turnOf (statement w t)) q (λ z. Own (z .phase) (effect lowest st w (actOf t)) z (length (l ++ given lowest st (statement w t))))
+        (λ d. own-phase (done starts r (actOf t) .phase) (effect lowest st w (actOf t)) (done starts r (actOf t)) (length (l ++ given lowest st (statement w t)))
+        (λ j. done-goes starts r (actOf t) j q) (o .0) (o .1 ∙ omega (arith, f, length-append l (given lowest st (statement w t)))))
+        (λ d. absurd (clash (b ∙ own-free starts st r held w t a e u) d))
 
 legal-least : (x : ℕ) → legal x ≡ true → 32 ≤ x
 legal-least x e = leb-true 32 x (each (leb 32 x ∷ leb x 512 ∷ eqb (ones x) 1 ∷ []) e .0)
@@ -255,23 +257,19 @@ request-of t v e = at (requestOf t) refl e
     at (some r) f e = (r, (f, Option·some-injective (r .columns) v e))
 
 -- a request that is accepted asks for some columns, and the placing has a start for it
-asked-line : (st : State) (held : ℕ) (x : Line) (v : ℕ) → AllKept (lineRules lowest st held x) → Requests (turnOf x .act) v → (0 < v) × (isSome (lowest (st .live) v) ≡ true)
-asked-line st held badLayout v h e = absurd (Option·none-ne-some v e)
-asked-line st held noForm v h e = absurd (Option·none-ne-some v e)
-asked-line st held tooLarge v h e = absurd (Option·none-ne-some v e)
-asked-line st held (statement w t) v h e =
+asked-line : (st : State) (held : ℕ) (x : Line) (v : ℕ) → AllKept (lineRules lowest st held x) → Requests (actIn x) v → (0 < v) × (isSome (lowest (st .live) v) ≡ true)
+asked-line st held x v h =
+    accepted-line lowest st held x h (λ x. Requests (actIn x) v → (0 < v) × (isSome (lowest (st .live) v) ≡ true))
+    (λ w t p a e.
     let q = request-of t v e in
-    let k = request-kept lowest st held w t (accepted lowest st held w t (h .1)) (q .0) (q .1 .0) in
-    subst (λ y. (0 < y) × (isSome (lowest (st .live) y) ≡ true)) (q .1 .1) (omega (arith, legal-least (q .0 .columns) (k .0)), k .1)
+    let k = request-kept lowest st held w t a (q .0) (q .1 .0) in
+    subst (λ y. (0 < y) × (isSome (lowest (st .live) y) ≡ true)) (q .1 .1) (omega (arith, legal-least (q .0 .columns) (k .0)), k .1))
 
-given-line : (starts l rest : List ℕ) (st : State) (held : ℕ) (x : Line) (v : ℕ) → AllKept (lineRules lowest st held x) → Requests (turnOf x .act) v
+given-line : (starts l rest : List ℕ) (st : State) (held : ℕ) (x : Line) (v : ℕ) → AllKept (lineRules lowest st held x) → Requests (actIn x) v
     → starts ≡ (l ++ given lowest st x) ++ rest → startAt starts (length l) ≡ lowest (st .live) v
-given-line starts l rest st held badLayout v h e g = absurd (Option·none-ne-some v e)
-given-line starts l rest st held noForm v h e g = absurd (Option·none-ne-some v e)
-given-line starts l rest st held tooLarge v h e g = absurd (Option·none-ne-some v e)
-given-line starts l rest st held (statement w t) v h e g =
-    let q = request-of t v e in
-    given-by starts l rest st held w t (accepted lowest st held w t (h .1)) g (q .0) (q .1 .0) ∙ ap (λ y. lowest (st .live) y) (q .1 .1)
+given-line starts l rest st held x v h =
+    accepted-line lowest st held x h (λ x. Requests (actIn x) v → starts ≡ (l ++ given lowest st x) ++ rest → startAt starts (length l) ≡ lowest (st .live) v)
+    (λ w t p a e g. let q = request-of t v e in given-by starts l rest st held w t a g (q .0) (q .1 .0) ∙ ap (λ y. lowest (st .live) y) (q .1 .1))
 
 -- ---- our run of a passed sheet
 module _ (sheet : Sheet) (c : Clear ours sheet) where
@@ -311,7 +309,7 @@ module _ (sheet : Sheet) (c : Clear ours sheet) where
           let e = own-same (our k .phase) (state k) (our k) (length (upTo k)) o in
           let p = parts k (omega (arith, h)) in
           own-step list (upTo k) (p .0) (state k) (our k) (heldAfter (sheet .line) k) (k + 2) (sheet .line k) (kept k (omega (arith, h))) q (agrees ours sheet c list k (omega (arith, h)) q)
-          (able-at ours sheet c list k ((omega (arith, h)), q)) (e .0) (e .1) (p .1)
+          (e .0) (e .1) (able-at ours sheet c list k ((omega (arith, h)), q)) (p .1)
       at (stopped l q) o = absurd (subst (λ p. Own p (state k) (our k) (length (upTo k))) q o)
       at (out q) o = absurd (left k (omega (arith, h)) q)
       at (over q) o = absurd (subst (λ p. Follows p (state k) (our k)) q (beside ours sheet c list k (omega (arith, h))))

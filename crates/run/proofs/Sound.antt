@@ -12,11 +12,11 @@ use borrow.Author.Tests.{not-true, ltb-true, leb-true, eqb-true}
 use Rattle.tokens.specs.declared.Name.{Name}
 use Rattle.tokens.specs.Names.{sameName}
 use Rattle.statement.specs.Views as act
-use Rattle.statement.specs.Views.{Act}
+use Rattle.statement.specs.Views.{Act, Turn}
 use Rattle.rules.specs.Counting.{every}
 use Rattle.laws.proofs.BoolLaws.{and-l, and-r, or-right, clash}
 use Rattle.rules.proofs.CountingLaws.{count-or, count-none, count-range, every-at}
-use Rattle.run.specs.Run.{Turn, Holding, Run, Phase, going, stoppedAt, exited, ended, within, held, heldColumns, usable, startAt, mayUse, has, without, hasName, hasBoth, orZero, able, done, inPhase, go, after}
+use Rattle.run.specs.Run.{Holding, Run, Phase, going, stoppedAt, exited, ended, within, held, heldColumns, usable, startAt, mayUse, has, without, hasName, hasBoth, orZero, bookedBy, allLie, known, able, done, inPhase, go, after}
 use Rattle.run.specs.Demand3.{NoOverlap}
 
 -- the lengths of all holdings
@@ -121,7 +121,7 @@ pub record Sound (r : Run) : Type 0 where
   pub sum : r .asked ≡ r .returned + total (r .live)
 
 does : (starts : List ℕ) (r : Run) (x : Act) → able starts r x ≡ true → Sound r → Sound (done starts r x)
-unfolding able done total
+unfolding able done total known bookedBy allLie
 does starts r (act.binds n width v) e s = record { low = s .low; apart = s .apart; sum = s .sum }
 does starts r (act.requests n v) e s =
     let o = startAt starts (r .requests) in

@@ -6,19 +6,11 @@ use mathlib.Core.List.{List, [], _∷_, _++_}
 use mathlib.Core.Option.{none, some}
 use mathlib.Core.Logic.{_⊎_}
 use lib.ListN.{length, drop}
-use Rattle.statement.specs.Views as act
-use Rattle.statement.specs.Views.{Act, actOf, requestIn, of}
-use Rattle.rules.specs.Sheet.{Line, badLayout, noForm, tooLarge, statement, Sheet, answerOf, startsOf, placesAfter}
-use Rattle.run.specs.Run.{Turn, Holding, Region, Run, Phase, going, stoppedAt, exited, within, held, heldColumns, usable, startAt, mayUse, bookedBy, known, after, outcome, peakOf}
+use Rattle.statement.specs.Views.{Act, Turn, requestIn, of}
+use Rattle.rules.specs.Sheet.{Sheet, turnOf, answerOf, startsOf, placesAfter}
+use Rattle.run.specs.Run.{Holding, Region, Run, Phase, going, stoppedAt, exited, within, held, heldColumns, usable, startAt, mayUse, bookedBy, known, after, outcome, peakOf}
 
 -- ---- the sheet's statements
--- a line that gave no statement, which no passed sheet has, does nothing
-abbrev pub turnOf : Line → Turn
-turnOf badLayout = record { warp = 0; act = act.nothing }
-turnOf noForm = record { warp = 0; act = act.nothing }
-turnOf tooLarge = record { warp = 0; act = act.nothing }
-turnOf (statement w t) = record { warp = w; act = actOf t }
-
 abbrev pub turnsOf : Sheet → ℕ → Turn
 turnsOf sheet k = turnOf (sheet .line k)
 

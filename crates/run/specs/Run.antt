@@ -14,15 +14,9 @@ use Rattle.statement.specs.declared.Operand.the-variants as operand
 use Rattle.statement.specs.declared.Metadata.{Metadata}
 use Rattle.statement.specs.declared.Metadata.the-variants.{Dense, Sparse}
 use Rattle.statement.specs.Views as act
-use Rattle.statement.specs.Views.{Act, requestIn, releaseIn, accessIn, mmaIn, exitIn, for, when, holds, of}
+use Rattle.statement.specs.Views.{Act, Turn, requestIn, releaseIn, accessIn, mmaIn, exitIn, for, when, holds, of}
 use Rattle.statement.specs.Cells.{lanesOf, columnsOf}
 use Rattle.rules.specs.Counting.{count, every}
-
--- ---- what it takes
--- what a statement does, with its warp; turn k is line k + 2 of the sheet
-pub record Turn : Type 0 where
-  pub warp : ℕ
-  pub act : Act
 
 -- ---- what it keeps
 -- a live holding
@@ -156,7 +150,7 @@ known v t = of (mmaIn t) (λ m. isSome (numberOf (m .idesc) v)) true
 
 -- ---- a line
 -- whether a statement can be done: an alloc of a name that is not live, at a start that may be used; a dealloc of a holding of that name and
--- length; an exit where nothing is held; and any other where every booked access lies in the holding that it names
+-- length; an exit where nothing is held; and each where every booked access lies in the holding that it names
 unfoldable pub able : List ℕ → Run → Act → Bool
 able starts r t = holds
     (for (requestIn t) (λ q. not (has (hasName (q .name)) (r .live)) && mayUse (r .live) (q .columns) (startAt starts (r .requests)))
@@ -199,7 +193,7 @@ go exited starts r line x = r
 go ended starts r line x = r
 
 -- ---- the run
--- after the first k turns
+-- after the first k turns; turn k is line k + 2 of the sheet
 unfoldable pub after : List ℕ → (ℕ → Turn) → ℕ → Run
 after starts turns zero = empty
 after starts turns (suc k) = go (after starts turns k .phase) starts (after starts turns k) (k + 2) (turns k)

@@ -1,6 +1,6 @@
 -- What a statement is to the rules: each view names the statements that it is of, and is none for the others. Assumes nothing.
 use Prim.Native.Nat.{ℕ}
-use mathlib.Core.Bool.{Bool, true, false}
+use mathlib.Core.Bool.{Bool, true, false, _&&_}
 use mathlib.Core.List.{List, [], _∷_}
 use mathlib.Core.Option.{Option, none, some}
 use Rattle.tokens.specs.declared.Name.{Name}
@@ -39,6 +39,11 @@ actOf FenceBefore = nothing
 actOf FenceAfter = nothing
 actOf (Multiply m) = multiplies m
 actOf Exit = exits
+
+-- an act, with its warp
+pub record Turn : Type 0 where
+  pub warp : ℕ
+  pub act : Act
 
 -- the columns that it asks for, or gives back; its access; its mma; the name that it binds
 abbrev pub requestIn : Act → Option Ask
@@ -144,11 +149,11 @@ abbrev pub when : Bool → Bool → Option Bool
 when false b = none
 when true b = some b
 
--- the first test that is asked; true where none is
+-- every test that is asked holds
 abbrev pub holds : List (Option Bool) → Bool
 holds [] = true
 holds (none ∷ l) = holds l
-holds (some b ∷ l) = b
+holds (some b ∷ l) = holds l && b
 
 -- a figure of what a view shows; else another
 abbrev pub of : {A B : Type 0} → Option A → (A → B) → B → B

@@ -16,6 +16,8 @@ use Rattle.statement.specs.declared.Access.{Access}
 use Rattle.statement.specs.declared.Mma.{Mma}
 use Rattle.statement.specs.declared.Statement.{Statement}
 use Rattle.statement.specs.declared.Statement.the-variants.{Mov32, Mov64, Alloc, Dealloc, Relinquish, Load, Store, WaitLoad, WaitStore, FenceBefore, FenceAfter, Multiply, Exit}
+use Rattle.statement.specs.Views as act
+use Rattle.statement.specs.Views.{actOf}
 use Rattle.rules.specs.State.{State, Binding, lowest, isLive, isBound, bind}
 use Rattle.rules.specs.Reasons.{openRules, closedRules, rules}
 use Rattle.rules.proofs.ByForm.{movRules, mov32-first, mov64-first, alloc-legal, wait-load-first, wait-store-first, fence-before-first, fence-after-first, exit-first}
@@ -72,7 +74,7 @@ open-is : (held w : ℕ) (t : Statement) (a : Arrays) (status : Status) (r : Ste
     → StatementDone held w t a status r after
 unfolding rules
 open-is held w t a status r after e d s k =
-    subst (λ (b : Bool). Gives (firstBroken (cond b (closedRules t) (openRules lowest s held w t))) (effect lowest s w t) (given lowest s (statement w t)) (requested (statement w t)) (released (statement w t)) a status r after)
+    subst (λ (b : Bool). Gives (firstBroken (cond b (closedRules t) (openRules lowest s held w t))) (effect lowest s w (actOf t)) (given lowest s (statement w t)) (requested (statement w t)) (released (statement w t)) a status r after)
     (sym e ∙ k .exited) (d s k)
 
 -- an arm of the match
@@ -93,9 +95,9 @@ closed-only : (held w : ℕ) (t : Statement) (a : Arrays) (status : Status) (rea
     → StatementDone held w t a status (only status reason) a
 unfolding rules
 closed-only held w t a status reason e f s k =
-    subst (λ (b : Bool). Gives (firstBroken (cond b (closedRules t) (openRules lowest s held w t))) (effect lowest s w t) (given lowest s (statement w t)) (requested (statement w t)) (released (statement w t)) a status (only status reason) a)
+    subst (λ (b : Bool). Gives (firstBroken (cond b (closedRules t) (openRules lowest s held w t))) (effect lowest s w (actOf t)) (given lowest s (statement w t)) (requested (statement w t)) (released (statement w t)) a status (only status reason) a)
     (sym e ∙ k .exited)
-    (refused-gives a status (firstBroken (closedRules t)) reason (effect lowest s w t) (given lowest s (statement w t)) (requested (statement w t)) (released (statement w t)) f (λ y. closed-not t (sym f ∙ y)))
+    (refused-gives a status (firstBroken (closedRules t)) reason (effect lowest s w (actOf t)) (given lowest s (statement w t)) (requested (statement w t)) (released (statement w t)) f (λ y. closed-not t (sym f ∙ y)))
 
 pub closed-done : (held w : ℕ) (t : Statement) (a : Arrays) (status : Status) (reason : ℕ) (r : Step) → status .exited ≡ true → reason ≡ firstBroken (closedRules t)
     → r ≡ only status reason → StatementDone held w t a status r a
@@ -292,7 +294,7 @@ alloc-gives : (a : Arrays) (status : Status) (held w : ℕ) (n : Name) (x : ℕ)
     → OpenDone held w (Alloc n x) a status (stepOf (allocOf (kept a status) n w x) status x 0) (storedIn a (allocOf (kept a status) n w x))
 unfolding effect given requested released
 alloc-gives a status held w n x e s k =
-    booked-gives a status s k (allocOf (kept a status) n w x) (firstBroken (openRules lowest s held w (Alloc n x))) (effect lowest s w (Alloc n x)) (startList (lowest (s .live) x)) x 0
+    booked-gives a status s k (allocOf (kept a status) n w x) (firstBroken (openRules lowest s held w (Alloc n x))) (effect lowest s w (act.requests n x)) (startList (lowest (s .live) x)) x 0
     (sym same) (tells a status s k .allocated n w x) refl refl starting no-start
   where
     unbound : isBound n (s .values) ≡ false
@@ -323,14 +325,14 @@ release-gives : (a : Arrays) (status : Status) (held w : ℕ) (n : Name) (x : �
     → OpenDone held w (Dealloc n x) a status (stepOf (releaseOf (kept a status) n w x) status 0 x) (storedIn a (releaseOf (kept a status) n w x))
 unfolding effect given requested released
 release-gives a status held w n x s k =
-    booked-gives a status s k (releaseOf (kept a status) n w x) (firstBroken (openRules lowest s held w (Dealloc n x))) (effect lowest s w (Dealloc n x)) [] 0 x
+    booked-gives a status s k (releaseOf (kept a status) n w x) (firstBroken (openRules lowest s held w (Dealloc n x))) (effect lowest s w (act.releases n x)) [] 0 x
     (sym (tells a status s k .release n held w x)) (tells a status s k .released n w x) refl refl (λ z. refl) (λ z y. release-start (kept a status) n w x)
 
 relinquish-gives : (a : Arrays) (status : Status) (held w : ℕ)
     → OpenDone held w Relinquish a status (stepOf (relinquishOf (kept a status) w) status 0 0) (storedIn a (relinquishOf (kept a status) w))
 unfolding effect given requested released
 relinquish-gives a status held w s k =
-    booked-gives a status s k (relinquishOf (kept a status) w) (firstBroken (openRules lowest s held w Relinquish)) (effect lowest s w Relinquish) [] 0 0
+    booked-gives a status s k (relinquishOf (kept a status) w) (firstBroken (openRules lowest s held w Relinquish)) (effect lowest s w act.relinquishes) [] 0 0
     (sym (tells a status s k .relinquish held w)) (tells a status s k .relinquished w) refl refl (λ z. refl) (λ z y. relinquish-start (kept a status) w)
 
 -- ---- what the code has: the booking, the answer and the arrays that were stored

@@ -5,6 +5,8 @@ use mathlib.Core.Bool.{true, cond}
 use mathlib.Core.List.{List, [], _∷_}
 use lib.Dec.{eqb}
 use lib.ListN.{length}
+use denote.Ref.{RefT, now}
+use denote.Triple.Both.{Both}
 use Rattle.laws.specs.Rules.{Rule, firstBroken}
 use Rattle.tokens.specs.declared.Name.{Name}
 use Rattle.statement.specs.declared.Statement.{Statement}
@@ -32,6 +34,21 @@ pub record Arrays : Type 0 where
 abbrev pub arrays : (hi lo columns valueHi valueLo numbers widths : List ℕ) → Arrays
 arrays hi lo columns valueHi valueLo numbers widths =
     record { hi = hi; lo = lo; columns = columns; valueHi = valueHi; valueLo = valueLo; numbers = numbers; widths = widths }
+
+-- those that a function is lent, as its contract names them: in a `requires`; and in an `ensures` as they came in, and as they go out
+abbrev pub arraysNow : (hi lo columns valueHi valueLo numbers widths : RefT (List ℕ)) → Arrays
+arraysNow hi lo columns valueHi valueLo numbers widths = arrays (now hi) (now lo) (now columns) (now valueHi) (now valueLo) (now numbers) (now widths)
+
+abbrev pub Lent : Type 0
+Lent = Both (RefT (List ℕ)) (RefT (List ℕ))
+
+abbrev pub arraysIn : (hi lo columns valueHi valueLo numbers widths : Lent) → Arrays
+arraysIn hi lo columns valueHi valueLo numbers widths =
+    arraysNow (hi .entry) (lo .entry) (columns .entry) (valueHi .entry) (valueLo .entry) (numbers .entry) (widths .entry)
+
+abbrev pub arraysOut : (hi lo columns valueHi valueLo numbers widths : Lent) → Arrays
+arraysOut hi lo columns valueHi valueLo numbers widths =
+    arraysNow (hi .exit) (lo .exit) (columns .exit) (valueHi .exit) (valueLo .exit) (numbers .exit) (widths .exit)
 
 -- the arrays of the table have their 128 places
 pub record Sized (a : Arrays) : Type 0 where

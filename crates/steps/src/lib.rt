@@ -1,7 +1,7 @@
 // One statement of a sheet, judged and booked: its reason, and what the judge keeps afterwards.
 ghost use mathlib.Core.Path.{_≡_};
 ghost use Rattle.statement.specs.declared.Statement.the-variants.{Dealloc, Relinquish};
-ghost use Rattle.steps.specs.Steps.{arrays, only, Sized, StatementDone, AllocDone, LedgerDone, MovDone, ledgerOf, stored, stepOf, exitOf};
+ghost use Rattle.steps.specs.Steps.{arraysNow, arraysIn, arraysOut, only, Sized, StatementDone, AllocDone, LedgerDone, MovDone, ledgerOf, stored, stepOf, exitOf};
 use ledger::Booked;
 use ledger::Ledger;
 use statement::Statement;
@@ -53,8 +53,8 @@ fn mov<'a>(
     width: u8,
     number: u64,
 ) -> Step
-    requires { ⌜ Sized (arrays (now hi) (now lo) (now columns) (now «value_hi») (now «value_lo») (now numbers) (now widths)) ⌝ }
-    ensures { λ r. ⌜ MovDone name width number (arrays (now (hi .entry)) (now (lo .entry)) (now (columns .entry)) (now («value_hi» .entry)) (now («value_lo» .entry)) (now (numbers .entry)) (now (widths .entry))) status r (arrays (now (hi .entry)) (now (lo .entry)) (now (columns .entry)) (now («value_hi» .exit)) (now («value_lo» .exit)) (now (numbers .exit)) (now (widths .exit))) ⌝ }
+    requires { ⌜ Sized (arraysNow hi lo columns «value_hi» «value_lo» numbers widths) ⌝ }
+    ensures { λ r. ⌜ MovDone name width number (arraysIn hi lo columns «value_hi» «value_lo» numbers widths) status r (arraysOut hi lo columns «value_hi» «value_lo» numbers widths) ⌝ }
 {
     let taken = ledger::find_in(hi, lo, columns, name);
     if taken.columns != 0 {
@@ -139,8 +139,8 @@ fn alloc<'a>(
     name: Name,
     requested: u32,
 ) -> Step
-    ensures { λ r. ⌜ AllocDone warp name requested (arrays (now (hi .entry)) (now (lo .entry)) (now (columns .entry)) (now («value_hi» .entry)) (now («value_lo» .entry)) (now (numbers .entry)) (now (widths .entry))) status r
-        (arrays (now (hi .exit)) (now (lo .exit)) (now (columns .exit)) (now («value_hi» .entry)) (now («value_lo» .entry)) (now (numbers .entry)) (now (widths .entry))) ⌝ }
+    ensures { λ r. ⌜ AllocDone warp name requested (arraysIn hi lo columns «value_hi» «value_lo» numbers widths) status r
+        (arraysOut hi lo columns «value_hi» «value_lo» numbers widths) ⌝ }
 {
     let bound = bindings::lookup_in(value_hi, value_lo, numbers, widths, name);
     if bound.width != 0 {
@@ -213,8 +213,8 @@ pub fn statement(
     warp: u8,
     t: Statement,
 ) -> Step
-    requires { ⌜ Sized (arrays (now hi) (now lo) (now columns) (now «value_hi») (now «value_lo») (now numbers) (now widths)) ⌝ }
-    ensures { λ r. ⌜ StatementDone held warp t (arrays (now (hi .entry)) (now (lo .entry)) (now (columns .entry)) (now («value_hi» .entry)) (now («value_lo» .entry)) (now (numbers .entry)) (now (widths .entry))) status r (arrays (now (hi .exit)) (now (lo .exit)) (now (columns .exit)) (now («value_hi» .exit)) (now («value_lo» .exit)) (now (numbers .exit)) (now (widths .exit))) ⌝ }
+    requires { ⌜ Sized (arraysNow hi lo columns «value_hi» «value_lo» numbers widths) ⌝ }
+    ensures { λ r. ⌜ StatementDone held warp t (arraysIn hi lo columns «value_hi» «value_lo» numbers widths) status r (arraysOut hi lo columns «value_hi» «value_lo» numbers widths) ⌝ }
 {
     if status.exited {
         return quiet(status, checks::closed_reason(t));
