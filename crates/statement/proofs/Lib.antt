@@ -1,3 +1,4 @@
 pub mod Readings
 pub mod Words
 pub mod Bound
+pub mod Variants
