@@ -2,14 +2,14 @@
 use Prim.Native.Nat.{ℕ, _*_, _≤_, _<_, _^_}
 use native.Mathlib.Nat.{mul-le-mul}
 use native.Mathlib.Omega.{arith}
-use mathlib.Core.Path.{_≡_, refl}
+use mathlib.Core.Path.{_≡_}
 use mathlib.Core.List.{List, [], _∷_}
 use mathlib.Core.Bool.{true}
-use types.Run.{OneOf, miss}
+use types.Run.{OneOf}
 use denote.Enum.Declared.{tagOf}
-use Rattle.statement.proofs.Statement.{the-type}
+use Rattle.statement.proofs.Statement.{enum, the-type}
+use Rattle.statement.proofs.Variants.{allBut, at-each}
 use Rattle.statement.specs.declared.Statement.{Statement}
-use Rattle.statement.specs.declared.Statement.the-variants.{Mov32, Mov64, Alloc, Dealloc, Relinquish, Load, Store, WaitLoad, WaitStore, FenceBefore, FenceAfter, Multiply, Exit}
 use Rattle.statement.specs.declared.Shape.{Shape}
 use Rattle.statement.specs.declared.Shape.the-variants.{S32x32, S16x64, S16x128, S16x256}
 use Rattle.statement.specs.declared.Num.{Num}
@@ -47,23 +47,11 @@ columns-few shape num = omega (arith, mul-le-mul (columns-le shape) (times-le nu
 pub product : (x a n : ℕ) (num : Num) → x ≤ 8 → a ≡ x → n ≡ times num → a * n < 2 ^ 64
 product x a n num h p q = rw (p, q) (omega (arith, mul-le-mul h (times-le num)))
 
--- every variant of a statement but Load (5) and Store (6), by its place in the declaration
+-- every statement but Load (5) and Store (6), by its place in the declaration
 abbrev others : List ℕ
-others = 0 ∷ 1 ∷ 2 ∷ 3 ∷ 4 ∷ 7 ∷ 8 ∷ 9 ∷ 10 ∷ 11 ∷ 12 ∷ []
+others = allBut enum (5 ∷ 6 ∷ [])
 
 -- what is neither a ld nor a st is counted
 pub counted-other : (t : Statement) → OneOf others (tagOf the-type t) → true ≡ counted t
 unfolding counted
-counted-other (Mov32 n v) h = refl
-counted-other (Mov64 n v) h = refl
-counted-other (Alloc n v) h = refl
-counted-other (Dealloc n v) h = refl
-counted-other Relinquish h = refl
-counted-other (Load a) h = absurd (miss others 5 tt h)
-counted-other (Store a) h = absurd (miss others 6 tt h)
-counted-other WaitLoad h = refl
-counted-other WaitStore h = refl
-counted-other FenceBefore h = refl
-counted-other FenceAfter h = refl
-counted-other (Multiply m) h = refl
-counted-other Exit h = refl
+counted-other t h = at-each enum (λ t. true ≡ counted t) others t h (search depth 32)

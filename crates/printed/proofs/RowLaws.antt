@@ -11,16 +11,16 @@ use lib.ListN.{length, getD, take, drop, length-append}
 use lib.Seq.{sets, length-sets}
 use lib.Dec.{eqb, leb}
 use borrow.Author.Tests.{leb-true, leb-false}
-use types.Run.{OneOf, miss}
+use types.Run.{OneOf}
 use denote.Enum.Declared.{tagOf}
-use Rattle.statement.proofs.Statement.{the-type}
+use Rattle.statement.proofs.Statement.{enum, the-type}
 use Rattle.statement.specs.Reading.{readOf}
 use Rattle.statement.specs.declared.Reading.{Reading}
 use Rattle.statement.specs.declared.Reading.the-variants.{Got, NoForm, TooLarge}
 use Rattle.statement.specs.declared.Statement.{Statement}
-use Rattle.statement.specs.declared.Statement.the-variants.{Mov32, Mov64, Alloc, Dealloc, Relinquish, Load, Store, WaitLoad, WaitStore, FenceBefore, FenceAfter, Multiply, Exit}
 use Rattle.statement.specs.Views.{Ask, requestIn, requestOf, of}
 use Rattle.statement.proofs.Readings.{Unread}
+use Rattle.statement.proofs.Variants.{allBut, at-each}
 use Rattle.lines.specs.Sheet.{Content, laid, contentAfter, lineCount, lineAt, headed, bodyAt, After}
 use Rattle.lines.specs.declared.Line as found
 use Rattle.lines.proofs.SheetTheorems.{after-header, one-more, all-done, step-laid, step-after}
@@ -40,25 +40,13 @@ use Rattle.printed.specs.Printed.{rowOf, rowsUpTo}
 abbrev pub rowBy : Asked → ℕ → List Reported
 rowBy a start = cond (a .ok) (record { name = a .name; start = start; columns = a .columns } ∷ []) []
 
--- every statement but an alloc asks for nothing
+-- every statement but an alloc (2), by its place in the declaration, asks for nothing
 abbrev pub others : List ℕ
-others = 0 ∷ 1 ∷ 3 ∷ 4 ∷ 5 ∷ 6 ∷ 7 ∷ 8 ∷ 9 ∷ 10 ∷ 11 ∷ 12 ∷ []
+others = allBut enum (2 ∷ [])
 
 pub alloc-other : (t : Statement) → OneOf others (tagOf the-type t) → noAlloc ≡ allocOf t
 unfolding allocOf
-alloc-other (Mov32 n v) h = refl
-alloc-other (Mov64 n v) h = refl
-alloc-other (Alloc n v) h = absurd (miss others 2 tt h)
-alloc-other (Dealloc n v) h = refl
-alloc-other Relinquish h = refl
-alloc-other (Load a) h = refl
-alloc-other (Store a) h = refl
-alloc-other WaitLoad h = refl
-alloc-other WaitStore h = refl
-alloc-other FenceBefore h = refl
-alloc-other FenceAfter h = refl
-alloc-other (Multiply m) h = refl
-alloc-other Exit h = refl
+alloc-other t h = at-each enum (λ t. noAlloc ≡ allocOf t) others t h (search depth 32)
 
 row-by : (o : Option Ask) (x : ℕ)
     → of o (λ r. record { name = r .name; start = x; columns = r .columns } ∷ []) [] ≡ rowBy (of o (λ r. record { ok = true; name = r .name; columns = r .columns }) noAlloc) x

@@ -9,7 +9,7 @@ use mathlib.Core.Bool.{Bool, true, false, cond}
 use lib.ListN.{length, set, take, drop}
 use lib.Seq.{sets}
 use lib.Dec.{leb}
-use types.Run.{OneOf, miss}
+use types.Run.{OneOf}
 use denote.Enum.Declared.{tagOf}
 use borrow.Author.Tests.{leb-true, le-leb, lt-leb}
 use Rattle.tokens.specs.declared.Name.{Name}
@@ -23,7 +23,7 @@ use Rattle.instruction.specs.declared.Kind.{Kind}
 use Rattle.statement.specs.declared.Statement.{Statement}
 use Rattle.statement.specs.declared.Statement.the-variants.{Exit, Multiply as Multiplied}
 use Rattle.statement.specs.declared.Opcode.{Opcode}
-use Rattle.statement.specs.declared.Opcode.the-variants.{Mov32, Mov64, Alloc, Dealloc, Relinquish, Load, Store, WaitLoad, WaitStore, FenceBefore, FenceAfter, Multiply, Exit as ExitWord}
+use Rattle.statement.specs.declared.Opcode.the-variants.{Multiply}
 use Rattle.statement.specs.declared.Found.{Found}
 use Rattle.statement.specs.declared.Found.the-variants.{Is, Nothing}
 use Rattle.statement.specs.declared.Reading.{Reading}
@@ -34,7 +34,8 @@ use Rattle.statement.specs.Reading.{addressC, operandC, moreC, tally, his, los,
 use Rattle.statement.proofs.Readings.{Unread}
 use Rattle.opcode.specs.declared.Head.{Head}
 use Rattle.opcode.specs.Heads.{headSeen, headBy, headOf}
-use Rattle.statement.proofs.Opcode.{the-type}
+use Rattle.statement.proofs.Opcode.{enum, the-type}
+use Rattle.statement.proofs.Variants.{allBut, at-each}
 use Rattle.reader.specs.Lists.{listC}
 use Rattle.reader.specs.declared.Paired.{Paired}
 use Rattle.reader.specs.Rows.{pairedOpcode, bracketedOf, limitOf, madeOf, namedC, pairC, metadataC}
@@ -185,25 +186,17 @@ module _ (s : List ℕ) (t : Took Whole) (answer : Reading) (short : length s �
 
 -- every opcode but Load (5) and Store (6), by its place in the declaration
 abbrev others : List ℕ
-others = 0 ∷ 1 ∷ 2 ∷ 3 ∷ 4 ∷ 7 ∷ 8 ∷ 9 ∷ 10 ∷ 11 ∷ 12 ∷ []
+others = allBut enum (5 ∷ 6 ∷ [])
+
+list-mma : (ws sp : Bool) (kind : Kind) (r : Rest) → listC (Multiply ws sp kind) r ≡ []
+unfolding listC operandsC
+list-mma ws false kind r = refl
+list-mma ws true kind r = refl
 
 -- what is neither a ld nor a st names no registers
 pub list-other : (o : Opcode) (r : Rest) → OneOf others (tagOf the-type o) → listC o r ≡ []
 unfolding listC operandsC
-list-other Mov32 r h = refl
-list-other Mov64 r h = refl
-list-other (Alloc shared) r h = refl
-list-other Dealloc r h = refl
-list-other Relinquish r h = refl
-list-other (Load shape num) r h = absurd (miss others 5 tt h)
-list-other (Store shape num) r h = absurd (miss others 6 tt h)
-list-other WaitLoad r h = refl
-list-other WaitStore r h = refl
-list-other FenceBefore r h = refl
-list-other FenceAfter r h = refl
-list-other (Multiply ws false kind) r h = refl
-list-other (Multiply ws true kind) r h = refl
-list-other ExitWord r h = refl
+list-other o r h = at-each enum (λ o. listC o r ≡ []) others o h (search list-mma depth 32)
 
 -- ---- rows
 -- a name, a comma, a number and the end are the row

@@ -12,7 +12,9 @@ use Rattle.instruction.specs.Instruction.{listing}
 use Rattle.request.specs.Request.{legal}
 use Rattle.statement.specs.declared.Access.{Access}
 use Rattle.statement.specs.declared.Mma.{Mma}
-use Rattle.statement.specs.declared.Statement.the-variants.{Mov32, Mov64, Alloc, Dealloc, Relinquish, Load, Store, WaitLoad, WaitStore, FenceBefore, FenceAfter, Multiply, Exit}
+use Rattle.statement.specs.declared.Statement.{Statement}
+use Rattle.statement.specs.declared.Statement.the-variants.{Mov32, Mov64, Alloc, Dealloc, Relinquish, Load, Store, Multiply, Exit}
+use Rattle.statement.specs.Views.{actOf, nothing}
 use Rattle.statement.specs.Cells as cells
 use Rattle.rules.specs.State.{State, Placer, isLive, isBound, columnsOf}
 use Rattle.rules.specs.Reasons.{openRules, named, roomed, warped, sized, permitted, placed, reads, mListed, nListed, typesListed, inside, cleared, roomFor, isWarp, laneOfWarp, ends, mmaNamed, mmaReads, fieldsOf, allEnd}
@@ -106,19 +108,7 @@ module _ (place : Placer) (s : State) (held w : ℕ) where
   unfolding openRules cells.counted named roomed warped sized permitted placed reads mListed nListed typesListed inside cleared
   exit-first = refl
 
-  -- waits and fences break none
-  pub wait-load-first : firstBroken (openRules place s held w WaitLoad) ≡ 0
+  -- what does nothing breaks none
+  pub nothing-first : (t : Statement) → actOf t ≡ nothing → firstBroken (openRules place s held w t) ≡ 0
   unfolding openRules cells.counted named roomed warped sized permitted placed reads mListed nListed typesListed inside cleared
-  wait-load-first = refl
-
-  pub wait-store-first : firstBroken (openRules place s held w WaitStore) ≡ 0
-  unfolding openRules cells.counted named roomed warped sized permitted placed reads mListed nListed typesListed inside cleared
-  wait-store-first = refl
-
-  pub fence-before-first : firstBroken (openRules place s held w FenceBefore) ≡ 0
-  unfolding openRules cells.counted named roomed warped sized permitted placed reads mListed nListed typesListed inside cleared
-  fence-before-first = refl
-
-  pub fence-after-first : firstBroken (openRules place s held w FenceAfter) ≡ 0
-  unfolding openRules cells.counted named roomed warped sized permitted placed reads mListed nListed typesListed inside cleared
-  fence-after-first = refl
+  nothing-first t e = rw e

@@ -2,3 +2,4 @@ pub mod Every
 pub mod Readings
 pub mod Words
 pub mod Bound
+pub mod Variants

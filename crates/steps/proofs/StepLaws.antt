@@ -7,6 +7,8 @@ use mathlib.Core.List.{List, [], _∷_}
 use mathlib.Core.Logic.{_⊎_, inl, inr}
 use native.Mathlib.Omega.{arith}
 use lib.Dec.{ltb, eqb}
+use types.Run.{OneOf}
+use denote.Enum.Declared.{tagOf}
 use lib.ListN.{set}
 use borrow.Author.Tests.{lt-ltb, le-ltb, eq-eqb, ne-eqb, eqb-true, eqb-false}
 use Rattle.laws.specs.Rules.{firstBroken}
@@ -15,12 +17,14 @@ use Rattle.tokens.specs.Names.{sameName}
 use Rattle.statement.specs.declared.Access.{Access}
 use Rattle.statement.specs.declared.Mma.{Mma}
 use Rattle.statement.specs.declared.Statement.{Statement}
-use Rattle.statement.specs.declared.Statement.the-variants.{Mov32, Mov64, Alloc, Dealloc, Relinquish, Load, Store, WaitLoad, WaitStore, FenceBefore, FenceAfter, Multiply, Exit}
+use Rattle.statement.specs.declared.Statement.the-variants.{Mov32, Mov64, Alloc, Dealloc, Relinquish, Load, Store, Multiply, Exit}
 use Rattle.statement.specs.Views as act
-use Rattle.statement.specs.Views.{actOf}
+use Rattle.statement.specs.Views.{actOf, nothing}
+use Rattle.statement.proofs.Statement.{enum, the-type}
+use Rattle.statement.proofs.Variants.{at-each}
 use Rattle.rules.specs.State.{State, Binding, lowest, isLive, isBound, bind}
 use Rattle.rules.specs.Reasons.{openRules, closedRules, rules}
-use Rattle.rules.proofs.ByForm.{movRules, mov32-first, mov64-first, alloc-legal, wait-load-first, wait-store-first, fence-before-first, fence-after-first, exit-first}
+use Rattle.rules.proofs.ByForm.{movRules, mov32-first, mov64-first, alloc-legal, nothing-first, exit-first}
 use Rattle.statement.specs.Cells.{counted}
 use Rattle.rules.specs.Sheet.{statement, effect, given, requested, released, moved, startList}
 use Rattle.tokens.proofs.Names.{same-true}
@@ -122,21 +126,13 @@ module _ (held w : ℕ) (a : Arrays) (status : Status) (r : Step) where
         (λ s k. quiet-gives a status s k _ reason (e s held w (k .tables)))
 
   module _ (p : r ≡ only status 0) where
-    pub wait-load-done : OpenDone held w WaitLoad a status r a
+    pub nothing-done : (t : Statement) → actOf t ≡ nothing → OpenDone held w t a status r a
     unfolding effect given requested released
-    wait-load-done = subst (λ (y : Step). OpenDone held w WaitLoad a status y a) (sym p) (λ s k. quiet-gives a status s k _ 0 (sym (wait-load-first lowest s held w)))
+    nothing-done t e = subst (λ (y : Step). OpenDone held w t a status y a) (sym p) (λ s k. rw e (quiet-gives a status s k _ 0 (sym (nothing-first lowest s held w t e))))
 
-    pub wait-store-done : OpenDone held w WaitStore a status r a
-    unfolding effect given requested released
-    wait-store-done = subst (λ (y : Step). OpenDone held w WaitStore a status y a) (sym p) (λ s k. quiet-gives a status s k _ 0 (sym (wait-store-first lowest s held w)))
-
-    pub fence-before-done : OpenDone held w FenceBefore a status r a
-    unfolding effect given requested released
-    fence-before-done = subst (λ (y : Step). OpenDone held w FenceBefore a status y a) (sym p) (λ s k. quiet-gives a status s k _ 0 (sym (fence-before-first lowest s held w)))
-
-    pub fence-after-done : OpenDone held w FenceAfter a status r a
-    unfolding effect given requested released
-    fence-after-done = subst (λ (y : Step). OpenDone held w FenceAfter a status y a) (sym p) (λ s k. quiet-gives a status s k _ 0 (sym (fence-after-first lowest s held w)))
+-- waits and fences, by their places in the declaration
+pub idle : (t : Statement) → OneOf (7 ∷ 8 ∷ 9 ∷ 10 ∷ []) (tagOf the-type t) → actOf t ≡ nothing
+idle t h = at-each enum (λ t. actOf t ≡ nothing) (7 ∷ 8 ∷ 9 ∷ 10 ∷ []) t h search
 
 -- ---- exit
 abbrev left : Status → Status

@@ -267,10 +267,10 @@ pub fn statement(
         Statement::Relinquish => relinquish(hi, lo, columns, status, warp),
         Statement::Load(a) => quiet(status, checks::access_reason(hi, lo, columns, warp, a)),
         Statement::Store(a) => quiet(status, checks::access_reason(hi, lo, columns, warp, a)),
-        Statement::WaitLoad => quiet(status, reasons::PASSED),
-        Statement::WaitStore => quiet(status, reasons::PASSED),
-        Statement::FenceBefore => quiet(status, reasons::PASSED),
-        Statement::FenceAfter => quiet(status, reasons::PASSED),
+        Statement::WaitLoad
+        | Statement::WaitStore
+        | Statement::FenceBefore
+        | Statement::FenceAfter => quiet(status, reasons::PASSED),
         Statement::Multiply(m) => {
             quiet(
                 status,

@@ -1,6 +1,6 @@
 -- `steps::statement` meets its contract: after exit a statement is closed, and before it each arm is one law (StepLaws.antt). Assumes nothing.
 use mathlib.Core.Path.{refl}
-use Rattle.steps.proofs.StepLaws.{open-done, closed-done, load-done, store-done, multiply-done, wait-load-done, wait-store-done, fence-before-done, fence-after-done, exit-done}
+use Rattle.steps.proofs.StepLaws.{open-done, closed-done, load-done, store-done, multiply-done, nothing-done, idle, exit-done}
 use borrow.Author.Needs.{needs}
 use Rattle.steps.proofs.statement.Statement.{statement}
 use Rattle.steps.proofs.statement.Tie as tie
@@ -65,29 +65,8 @@ access-reason-requires-2 c κs = search needs
 quiet-requires-3 : tie.Need-quiet-requires-3
 quiet-requires-3 c κs = search needs
 
-enum-told-2 : tie.Need-enum-told-2
-enum-told-2 c = search needs
-
 quiet-requires-4 : tie.Need-quiet-requires-4
 quiet-requires-4 c κs = search needs
-
-enum-told-3 : tie.Need-enum-told-3
-enum-told-3 c = search needs
-
-quiet-requires-5 : tie.Need-quiet-requires-5
-quiet-requires-5 c κs = search needs
-
-enum-told-4 : tie.Need-enum-told-4
-enum-told-4 c = search needs
-
-quiet-requires-6 : tie.Need-quiet-requires-6
-quiet-requires-6 c κs = search needs
-
-enum-told-5 : tie.Need-enum-told-5
-enum-told-5 c = search needs
-
-quiet-requires-7 : tie.Need-quiet-requires-7
-quiet-requires-7 c κs = search needs
 
 enum-known-t-7 : tie.Need-enum-known-t-7
 enum-known-t-7 c = search needs
@@ -95,11 +74,11 @@ enum-known-t-7 c = search needs
 mma-reason-requires : tie.Need-mma-reason-requires
 mma-reason-requires c κs = search needs
 
-quiet-requires-8 : tie.Need-quiet-requires-8
-quiet-requires-8 c κs = search needs
+quiet-requires-5 : tie.Need-quiet-requires-5
+quiet-requires-5 c κs = search needs
 
-enum-told-6 : tie.Need-enum-told-6
-enum-told-6 c = search needs
+enum-told-2 : tie.Need-enum-told-2
+enum-told-2 c = search needs
 
 leave-requires : tie.Need-leave-requires
 leave-requires c κs = search needs
@@ -126,22 +105,15 @@ returns-8 : tie.Need-returns-8
 returns-8 c = open-done _ _ _ _ (c .before .before .before .before .before .before .t6 .given .1) _ _ _ _ (c .before .before .before .before .before .before .before .before .if1 .left) (store-done _ _ _ _ _ _ (c .quiet3 .ensures) _ (c .before .access-reason2 .ensures))
 
 returns-9 : tie.Need-returns-9
-returns-9 c = open-done _ _ _ _ (c .before .enum-told2 .given .1) _ _ _ _ (c .before .before .before .if1 .left) (wait-load-done _ _ _ _ _ (c .quiet4 .ensures))
+returns-9 c =
+    let t = c .before .before .before .args .t in
+    open-done _ _ _ t refl _ _ _ _ (c .before .before .if1 .left) (nothing-done _ _ _ _ _ (c .quiet4 .ensures) t (idle t (c .before .match .keys8)))
 
 returns-10 : tie.Need-returns-10
-returns-10 c = open-done _ _ _ _ (c .before .enum-told3 .given .1) _ _ _ _ (c .before .before .before .if1 .left) (wait-store-done _ _ _ _ _ (c .quiet5 .ensures))
+returns-10 c = open-done _ _ _ _ (c .before .before .before .before .before .before .before .before .before .before .t7 .given .1) _ _ _ _ (c .before .before .before .before .before .before .before .before .before .before .before .before .if1 .left) (multiply-done _ _ _ _ _ _ (c .quiet5 .ensures) _ (c .before .mma-reason .ensures))
 
 returns-11 : tie.Need-returns-11
-returns-11 c = open-done _ _ _ _ (c .before .enum-told4 .given .1) _ _ _ _ (c .before .before .before .if1 .left) (fence-before-done _ _ _ _ _ (c .quiet6 .ensures))
-
-returns-12 : tie.Need-returns-12
-returns-12 c = open-done _ _ _ _ (c .before .enum-told5 .given .1) _ _ _ _ (c .before .before .before .if1 .left) (fence-after-done _ _ _ _ _ (c .quiet7 .ensures))
-
-returns-13 : tie.Need-returns-13
-returns-13 c = open-done _ _ _ _ (c .before .before .before .before .before .before .before .before .before .before .t7 .given .1) _ _ _ _ (c .before .before .before .before .before .before .before .before .before .before .before .before .if1 .left) (multiply-done _ _ _ _ _ _ (c .quiet8 .ensures) _ (c .before .mma-reason .ensures))
-
-returns-14 : tie.Need-returns-14
-returns-14 c = open-done _ _ _ _ (c .before .enum-told6 .given .1) _ _ _ _ (c .before .before .before .if1 .left) (exit-done _ _ _ _ _ (c .leave .ensures))
+returns-11 c = open-done _ _ _ _ (c .before .enum-told2 .given .1) _ _ _ _ (c .before .before .before .if1 .left) (exit-done _ _ _ _ _ (c .leave .ensures))
 
 pub statement-spec : {M : Type 1} → statement M
 statement-spec =
@@ -167,18 +139,11 @@ statement-spec =
     enum-known-t-6
     access-reason-requires-2
     quiet-requires-3
-    enum-told-2
     quiet-requires-4
-    enum-told-3
-    quiet-requires-5
-    enum-told-4
-    quiet-requires-6
-    enum-told-5
-    quiet-requires-7
     enum-known-t-7
     mma-reason-requires
-    quiet-requires-8
-    enum-told-6
+    quiet-requires-5
+    enum-told-2
     leave-requires
     returns-2
     returns-3
@@ -189,7 +154,4 @@ statement-spec =
     returns-8
     returns-9
     returns-10
-    returns-11
-    returns-12
-    returns-13
-    returns-14)
+    returns-11)
