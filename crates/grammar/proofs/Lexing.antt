@@ -1,5 +1,5 @@
 -- Marks, names and numbers are read exactly where a text spells them: past the spaces there is one token, and its bytes say what it is. Assumes nothing.
-use Prim.Native.Nat.{ℕ, zero, suc, _≤_}
+use Prim.Native.Nat.{ℕ, zero, suc, _+_, _≤_}
 use native.Mathlib.Omega.{arith}
 use mathlib.Core.Path.{_≡_, refl, sym, ap, _∙_}
 use mathlib.Core.List.{List, [], _∷_, _++_}
@@ -7,7 +7,7 @@ use mathlib.Core.Bool.{Bool, true, false, _&&_, _||_, not, cond}
 use lib.ListN.{length, take, drop, take-append-drop}
 use lib.Seq.{take-append-seam, drop-append-seam}
 use lib.Dec.{eqb, leb, ltb}
-use borrow.Author.Tests.{eq-eqb, eqb-true, eqb-false}
+use borrow.Author.Tests.{le-leb, eq-eqb, eqb-true, eqb-false}
 use Rattle.tokens.specs.Text.{byte}
 use Rattle.tokens.specs.declared.Name.{Name}
 use Rattle.tokens.specs.Bytes.{between, letter, wordByte, blank, runLen, all, afterBlanks, tokenLen, tokenOf, afterToken}
@@ -308,34 +308,21 @@ number-complete limit v l r o f k =
     rw (word-at (k .bytes) l r g (k .spelled), token-is (k .bytes) r g (k .spelled .ends), k .good, k .value)
     (number-cut limit v r o f (k .bytes ++ r) (token-after (k .bytes) r g (k .spelled .ends)))
 
--- ---- one reading
--- what a mark is, and what follows it
+-- ---- one reading: a reader gives one answer, so a text that spells two things spells one
+pub took-one : {A : Type 0} {t : Took A} {v u : A} {r s f g : List ℕ} {o p : Bool} → t ≡ record { value = v; next = at r o f } → t ≡ record { value = u; next = at s p g } → (v ≡ u) × (r ≡ s)
+took-one {A} e d = let q = sym e ∙ d in (ap (λ (x : Took A). x .value) q, ap (λ (x : Took A). x .next .rest) q)
+
 pub mark-one : (m : ℕ) (l r s : List ℕ) → blank m ≡ false → Mark m l r → Mark m l s → r ≡ s
-mark-one m l r s d a b = let p = sym (mark-at m d a) ∙ mark-at m d b in cc
+mark-one m l r s d a b = ap (λ (x : Rest). x .rest) (sym (mark-complete m l r false [] d a) ∙ mark-complete m l s false [] d b)
 
 pub mark-two : (m x : ℕ) (l r s : List ℕ) → blank m ≡ false → blank x ≡ false → eqb m x ≡ false → Mark m l r → Mark x l s → ⊥
 mark-two m x l r s d e h a b = let p = sym (mark-at m d a) ∙ mark-at x e b in let q : m ≡ x = cc in eqb-false m x h q
 
-module _ (w v l r s : List ℕ) (g : whole w ≡ true) (h : whole v ≡ true) (a : Word w l r) (b : Word v l s) where
-  word-parts : w ++ r ≡ v ++ s
-  word-parts = sym (word-at w l r g a) ∙ word-at v l s h b
-
-  pub word-one : w ≡ v
-  word-one = sym (token-is w r g (a .ends)) ∙ (ap (λ (u : List ℕ). tokenOf u) word-parts ∙ token-is v s h (b .ends))
-
-  pub word-rest : r ≡ s
-  word-rest = sym (token-after w r g (a .ends)) ∙ (ap (λ (u : List ℕ). afterToken u) word-parts ∙ token-after v s h (b .ends))
-
 pub name-one : (n m : Name) (l r s : List ℕ) → NameText n l r → NameText m l s → (n ≡ m) × (r ≡ s)
-name-one n m l r s a b =
-    let g = name-whole (a .bytes) (a .good) in
-    let h = name-whole (b .bytes) (b .good) in
-    let p = word-one (a .bytes) (b .bytes) l r s g h (a .spelled) (b .spelled) in
-    (sym (a .value) ∙ (ap packed p ∙ b .value), word-rest (a .bytes) (b .bytes) l r s g h (a .spelled) (b .spelled))
+name-one n m l r s a b = took-one (name-complete n l r false [] a) (name-complete m l s false [] b)
 
+-- read with a limit that neither is over
 pub number-one : (n m : ℕ) (l r s : List ℕ) → NumberText n l r → NumberText m l s → (n ≡ m) × (r ≡ s)
 number-one n m l r s a b =
-    let g = number-whole (a .bytes) (a .good) in
-    let h = number-whole (b .bytes) (b .good) in
-    let p = word-one (a .bytes) (b .bytes) l r s g h (a .spelled) (b .spelled) in
-    (sym (a .value) ∙ (ap valueOf p ∙ b .value), word-rest (a .bytes) (b .bytes) l r s g h (a .spelled) (b .spelled))
+    let q = took-one (number-complete (n + m) n l r false [] a .is) (number-complete (n + m) m l s false [] b .is) in
+    (rw (le-leb n (n + m) (omega arith), le-leb m (n + m) (omega arith)) at (q .0), q .1)

@@ -17,7 +17,7 @@ use Rattle.statement.specs.declared.Operand.the-variants as operand
 use Rattle.statement.specs.Forms.{Slot, name, number, inBrackets, address, operand, names, Value, maxOffset}
 use Rattle.statement.specs.Reading.{inBracketsC, offsetC, insideC, addressC, operandC, moreC, namesC, slotC}
 use Rattle.grammar.specs.Spells.{Mark, NameText, BracketText, OffsetText, bare, plus, AddressText, OperandText, byName, byAddress, MoreNames, closes, comma, NamesText, opens, SlotText, sizedOperand, sizedSlot}
-use Rattle.grammar.proofs.Lexing.{at, Reads, cut, overBy, whole-head, other, word-at, name-whole, mark-at, mark-none, mark-sound, mark-complete, name-sound, name-complete, number-sound, number-complete, mark-one, mark-two, name-one, number-one}
+use Rattle.grammar.proofs.Lexing.{at, Reads, cut, overBy, whole-head, other, word-at, name-whole, mark-at, mark-none, mark-sound, mark-complete, name-sound, name-complete, number-sound, number-complete, took-one, mark-one, mark-two, name-one, number-one}
 
 -- ---- what is read spells an operand
 bracket-sound : (r : Rest) → inBracketsC r .next .ok ≡ true → (r .ok ≡ true) × (v : Name) × BracketText v (r .rest) (inBracketsC r .next .rest)
@@ -224,11 +224,7 @@ slot-complete names v l r o f t = record { far = f; is = names-complete v l r o 
 
 -- ---- one reading
 bracket-one : (v u : Name) (l r s : List ℕ) → BracketText v l r → BracketText u l s → (v ≡ u) × (r ≡ s)
-unfolding blank
-bracket-one v u l r s a b =
-    let p = mark-one (byte "[") l (a .l₁) (b .l₁) refl (a .opens) (b .opens) in
-    let q = name-one v u (a .l₁) (a .l₂) (b .l₂) (a .inner) (rw p (b .inner)) in
-    (q .0, mark-one (byte "]") (a .l₂) r s refl (a .closes) (rw (q .1) (b .closes)))
+bracket-one v u l r s a b = took-one (bracket-complete v l r false [] a) (bracket-complete u l s false [] b)
 
 offset-one : (v u : ℕ) (l r s r₁ s₁ : List ℕ) → OffsetText v l r → OffsetText u l s → Mark (byte "]") r r₁ → Mark (byte "]") s s₁ → (v ≡ u) × (r ≡ s)
 unfolding blank
@@ -257,24 +253,8 @@ operand-one (operand.Descriptor n) (operand.Address b) l r s (byName a) (byAddre
 operand-one (operand.Address a) (operand.Descriptor m) l r s (byAddress k) (byName b) = absurd (name-bracket m l s (k .l₁) b (k .opens))
 operand-one (operand.Address a) (operand.Address b) l r s (byAddress j) (byAddress k) = let p = address-one a b l r s j k in (ap operand.Address (p .0), p .1)
 
-more-one : (ns ms : List Name) (l r s : List ℕ) → MoreNames ns l r → MoreNames ms l s → (ns ≡ ms) × (r ≡ s)
-unfolding blank
-more-one [] [] l r s (closes a) (closes b) = (refl, mark-one (byte "}") l r s refl a b)
-more-one [] (m ∷ ms) l r s (closes a) (comma {l₁ = l₁} b t i) = absurd (mark-two (byte "}") (byte ",") l r l₁ refl refl refl a b)
-more-one (n ∷ ns) [] l r s (comma {l₁ = l₁} a t i) (closes b) = absurd (mark-two (byte "}") (byte ",") l s l₁ refl refl refl b a)
-more-one (n ∷ ns) (m ∷ ms) l r s (comma {l₁ = l₁} {l₂ = l₂} a t i) (comma {l₁ = k₁} {l₂ = k₂} b u j) =
-    let p = mark-one (byte ",") l l₁ k₁ refl a b in
-    let q = name-one n m l₁ l₂ k₂ t (rw p u) in
-    let z = more-one ns ms l₂ r s i (rw (q .1) j) in
-    (rw (q .0, z .0), z .1)
-
 names-one : (ns ms : List Name) (l r s : List ℕ) → NamesText ns l r → NamesText ms l s → (ns ≡ ms) × (r ≡ s)
-unfolding blank
-names-one (n ∷ ns) (m ∷ ms) l r s (opens {l₁ = l₁} {l₂ = l₂} g a t i) (opens {l₁ = k₁} {l₂ = k₂} h b u j) =
-    let p = mark-one (byte "{") l l₁ k₁ refl a b in
-    let q = name-one n m l₁ l₂ k₂ t (rw p u) in
-    let z = more-one ns ms l₂ r s i (rw (q .1) j) in
-    (rw (q .0, z .0), z .1)
+names-one ns ms l r s a b = took-one (names-complete ns l r false [] a) (names-complete ms l s false [] b)
 
 pub slot-one : (k : Slot) (v u : Value k) (l r s : List ℕ) → SlotText k v l r → SlotText k u l s → (v ≡ u) × (r ≡ s)
 slot-one name v u l r s a b = name-one v u l r s a b
