@@ -32,18 +32,6 @@ module _ (room : List ℕ) (at : ℕ) (w : List ℕ) where
   pub put-yes : at + length w ≤ length room → (e : ℕ) (t : List ℕ) → (e ≡ at + length w) × (t ≡ sets room at w) → (e ≡ putEnd (length room) at w) × (t ≡ putText room at w)
   put-yes h e t k = (k .0 ∙ sym (put-fits h .0), k .1 ∙ sym (put-fits h .1))
 
--- a text put after another is both put at once
-pub put-after : (room : List ℕ) (at : ℕ) (v w : List ℕ) → at + length v + length w ≤ length room
-    → (putText (putText room at v) (putEnd (length room) at v) w ≡ putText room at (v ++ w)) × (putEnd (length room) (putEnd (length room) at v) w ≡ putEnd (length room) at (v ++ w))
-put-after room at v w h =
-    let n = length-append v w in
-    let a = put-fits room at v (omega arith) in
-    let b = put-fits room at (v ++ w) (omega arith) in
-    let m : length (sets room at v) ≡ length room = length-sets room at v in
-    let d = put-fits (sets room at v) (at + length v) w (omega arith) in
-    let e = put-fits room (at + length v) w h in
-    (rw (a .0, a .1, b .1) (d .1 ∙ sets-append room at v w), rw (a .0, b .0) (e .0 ∙ omega arith))
-
 -- ---- the pieces of a line
 
 module _ (b t d : List ℕ) (at v mark e z : ℕ) where

@@ -3,8 +3,6 @@ use borrow.Author.Needs.{needs}
 use Rattle.writer.proofs.operand.named.Statement.{statement}
 use Rattle.writer.proofs.operand.named.Tie as tie
 
--- x
-
 brackets-requires : tie.Need-brackets-requires
 brackets-requires c κs = search needs
 
