@@ -10,7 +10,7 @@ use lib.ListN.{length, take, drop}
 use lib.Seq.{sets, sets-eq, length-sets, take-append-seam}
 use borrow.Author.Tests.{eq-eqb, ne-eqb, lt-ltb, le-ltb}
 use Rattle.lines.specs.Sheet.{after, contentOf, lineAt, lineCount, headed, bodyAt, After}
-use Rattle.lines.proofs.SheetLaws.{line-seen}
+use Rattle.lines.proofs.SheetLaws.{fault-seen, line-seen}
 use Rattle.lines.proofs.SheetTheorems.{after-header, one-more, all-done, step-more, step-after}
 use Rattle.laws.specs.Rules.{firstBroken}
 use Rattle.rules.specs.declared.Answer.{Answer}
@@ -25,7 +25,7 @@ use Rattle.steps.specs.Steps.{Arrays, arrays}
 use Rattle.progress.specs.declared.Progress.{Progress}
 use Rattle.progress.specs.declared.Advanced.{Advanced}
 use Rattle.progress.specs.Going.{seen, lineSeen, opening, Going, Ready, passedBy, Next, Went}
-use Rattle.progress.proofs.LineLaws.{fault-seen, starts-few}
+use Rattle.progress.proofs.LineLaws.{starts-few}
 use Rattle.progress.proofs.Going as going
 use Rattle.judge.specs.Judged.{linesOf, sheetOf}
 use Rattle.judge.specs.Standing.{Standing}

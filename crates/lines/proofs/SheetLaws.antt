@@ -6,8 +6,9 @@ use mathlib.Core.Path.{_≡_, refl, sym, ap, _∙_}
 use mathlib.Core.List.{List}
 use mathlib.Core.Bool.{Bool, true, false, cond}
 use lib.ListN.{length, getD, take, drop, drop-of-length-le, length-drop}
-use lib.Seq.{drop-drop, getD-drop, getD-take, take-all}
+use lib.Seq.{drop-drop, getD-drop, getD-take}
 use Rattle.laws.proofs.ListLaws.{drop-take}
+use Rattle.laws.proofs.StoreLaws.{tail-is}
 use Rattle.lines.specs.declared.Line.{Line}
 use Rattle.lines.specs.Sheet.{upto, textOf, rest, after, lineCount, warpByte, warpOf, laidOut, fault, laid, contentOf, noLine, lineAt, contentSeen}
 use Rattle.lines.proofs.LineLaws.{after-suc, count-line}
@@ -18,7 +19,7 @@ use Rattle.lines.proofs.LayoutLaws.{laid-warp, laid-ended, laid-two}
 module _ (s : List ℕ) (at : ℕ) where
   -- a slice from a place on
   pub from-here : take (length s - at) (drop at s) ≡ drop at s
-  from-here = take-all (length s - at) (drop at s) (omega (arith, length-drop at s))
+  from-here = tail-is s (length s) at refl
 
   pub find-past : length s ≤ at → noLine ≡ lineAt s at
   unfolding lineAt laidOut textOf upto warpByte

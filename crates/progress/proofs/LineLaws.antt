@@ -1,34 +1,22 @@
--- One line: what an accepted line asks for and is given is small, and a line found by places is a layout fault or a warp and a statement's bytes.
--- Assumes nothing.
-use Prim.Native.Nat.{ℕ, zero, suc, _+_, _*_, _-_, _≤_, _<_}
-use mathlib.Core.Path.{_≡_, refl, sym, ap, _∙_}
+-- What an accepted line asks for and is given is small. Assumes nothing.
+use Prim.Native.Nat.{ℕ, zero, suc, _*_, _-_, _≤_, _<_}
+use mathlib.Core.Path.{_≡_, refl, ap}
 use mathlib.Core.Bool.{Bool, true, false, cond}
-use mathlib.Core.List.{List, [], _∷_, _++_}
+use mathlib.Core.List.{List, [], _∷_}
 use mathlib.Core.Option.{Option, none, some}
 use native.Mathlib.Omega.{arith}
 use lib.Dec.{ltb, eqb}
-use lib.ListN.{length, take, drop, length-append}
+use lib.ListN.{length, length-append}
 use borrow.Author.Tests.{ltb-true}
-use Rattle.lines.specs.declared.Line as lines
-use Rattle.lines.specs.Sheet.{fault, laid, contentSeen}
 use Rattle.laws.proofs.BoolLaws.{and-r}
 use Rattle.request.specs.Request.{legal}
 use Rattle.request.proofs.RequestLaws.{request-exact}
 use Rattle.statement.specs.Views.{Ask, requestIn, requestOf, releaseOf, for, holds, of}
-use Rattle.rules.specs.State.{State, Allocation, slot, lowest, columnsOf}
+use Rattle.rules.specs.State.{State, slot, lowest, columnsOf}
 use Rattle.rules.specs.Reasons.{sized}
-use Rattle.rules.specs.Sheet.{Line, actIn, lineRules, startList, given, requested, released, sum, heldAfter, ours, stateAfter, startsBy, startsUpTo, rulesBy}
+use Rattle.rules.specs.Sheet.{Line, actIn, lineRules, startList, given, requested, sum, heldAfter, ours, stateAfter, startsBy, startsUpTo, rulesBy}
 use Rattle.rules.specs.Claims.{AllKept}
 use Rattle.rules.proofs.RuleLaws.{accepted-line}
-
--- a line found by places: a layout fault, or its warp and the bytes of its statement
-pub fault-seen : (s : List ℕ) (l : lines.Line) → l .ok ≡ false → contentSeen s l ≡ fault
-unfolding contentSeen
-fault-seen s l h = ap (λ (b : Bool). cond b (laid (l .warp) (take (l .end - l .start) (drop (l .start) s))) fault) h
-
-pub laid-seen : (s : List ℕ) (l : lines.Line) → l .ok ≡ true → contentSeen s l ≡ laid (l .warp) (take (l .end - l .start) (drop (l .start) s))
-unfolding contentSeen
-laid-seen s l h = ap (λ (b : Bool). cond b (laid (l .warp) (take (l .end - l .start) (drop (l .start) s))) fault) h
 
 -- ---- what is asked for
 asked-by : (s : State) (o p : Option Ask) → holds (for o (λ r. legal (r .columns)) ∷ for p (λ r. eqb (columnsOf (r .name) (s .live)) (r .columns)) ∷ []) ≡ true → of o (λ r. r .columns) 0 ≤ 512

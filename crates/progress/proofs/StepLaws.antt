@@ -9,7 +9,7 @@ use lib.ListN.{length, take, drop}
 use borrow.Author.Tests.{lt-ltb}
 use Rattle.lines.specs.declared.Line as lines
 use Rattle.lines.specs.Sheet.{Content, fault, laid, contentOf, contentSeen, lineAt}
-use Rattle.lines.proofs.SheetLaws.{line-seen, line-inside, line-next}
+use Rattle.lines.proofs.SheetLaws.{fault-seen, laid-seen, line-seen, line-inside, line-next}
 use Rattle.lines.proofs.SheetTheorems.{read-written, warp-below}
 use Rattle.laws.specs.Rules.{firstBroken}
 use Rattle.statement.specs.declared.Statement.{Statement}
@@ -25,7 +25,6 @@ use Rattle.steps.specs.declared.Status.{Status}
 use Rattle.steps.specs.declared.Step.{Step}
 use Rattle.steps.specs.Steps.{Arrays, only, Gives, StatementDone, LineDone}
 use Rattle.progress.specs.Going.{seen, lineSeen}
-use Rattle.progress.proofs.LineLaws.{fault-seen, laid-seen}
 
 -- a line that is refused for a reason in any state
 only-done : (held : ℕ) (x : Line) (why : ℕ) → ((s : State) → firstBroken (lineRules lowest s held x) ≡ why) → (why ≡ 0 → ⊥)
