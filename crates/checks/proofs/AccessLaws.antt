@@ -10,7 +10,7 @@ use Rattle.statement.specs.declared.Statement.the-variants.{Load, Store}
 use Rattle.statement.specs.Cells as cells
 use Rattle.rules.specs.State.{State, lowest, isLive, columnsOf}
 use Rattle.rules.specs.Reasons.{laneOf, columnOf, laneOfWarp, openRules}
-use Rattle.rules.proofs.ByForm.{accessRules, load-first, store-first}
+use Rattle.rules.proofs.ByForm.{accessRules, first-broken}
 use Rattle.ledger.specs.declared.Span.{Span}
 use Rattle.ledger.specs.Booking.{findIn}
 use Rattle.ledger.specs.Shows.{Slots}
@@ -26,7 +26,7 @@ module _ (s : State) (held w : ℕ) (a : Access) where
   Both r = (r ≡ firstBroken (openRules lowest s held w (Load a))) × (r ≡ firstBroken (openRules lowest s held w (Store a)))
 
   both : (r : ℕ) → r ≡ firstBroken (accessRules s w a) → Both r
-  both r e = (e ∙ sym (load-first lowest s held w a), e ∙ sym (store-first lowest s held w a))
+  both r e = (e ∙ sym (first-broken lowest s held w (Load a)), e ∙ sym (first-broken lowest s held w (Store a)))
 
   pub access-5 : cells.miscounted a ≡ true → Both 5
   access-5 m = both 5 (rw m)

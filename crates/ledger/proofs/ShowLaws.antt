@@ -20,7 +20,7 @@ use Rattle.rules.specs.State.{State, Allocation, lowest, opened}
 use Rattle.rules.specs.Reasons.{isWarp, openRules}
 use Rattle.rules.specs.Sheet.{effect, startList, added, fixed}
 use Rattle.rules.proofs.CountingLaws.{least-hit}
-use Rattle.rules.proofs.ByForm.{alloc-first, dealloc-first, relinquish-first}
+use Rattle.rules.proofs.ByForm.{first-broken}
 use Rattle.ledger.specs.declared.Ledger.{Ledger}
 use Rattle.ledger.specs.declared.Booked.{Booked}
 use Rattle.ledger.specs.Slots.{fitsAt, placeOf, total}
@@ -118,7 +118,7 @@ module _ (l : Ledger) (s : State) (h : Shows l s) where
   alloc-reason : (n : Name) (held w k : ℕ) → firstBroken (openRules lowest s held w (Alloc n k)) ≡ cond (rules.isBound n (s .values)) 6 (allocOf l n w k .reason)
   unfolding allocOf
   alloc-reason n held w k =
-      alloc-first lowest s held w n k
+      first-broken lowest s held w (Alloc n k)
       ∙ alloc-order (rules.isLive n (s .live)) (rules.isBound n (s .values)) (isWarp (s .warp) w) (legal k) (not (s .relinquished)) (ltb (place l k) 16) (isSome (lowest (s .live) k)) (placed-test k)
       ∙ ap (cond (rules.isBound n (s .values)) 6) (sym (
       booked-reason l (withAllocation l (place l k) n w k) (firstBroken (allocRules l n w k)) (place l k * 32)
@@ -127,13 +127,13 @@ module _ (l : Ledger) (s : State) (h : Shows l s) where
   release-reason : (n : Name) (held w k : ℕ) → firstBroken (openRules lowest s held w (Dealloc n k)) ≡ releaseOf l n w k .reason
   unfolding releaseOf
   release-reason n held w k =
-      dealloc-first lowest s held w n k
+      first-broken lowest s held w (Dealloc n k)
       ∙ sym (booked-reason l (withoutAllocation l (slot l n)) (firstBroken (releaseRules l n w k)) 0 ∙ rw (live-test n, warp-test w, columns-test n))
 
   relinquish-reason : (held w : ℕ) → firstBroken (openRules lowest s held w Relinquish) ≡ relinquishOf l w .reason
   unfolding relinquishOf
   relinquish-reason held w =
-      relinquish-first lowest s held w
+      first-broken lowest s held w Relinquish
       ∙ sym (booked-reason l (afterRelinquish l w) (firstBroken (relinquishRules l w)) 0 ∙ rw (warp-test w))
 
   -- what a kept alloc says

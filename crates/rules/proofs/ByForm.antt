@@ -1,5 +1,5 @@
--- The rules by form: of each sort of statement only a few rows of the list can be broken, and the first broken one is that of those few. A row that
--- is added to the list is added here, and nothing above changes but for the forms that it is of. Assumes nothing.
+-- The rules by what a statement does: of each act only a few rows of the list can be broken, and the first broken one is that of those few. A row that
+-- is added to the list is added here, and nothing above changes but for the acts that it is of. Assumes nothing.
 use Prim.Native.Nat.{ℕ}
 use mathlib.Core.Path.{_≡_, refl, sym, ap, _∙_}
 use mathlib.Core.Bool.{Bool, true, not, _&&_, cond}
@@ -13,8 +13,9 @@ use Rattle.request.specs.Request.{legal}
 use Rattle.statement.specs.declared.Access.{Access}
 use Rattle.statement.specs.declared.Mma.{Mma}
 use Rattle.statement.specs.declared.Statement.{Statement}
-use Rattle.statement.specs.declared.Statement.the-variants.{Mov32, Mov64, Alloc, Dealloc, Relinquish, Load, Store, Multiply, Exit}
-use Rattle.statement.specs.Views.{actOf, nothing}
+use Rattle.statement.specs.declared.Statement.the-variants.{Alloc, Multiply}
+use Rattle.statement.specs.Views as act
+use Rattle.statement.specs.Views.{Act, actOf}
 use Rattle.statement.specs.Cells as cells
 use Rattle.rules.specs.State.{State, Placer, isLive, isBound, columnsOf}
 use Rattle.rules.specs.Reasons.{openRules, named, roomed, warped, sized, permitted, placed, reads, mListed, nListed, typesListed, inside, cleared, roomFor, isWarp, laneOfWarp, ends, mmaNamed, mmaReads, fieldsOf, allEnd}
@@ -23,21 +24,6 @@ use Rattle.rules.proofs.RuleLaws.{none-kept, in-turn}
 -- a mov at either width
 abbrev pub movRules : State → Name → List Rule
 movRules s n = rule 6 (not (isLive n (s .live))) ∷ rule 7 (roomFor s n) ∷ []
-
-abbrev pub allocRules : Placer → State → ℕ → Name → ℕ → List Rule
-allocRules place s w n k =
-    rule 6 (not (isLive n (s .live)) && not (isBound n (s .values)))
-    ∷ rule 8 (isWarp (s .warp) w)
-    ∷ rule 9 (legal k)
-    ∷ rule 10 (not (s .relinquished))
-    ∷ rule 11 (isSome (place (s .live) k))
-    ∷ []
-
-abbrev pub deallocRules : State → ℕ → Name → ℕ → List Rule
-deallocRules s w n k = rule 6 (isLive n (s .live)) ∷ rule 8 (isWarp (s .warp) w) ∷ rule 9 (eqb (columnsOf n (s .live)) k) ∷ []
-
-abbrev pub relinquishRules : State → ℕ → List Rule
-relinquishRules s w = rule 8 (isWarp (s .warp) w) ∷ []
 
 -- a ld or st
 abbrev pub accessRules : State → ℕ → Access → List Rule
@@ -48,67 +34,51 @@ accessRules s w a =
     ∷ rule 14 (ends s (a .address) (cells.columnsOf (a .shape) (a .num)))
     ∷ []
 
--- an mma: the rules of listing are those of its instruction descriptor
-abbrev pub mmaRules : State → Mma → List Rule
-mmaRules s m = rule 6 (all (mmaNamed s m)) ∷ rule 12 (all (mmaReads s m)) ∷ (listing (m .kind) (m .ws) (fieldsOf s m) ++ rule 14 (all (allEnd s m)) ∷ [])
-
-abbrev pub exitRules : ℕ → List Rule
-exitRules held = rule 15 (eqb held 0) ∷ []
+-- the rules that an act can break; the rules of listing are those of an mma's instruction descriptor
+abbrev pub actRules : Placer → State → (held w : ℕ) → Act → List Rule
+actRules place s held w (act.binds n width v) = movRules s n
+actRules place s held w (act.requests n k) =
+    rule 6 (not (isLive n (s .live)) && not (isBound n (s .values)))
+    ∷ rule 8 (isWarp (s .warp) w)
+    ∷ rule 9 (legal k)
+    ∷ rule 10 (not (s .relinquished))
+    ∷ rule 11 (isSome (place (s .live) k))
+    ∷ []
+actRules place s held w (act.releases n k) = rule 6 (isLive n (s .live)) ∷ rule 8 (isWarp (s .warp) w) ∷ rule 9 (eqb (columnsOf n (s .live)) k) ∷ []
+actRules place s held w act.relinquishes = rule 8 (isWarp (s .warp) w) ∷ []
+actRules place s held w (act.accesses a) = accessRules s w a
+actRules place s held w (act.multiplies m) =
+    rule 6 (all (mmaNamed s m)) ∷ rule 12 (all (mmaReads s m)) ∷ (listing (m .kind) (m .ws) (fieldsOf s m) ++ rule 14 (all (allEnd s m)) ∷ [])
+actRules place s held w act.exits = rule 15 (eqb held 0) ∷ []
+actRules place s held w act.nothing = []
 
 -- the number of an mma, by that of its listing
 abbrev pub mmaOrder : (names words : Bool) → (listing : ℕ) → (ends : Bool) → ℕ
 mmaOrder names words listing ends = cond names (cond words (cond (eqb listing 0) (cond ends 0 14) listing) 12) 6
 
 module _ (place : Placer) (s : State) (held w : ℕ) where
-  pub mov32-first : (n : Name) (v : ℕ) → firstBroken (openRules place s held w (Mov32 n v)) ≡ firstBroken (movRules s n)
+  by-act : (t : Statement) (a : Act) → actOf t ≡ a → firstBroken (openRules place s held w t) ≡ firstBroken (actRules place s held w a)
   unfolding openRules cells.counted named roomed warped sized permitted placed reads mListed nListed typesListed inside cleared
-  mov32-first n v = refl
+  by-act t (act.binds n width v) e = rw e
+  by-act t (act.requests n k) e = rw e
+  by-act t (act.releases n k) e = rw e
+  by-act t act.relinquishes e = rw e
+  by-act t (act.accesses a) e = rw e
+  by-act t (act.multiplies m) e = rw e
+  by-act t act.exits e = rw e
+  by-act t act.nothing e = rw e
 
-  pub mov64-first : (n : Name) (v : ℕ) → firstBroken (openRules place s held w (Mov64 n v)) ≡ firstBroken (movRules s n)
-  unfolding openRules cells.counted named roomed warped sized permitted placed reads mListed nListed typesListed inside cleared
-  mov64-first n v = refl
+  pub first-broken : (t : Statement) → firstBroken (openRules place s held w t) ≡ firstBroken (actRules place s held w (actOf t))
+  first-broken t = by-act t (actOf t) refl
 
-  pub alloc-first : (n : Name) (k : ℕ) → firstBroken (openRules place s held w (Alloc n k)) ≡ firstBroken (allocRules place s w n k)
-  unfolding openRules cells.counted named roomed warped sized permitted placed reads mListed nListed typesListed inside cleared
-  alloc-first n k = refl
-
-  -- one that breaks none is legal
+  -- an alloc that breaks none is legal
   pub alloc-legal : (n : Name) (k : ℕ) → firstBroken (openRules place s held w (Alloc n k)) ≡ 0 → legal k ≡ true
-  alloc-legal n k e = none-kept (allocRules place s w n k) refl (sym (alloc-first n k) ∙ e) .1 .1 .0
+  alloc-legal n k e = none-kept (actRules place s held w (act.requests n k)) refl (sym (first-broken (Alloc n k)) ∙ e) .1 .1 .0
 
-  pub dealloc-first : (n : Name) (k : ℕ) → firstBroken (openRules place s held w (Dealloc n k)) ≡ firstBroken (deallocRules s w n k)
-  unfolding openRules cells.counted named roomed warped sized permitted placed reads mListed nListed typesListed inside cleared
-  dealloc-first n k = refl
-
-  pub relinquish-first : firstBroken (openRules place s held w Relinquish) ≡ firstBroken (relinquishRules s w)
-  unfolding openRules cells.counted named roomed warped sized permitted placed reads mListed nListed typesListed inside cleared
-  relinquish-first = refl
-
-  pub load-first : (a : Access) → firstBroken (openRules place s held w (Load a)) ≡ firstBroken (accessRules s w a)
-  unfolding openRules cells.counted named roomed warped sized permitted placed reads mListed nListed typesListed inside cleared
-  load-first a = refl
-
-  pub store-first : (a : Access) → firstBroken (openRules place s held w (Store a)) ≡ firstBroken (accessRules s w a)
-  unfolding openRules cells.counted named roomed warped sized permitted placed reads mListed nListed typesListed inside cleared
-  store-first a = refl
-
-  pub mma-first : (m : Mma) → firstBroken (openRules place s held w (Multiply m)) ≡ firstBroken (mmaRules s m)
-  unfolding openRules cells.counted named roomed warped sized permitted placed reads mListed nListed typesListed inside cleared
-  mma-first m = refl
-
-  -- its listing in turn: the number is that of the first rule of listing that is broken
+  -- an mma's listing in turn: the number is that of the first rule of listing that is broken
   pub mma-listed : (m : Mma) → firstBroken (openRules place s held w (Multiply m))
       ≡ mmaOrder (all (mmaNamed s m)) (all (mmaReads s m)) (firstBroken (listing (m .kind) (m .ws) (fieldsOf s m))) (all (allEnd s m))
   mma-listed m =
-      mma-first m
+      first-broken (Multiply m)
       ∙ ap (λ n. cond (all (mmaNamed s m)) (cond (all (mmaReads s m)) n 12) 6)
       (in-turn (listing (m .kind) (m .ws) (fieldsOf s m)) (rule 14 (all (allEnd s m)) ∷ []) refl)
-
-  pub exit-first : firstBroken (openRules place s held w Exit) ≡ firstBroken (exitRules held)
-  unfolding openRules cells.counted named roomed warped sized permitted placed reads mListed nListed typesListed inside cleared
-  exit-first = refl
-
-  -- what does nothing breaks none
-  pub nothing-first : (t : Statement) → actOf t ≡ nothing → firstBroken (openRules place s held w t) ≡ 0
-  unfolding openRules cells.counted named roomed warped sized permitted placed reads mListed nListed typesListed inside cleared
-  nothing-first t e = rw e

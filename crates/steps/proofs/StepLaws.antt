@@ -24,7 +24,7 @@ use Rattle.statement.proofs.Statement.{enum, the-type}
 use Rattle.statement.proofs.Variants.{at-each}
 use Rattle.rules.specs.State.{State, Binding, lowest, isLive, isBound, bind}
 use Rattle.rules.specs.Reasons.{openRules, closedRules, rules}
-use Rattle.rules.proofs.ByForm.{movRules, mov32-first, mov64-first, alloc-legal, nothing-first, exit-first}
+use Rattle.rules.proofs.ByForm.{movRules, first-broken, alloc-legal}
 use Rattle.statement.specs.Cells.{counted}
 use Rattle.rules.specs.Sheet.{statement, effect, given, requested, released, moved, startList}
 use Rattle.tokens.proofs.Names.{same-true}
@@ -128,7 +128,7 @@ module _ (held w : ℕ) (a : Arrays) (status : Status) (r : Step) where
   module _ (p : r ≡ only status 0) where
     pub nothing-done : (t : Statement) → actOf t ≡ nothing → OpenDone held w t a status r a
     unfolding effect given requested released
-    nothing-done t e = subst (λ (y : Step). OpenDone held w t a status y a) (sym p) (λ s k. rw e (quiet-gives a status s k _ 0 (sym (nothing-first lowest s held w t e))))
+    nothing-done t e = subst (λ (y : Step). OpenDone held w t a status y a) (sym p) (λ s k. rw e (quiet-gives a status s k _ 0 (sym (rw (first-broken lowest s held w t, e)))))
 
 -- waits and fences, by their places in the declaration
 pub idle : (t : Statement) → OneOf (7 ∷ 8 ∷ 9 ∷ 10 ∷ []) (tagOf the-type t) → actOf t ≡ nothing
@@ -139,7 +139,7 @@ abbrev left : Status → Status
 left status = record { fixed = status .fixed; warp = status .warp; relinquished = status .relinquished; exited = true }
 
 exit-reason : (s : State) (held w : ℕ) (b : Bool) → eqb held 0 ≡ b → cond b 0 15 ≡ firstBroken (openRules lowest s held w Exit)
-exit-reason s held w b e = ap (λ (x : Bool). cond x 0 15) (sym e) ∙ sym (exit-first lowest s held w)
+exit-reason s held w b e = ap (λ (x : Bool). cond x 0 15) (sym e) ∙ sym (first-broken lowest s held w Exit)
 
 exit-by : (a : Arrays) (status : Status) (held w : ℕ) (b : Bool) → eqb held 0 ≡ b → OpenDone held w Exit a status (cond b (only (left status) 0) (only status 15)) a
 unfolding effect given requested released
@@ -389,10 +389,10 @@ mov-done : (n : Name) (width v : ℕ) (a : Arrays) (status : Status) (r : Step) 
 unfolding effect given requested released
 mov-done n width v a status r after f = record {
   at32 = λ held w e g s k.
-      subst (λ (R : ℕ). Gives R (moved s n 32 v) [] 0 0 a status r after) (sym (mov32-first lowest s held w n v))
+      subst (λ (R : ℕ). Gives R (moved s n 32 v) [] 0 0 a status r after) (sym (first-broken lowest s held w (Mov32 n v)))
       (subst (λ (x : ℕ). Gives (movReason s n) (moved s n x v) [] 0 0 a status r after) e (f (omega (arith, e)) (λ y. g) s k));
   at64 = λ held w e s k.
-      subst (λ (R : ℕ). Gives R (moved s n 64 v) [] 0 0 a status r after) (sym (mov64-first lowest s held w n v))
+      subst (λ (R : ℕ). Gives R (moved s n 64 v) [] 0 0 a status r after) (sym (first-broken lowest s held w (Mov64 n v)))
       (subst (λ (x : ℕ). Gives (movReason s n) (moved s n x v) [] 0 0 a status r after) e (f (omega (arith, e)) (λ y. absurd (omega (arith, e, y))) s k));
 }
 
