@@ -10,7 +10,7 @@ use Rattle.statement.specs.declared.Statement.the-variants.{Load, Store}
 use Rattle.statement.specs.Cells as cells
 use Rattle.rules.specs.State.{State, lowest, isLive, columnsOf}
 use Rattle.rules.specs.Reasons.{laneOf, columnOf, laneOfWarp, openRules}
-use Rattle.rules.proofs.ByForm.{accessRules, first-broken}
+use Rattle.rules.proofs.ByAct.{accessRules, first-broken}
 use Rattle.ledger.specs.declared.Span.{Span}
 use Rattle.ledger.specs.Booking.{findIn}
 use Rattle.ledger.specs.Shows.{Slots}

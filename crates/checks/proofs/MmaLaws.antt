@@ -21,7 +21,7 @@ use Rattle.statement.specs.declared.Statement.the-variants.{Multiply}
 use Rattle.statement.specs.Canonical.{sparse}
 use Rattle.rules.specs.State.{State, lowest, isLive, columnsOf, widthOf, numberOf}
 use Rattle.rules.specs.Reasons.{laneOf, columnOf, sharedReads, mmaEnds, operandNamed, metadataNamed, operandReads, operandEnds, metadataEnds, mmaNamed, mmaReads, allEnd, instructionOf, fieldsOf, openRules}
-use Rattle.rules.proofs.ByForm.{mmaOrder, mma-listed}
+use Rattle.rules.proofs.ByAct.{mmaOrder, mma-listed}
 use Rattle.laws.proofs.BoolLaws.{and-r}
 use Rattle.ledger.specs.declared.Span.{Span}
 use Rattle.ledger.specs.Booking.{findIn}

@@ -6,7 +6,7 @@ ghost use lib.Dec.{eqb, leb};
 ghost use Rattle.laws.specs.Rules.{firstBroken};
 ghost use Rattle.statement.specs.Canonical.{sparse};
 ghost use Rattle.statement.specs.Cells.{columnsOf};
-ghost use Rattle.rules.specs.Reasons.{closedRules};
+ghost use Rattle.rules.specs.Reasons.{perLane, closedRules};
 ghost use Rattle.checks.specs.Checks.{AccessJudged, AddressTested, DescriptorTested, OperandTested, MetadataTested, OperandsJudged, MmaJudged};
 use bindings::Value;
 use statement::Access;
@@ -26,28 +26,31 @@ pub struct Tested {
     pub ends: bool,
 }
 
+// The offset from a lane to the next.
+const LANE: u32 = 65536;
+
 // The lane of an offset is the warp's: 32w, or for a shape of 16 lanes 32w + 16 too.
 fn is_lane(warp: u8, lanes: usize, offset: u32) -> bool
-    ensures { λ r. ⌜ r ≡ eqb (offset / 65536) (32 * warp) || (eqb lanes 16 && eqb (offset / 65536) (32 * warp + 16)) ⌝ }
+    ensures { λ r. ⌜ r ≡ eqb (offset / perLane) (32 * warp) || (eqb lanes 16 && eqb (offset / perLane) (32 * warp + 16)) ⌝ }
 {
-    let lane = offset / 65536;
+    let lane = offset / LANE;
     let first = 32 * (warp as u32);
     (lane == first) | ((lanes == 16) & (lane == first + 16))
 }
 
 // Some columns from an offset's column on are among those of an allocation.
 fn ends_within(offset: u32, needed: u32, columns: u32) -> bool
-    ensures { λ r. ⌜ r ≡ leb (offset % 65536 + needed) columns ⌝ }
+    ensures { λ r. ⌜ r ≡ leb (offset % perLane + needed) columns ⌝ }
 {
-    let column = (offset % 65536) as u64;
+    let column = (offset % LANE) as u64;
     column + (needed as u64) <= (columns as u64)
 }
 
 // The same, and the lane is 0.
 fn mma_within(offset: u32, needed: u32, columns: u32) -> bool
-    ensures { λ r. ⌜ r ≡ eqb (offset / 65536) 0 && leb (offset % 65536 + needed) columns ⌝ }
+    ensures { λ r. ⌜ r ≡ eqb (offset / perLane) 0 && leb (offset % perLane + needed) columns ⌝ }
 {
-    (offset / 65536 == 0) & ends_within(offset, needed, columns)
+    (offset / LANE == 0) & ends_within(offset, needed, columns)
 }
 
 // The columns of an access.
@@ -132,7 +135,7 @@ fn descriptor_tested<'a>(
     let d = shared_memory::decode(v.number);
     Tested {
         named: v.width == 64,
-        reads: d.reason == 0,
+        reads: d.reason == reasons::PASSED,
         ends: true,
     }
 }

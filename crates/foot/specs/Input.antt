@@ -5,13 +5,14 @@ use mathlib.Core.List.{List, []}
 use lib.ListN.{take}
 use lib.Dec.{eqb, ltb}
 use lib.IntN.{ℤ, pos, negsuc}
+use Rattle.lines.specs.Sheet.{mostBytes}
 use Rattle.printed.specs.Printed.{reportOf}
 use Rattle.foot.specs.declared.Input.{Input}
 use Rattle.foot.specs.declared.Input.the-variants.{More, All, Failed}
 
--- an answer of `read` after n bytes: a negative one is a failure; 0 is the end, and over 65,536 bytes no more are asked for
+-- an answer of `read` after n bytes: a negative one is a failure; 0 is the end, and so are more bytes than a sheet may have
 abbrev pub takenOf : ℕ → ℤ → Input
-takenOf n (pos k) = cond (eqb k 0 || ltb 65536 (n + k)) (All (n + k)) (More (n + k))
+takenOf n (pos k) = cond (eqb k 0 || ltb mostBytes (n + k)) (All (n + k)) (More (n + k))
 takenOf n (negsuc k) = Failed
 
 -- reading is over, and what came is inside of so many bytes

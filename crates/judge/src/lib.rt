@@ -9,7 +9,7 @@ ghost use Prim.Native.Nat.{_≤_};
 ghost use lib.Dec.{eqb};
 ghost use lib.ListN.{length, take};
 ghost use lib.Seq.{sets};
-ghost use Rattle.lines.specs.Sheet.{headed, lineCount};
+ghost use Rattle.lines.specs.Sheet.{mostLines, headed, lineCount};
 ghost use Rattle.rules.specs.Sheet.{answer, closing, answerOf, startsOf};
 ghost use Rattle.judge.specs.Judged.{sheetOf, judgedOf, startCount, startsAfter, RunKept};
 
@@ -56,11 +56,11 @@ fn finish(p: Progress, room: usize) -> Judged
 }
 
 // The lines after line 1 of a sheet that begins with its header; the starts go to the first places of `given`.
-fn judge_lines(sheet: &[u8], room: usize, given: &mut [u16; 4096]) -> Judged
-    requires { ⌜ (headed (now sheet) ≡ true) × (lineCount (now sheet) ≤ 4096) × (length (now given) ≡ 4096) ⌝ }
+fn judge_lines(sheet: &[u8], room: usize, given: &mut [u16; lines::LINES]) -> Judged
+    requires { ⌜ (headed (now sheet) ≡ true) × (lineCount (now sheet) ≤ mostLines) × (length (now given) ≡ mostLines) ⌝ }
     ensures answer { λ r. ⌜ r .answer ≡ answerOf (sheetOf (now (sheet .entry))) room ⌝ }
     ensures count { λ r. ⌜ r .starts ≡ cond (eqb (r .answer .reason) 0) (length (startsOf (sheetOf (now (sheet .entry))))) 0 ⌝ }
-    ensures size { λ r. ⌜ (r .starts ≤ 4096) × (length (now (given .exit)) ≡ 4096) ⌝ }
+    ensures size { λ r. ⌜ (r .starts ≤ mostLines) × (length (now (given .exit)) ≡ mostLines) ⌝ }
     ensures starts { λ r. ⌜ (r .answer .reason ≡ 0 → take (r .starts) (now (given .exit)) ≡ startsOf (sheetOf (now (sheet .entry)))) ⌝ }
 {
     let ledger = Ledger::new();
@@ -89,7 +89,7 @@ fn judge_lines(sheet: &[u8], room: usize, given: &mut [u16; 4096]) -> Judged
             p,
         );
         p = done.progress;
-        if done.reason != 0 {
+        if done.reason != reasons::PASSED {
             return refused(done.reason, p.line, p.held, p.peak);
         }
         at = done.next;
@@ -123,9 +123,9 @@ pub fn judge(sheet: &[u8], starts: &mut [u16]) -> Judged
     if !lines::is_headed(sheet) {
         return refused(reasons::LAYOUT, 1, 0, 0);
     }
-    let mut given = [0u16; 4096];
+    let mut given = [0u16; lines::LINES];
     let judged = judge_lines(sheet, starts.len(), &mut given);
-    if judged.answer.reason == 0 {
+    if judged.answer.reason == reasons::PASSED {
         put_starts(&mut *starts, &given[..judged.starts]);
     }
     judged

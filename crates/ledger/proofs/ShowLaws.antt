@@ -20,7 +20,7 @@ use Rattle.rules.specs.State.{State, Allocation, lowest, opened}
 use Rattle.rules.specs.Reasons.{isWarp, openRules}
 use Rattle.rules.specs.Sheet.{effect, startList, added, fixed}
 use Rattle.rules.proofs.CountingLaws.{least-hit}
-use Rattle.rules.proofs.ByForm.{first-broken}
+use Rattle.rules.proofs.ByAct.{first-broken}
 use Rattle.ledger.specs.declared.Ledger.{Ledger}
 use Rattle.ledger.specs.declared.Booked.{Booked}
 use Rattle.ledger.specs.Slots.{fitsAt, placeOf, total}

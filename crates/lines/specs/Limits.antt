@@ -1,5 +1,5 @@
 -- Reason 1 at both sides of its limits, of any bytes. proofs/LimitsProved.antt proves it. Assumes nothing.
-use Prim.Native.Nat.{ℕ}
+use Prim.Native.Nat.{ℕ, _≤_, _<_}
 use mathlib.Core.Path.{_≡_}
 use mathlib.Core.Bool.{true, false}
 use mathlib.Core.List.{List}
@@ -7,8 +7,8 @@ use lib.ListN.{length}
 use Rattle.lines.specs.Sheet.{lineCount, oversize}
 
 pub record Limits (s : List ℕ) : Type 0 where
-  -- 65,536 bytes in 4,096 lines are a sheet
-  pub largest : length s ≡ 65536 → lineCount s ≡ 4096 → oversize s ≡ false
-  -- a byte more, or a line more, is too much
-  pub byte-more : length s ≡ 65537 → oversize s ≡ true
-  pub line-more : lineCount s ≡ 4097 → oversize s ≡ true
+  -- up to 65,536 bytes in up to 4,096 lines are not reason 1
+  pub within : length s ≤ 65536 → lineCount s ≤ 4096 → oversize s ≡ false
+  -- more bytes, or more lines, are
+  pub bytes-over : 65536 < length s → oversize s ≡ true
+  pub lines-over : 4096 < lineCount s → oversize s ≡ true

@@ -71,7 +71,7 @@ warpByte x = between (byte "0") (byte "3") x || eqb x (byte "*")
 unfoldable pub warpOf : ℕ → ℕ
 warpOf x = cond (eqb x (byte "*")) 0 (x - byte "0")
 
--- a byte of a statement: a space, and all that print
+-- a byte of a statement: 32 to 126, a space and all that print
 unfoldable pub plain : ℕ → Bool
 plain x = between (byte " ") (byte "~") x
 
@@ -98,9 +98,16 @@ contentAfter k s = contentOf (after k s)
 
 -- ---- limits
 
--- reason 1, asked of all bytes: over 65,536 bytes or 4,096 lines
+-- the most bytes and the most lines of a sheet
+abbrev pub mostBytes : ℕ
+mostBytes = 65536
+
+abbrev pub mostLines : ℕ
+mostLines = 4096
+
+-- reason 1, asked of all bytes: more bytes or more lines
 unfoldable pub oversize : List ℕ → Bool
-oversize s = ltb 65536 (length s) || ltb 4096 (lineCount s)
+oversize s = ltb mostBytes (length s) || ltb mostLines (lineCount s)
 
 -- ---- places
 

@@ -7,6 +7,12 @@ ghost use Rattle.laws.specs.Tests.{bit};
 ghost use Rattle.tokens.specs.Bytes.{all, runLen};
 ghost use Rattle.lines.specs.Sheet.{upto, lfs, lineCount, oversize, headed, warpByte, warpOf, plain, laidOut, lineAt};
 
+// The most bytes of a sheet.
+pub const BYTES: usize = 65536;
+
+// The most lines of a sheet.
+pub const LINES: usize = 4096;
+
 // The bytes of line 1, its LF among them: where line 2 starts.
 pub const HEADER: usize = 16;
 
@@ -84,14 +90,14 @@ pub fn count_lines(s: &[u8]) -> usize
     n + 1
 }
 
-// Reason 1: over 65,536 bytes or 4,096 lines.
+// Reason 1: too many bytes or lines.
 pub fn size_fault(sheet: &[u8]) -> bool
     ensures { λ r. ⌜ r ≡ oversize (now (sheet .entry)) ⌝ }
 {
-    if 65536 < sheet.len() {
+    if BYTES < sheet.len() {
         return true;
     }
-    4096 < count_lines(sheet)
+    LINES < count_lines(sheet)
 }
 
 // The byte at a place, or 0 past the end.

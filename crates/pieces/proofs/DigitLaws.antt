@@ -4,7 +4,8 @@ use native.Mathlib.Omega.{arith}
 use mathlib.Core.Path.{_≡_, refl, sym, ap, _∙_}
 use mathlib.Core.List.{List, [], _∷_, _++_, append-assoc, append-nil}
 use mathlib.Core.Bool.{Bool, true, false, cond}
-use lib.ListN.{length, drop, set, length-append, drop-of-length-le}
+use lib.ListN.{length, take, drop, set, length-append, drop-of-length-le}
+use lib.Seq.{take-take, take-set-le}
 use lib.Dec.{eqb}
 use borrow.Author.Tests.{eq-eqb, ne-eqb, eqb-true, eqb-false}
 use Rattle.laws.proofs.StoreLaws.{drop-set}
@@ -86,6 +87,11 @@ digit-step q r out zero w p h n = absurd (omega arith)
 digit-step q r out (suc i) w p h n =
     let e : suc i - 1 ≡ i = omega arith in
     rw (e, drop-set out i (r w) h, short-some q r i w n, append-assoc (short q r i (q w)) (r w ∷ []) (drop (suc i) out))
+
+-- the places before it stay
+pub kept-step : (out first : List ℕ) (i x : ℕ) → take i out ≡ take i first → take (i - 1) (set out (i - 1) x) ≡ take (i - 1) first
+kept-step out first i x h =
+    take-set-le (i - 1) out (i - 1) x (omega arith) ∙ sym (take-take (i - 1) i out (omega arith)) ∙ ap (take (i - 1)) h ∙ take-take (i - 1) i first (omega arith)
 
 -- no digit left
 pub digit-end : (q r : ℕ → ℕ) (out : List ℕ) (i w : ℕ) → w ≡ 0 → short q r i w ++ drop i out ≡ drop i out

@@ -29,7 +29,7 @@ use Rattle.rules.proofs.FiguresProved.{figures-exact}
 use Rattle.progress.specs.Going.{seen}
 use Rattle.judge.specs.Judged.{linesOf, sheetOf, judgedOf, startsAfter}
 use Rattle.report.specs.Report.{Reported, headText, rowsText, reportText, reportRoom}
-use Rattle.report.specs.Pieces.{fieldText}
+use Rattle.report.specs.Fields.{fieldText}
 use Rattle.tokens.proofs.Lengths.{decimal-short}
 use Rattle.report.proofs.ReportLaws.{head-is}
 use Rattle.report.proofs.Bounds.{Small, rows-short, decimal-below}

@@ -7,7 +7,7 @@ use lib.ListN.{length, getD}
 use lib.Seq.{sets}
 use lib.Dec.{leb}
 use Rattle.statement.specs.Views.{requestIn, of}
-use Rattle.lines.specs.Sheet.{lineCount}
+use Rattle.lines.specs.Sheet.{mostLines, lineCount}
 use Rattle.rules.specs.declared.Answer.{Answer}
 use Rattle.rules.specs.Sheet.{Line, actIn, startsOf}
 use Rattle.rules.specs.Claims.{Passing}
@@ -31,7 +31,7 @@ rowsOf s = rowsUpTo (linesOf s) (startsOf (sheetOf s)) (lineCount s - 1)
 
 -- the answer, where 4,096 places are lent
 abbrev pub answered : List ℕ → Answer
-answered s = judgedOf s 4096
+answered s = judgedOf s mostLines
 
 -- the bytes of a sheet's report
 unfoldable pub reportOf : List ℕ → List ℕ

@@ -7,7 +7,7 @@ ghost use Prim.Native.Nat.{_+_, _-_, _≤_};
 ghost use lib.ListN.{length};
 ghost use lib.Seq.{sets};
 ghost use Rattle.statement.specs.Reading.{readOf};
-ghost use Rattle.lines.specs.Sheet.{lineCount};
+ghost use Rattle.lines.specs.Sheet.{mostLines, lineCount};
 ghost use Rattle.report.specs.Report.{rowsText, reportRoom};
 ghost use Rattle.judge.specs.Judged.{linesOf, judgedOf};
 ghost use Rattle.printed.specs.Printed.{rowsUpTo, printedOf, roomAfter, RunPrinted};
@@ -77,7 +77,7 @@ fn wider(x: u32) -> u64
 
 // The rows of a sheet that passed, from a place on: a row for each alloc, in a second pass over the lines after line 1.
 fn rows(sheet: &[u8], starts: &[u16], room: &mut [u8], from: usize) -> usize
-    requires passed { ⌜ (judgedOf (now sheet) 4096 .reason ≡ 0) × (length (now starts) ≡ 4096) ⌝ }
+    requires passed { ⌜ (judgedOf (now sheet) mostLines .reason ≡ 0) × (length (now starts) ≡ mostLines) ⌝ }
     requires fits { ⌜ from + length (rowsText (rowsUpTo (linesOf (now sheet)) (now starts) (lineCount (now sheet) - 1))) ≤ length (now room) ⌝ }
     ensures next { λ r. ⌜ r ≡ from + length (rowsText (rowsUpTo (linesOf (now (sheet .entry))) (now (starts .entry)) (lineCount (now (sheet .entry)) - 1))) ⌝ }
     ensures places { λ r. ⌜ now (room .exit) ≡ sets (now (room .entry)) from (rowsText (rowsUpTo (linesOf (now (sheet .entry))) (now (starts .entry)) (lineCount (now (sheet .entry)) - 1))) ⌝ }
@@ -117,14 +117,14 @@ pub fn print(sheet: &[u8], room: &mut [u8]) -> Printed
             length: 0,
         };
     }
-    let mut starts = [0u16; 4096];
+    let mut starts = [0u16; lines::LINES];
     let judged = judge::judge(sheet, &mut starts);
     let reason = judged.answer.reason;
     let line = judged.answer.line as u64;
     let held = judged.answer.held;
     let peak = judged.answer.peak;
     let at = report::head(&mut *room, 0, wider(reason), line, wider(held), wider(peak));
-    if reason != 0 {
+    if reason != reasons::PASSED {
         return Printed { reason, length: at };
     }
     let length = rows(sheet, &starts, room, at);

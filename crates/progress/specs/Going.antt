@@ -7,7 +7,7 @@ use lib.Dec.{eqb}
 use lib.ListN.{length}
 use lib.Seq.{sets}
 use Rattle.statement.specs.Reading.{readOf}
-use Rattle.lines.specs.Sheet.{Content, fault, laid, contentSeen, lineAt}
+use Rattle.lines.specs.Sheet.{Content, fault, mostLines, laid, contentSeen, lineAt}
 use Rattle.rules.specs.Sheet.{Line, badLayout, lineOf, heldAfter, peakUpTo, ours, reasonBy, stateAfter, startsUpTo}
 use Rattle.steps.specs.declared.Status.{Status}
 use Rattle.steps.specs.declared.Step.{Step}
@@ -40,15 +40,15 @@ pub record Going (lines : ℕ → Line) (k : ℕ) (first given : List ℕ) (a : 
   pub starts-are : given ≡ sets first 0 (startsUpTo lines k)
 
 -- ---- one line more
--- the line x comes next, after fewer than 4,095 lines
+-- the line x comes next, and is at most the last that a sheet may have
 pub record Ready (x : Line) (given : List ℕ) (a : Arrays) (p : Progress) : Type 0 where
   pub lines : ℕ → Line
   pub done : ℕ
   pub first : List ℕ
   pub going : Going lines done first given a p
   pub here : lines done ≡ x
-  pub few : done < 4095
-  pub places : length given ≡ 4096
+  pub few : suc done < mostLines
+  pub places : length given ≡ mostLines
 
 -- one line is counted and nothing else
 abbrev pub passedBy : Progress → Progress
@@ -66,8 +66,8 @@ countedOf p r = record {
 
 -- the counts do not overflow
 pub record Small (p : Progress) (r : Step) : Type 0 where
-  pub requests : p .requests < 4096
-  pub line : p .line < 4096
+  pub requests : p .requests < mostLines
+  pub line : p .line < mostLines
   pub held : p .held + r .asked < 2 ^ 32
   pub returned : r .returned ≤ p .held + r .asked
 

@@ -7,7 +7,7 @@ ghost use mathlib.Core.Bool.{cond};
 ghost use Prim.Native.Nat.{_+_, _-_, _%_, _≤_, _<_, max};
 ghost use lib.Dec.{eqb};
 ghost use lib.ListN.{length, set};
-ghost use Rattle.lines.specs.Sheet.{lineAt};
+ghost use Rattle.lines.specs.Sheet.{mostLines, lineAt};
 ghost use Rattle.steps.specs.Steps.{arraysNow, arraysIn, arraysOut, only, Sized, LineDone};
 ghost use Rattle.progress.specs.Going.{opening, lineSeen, passedBy, countedOf, Small, Ready, Went};
 
@@ -124,8 +124,8 @@ fn narrow(start: u32) -> u16
 }
 
 // The start of a request goes to its place; where nothing is asked for the list stays as it is.
-fn put_start(given: &mut [u16; 4096], place: usize, asked: u32, start: u32)
-    requires { ⌜ (place < 4096) × (length (now given) ≡ 4096) ⌝ }
+fn put_start(given: &mut [u16; lines::LINES], place: usize, asked: u32, start: u32)
+    requires { ⌜ (place < mostLines) × (length (now given) ≡ mostLines) ⌝ }
     ensures { λ _. ⌜ now (given .exit) ≡ cond (eqb asked 0) (now (given .entry)) (set (now (given .entry)) place (start % 65536)) ⌝ }
 {
     if asked != 0 {
@@ -135,7 +135,7 @@ fn put_start(given: &mut [u16; 4096], place: usize, asked: u32, start: u32)
 
 // One request more where columns are asked for.
 fn more(requests: usize, asked: u32) -> usize
-    requires { ⌜ requests ≤ 4096 ⌝ }
+    requires { ⌜ requests ≤ mostLines ⌝ }
     ensures { λ r. ⌜ r ≡ cond (eqb asked 0) requests (requests + 1) ⌝ }
 {
     if asked == 0 { requests } else { requests + 1 }
@@ -168,7 +168,7 @@ fn counted(p: Progress, step: Step) -> Progress
 
 // A line that is refused: it has its number, and all else stays.
 fn passed_by(p: Progress) -> Progress
-    requires { ⌜ p .line < 4096 ⌝ }
+    requires { ⌜ p .line < mostLines ⌝ }
     ensures { λ r. ⌜ r ≡ passedBy p ⌝ }
 {
     let status = p.status;
@@ -193,7 +193,7 @@ pub fn advance(
     value_lo: &mut [u64; 128],
     numbers: &mut [u64; 128],
     widths: &mut [u8; 128],
-    given: &mut [u16; 4096],
+    given: &mut [u16; lines::LINES],
     p: Progress,
 ) -> Advanced
     requires { ⌜ Ready (lineSeen (now sheet) at) (now given) (arraysNow hi lo columns «value_hi» «value_lo» numbers widths) p ⌝ }
@@ -217,7 +217,7 @@ pub fn advance(
     );
     let step = done.step;
     let reason = step.reason;
-    if reason != 0 {
+    if reason != reasons::PASSED {
         let progress = passed_by(p);
         return Advanced {
             progress,
@@ -229,7 +229,7 @@ pub fn advance(
     let progress = counted(p, step);
     Advanced {
         progress,
-        reason: 0,
+        reason: reasons::PASSED,
         next: done.next,
     }
 }

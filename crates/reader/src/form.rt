@@ -77,10 +77,10 @@ fn limit(t: Paired) -> u64
     ensures { λ r. ⌜ r ≡ limitOf t ⌝ }
 {
     match t {
-        Paired::Mov32 => 0xffff_ffff,
-        Paired::Mov64 => 0xffff_ffff_ffff_ffff,
-        Paired::Alloc => 0xffff_ffff,
-        Paired::Dealloc => 0xffff_ffff,
+        Paired::Mov32 => statement::MAX32,
+        Paired::Mov64 => statement::MAX64,
+        Paired::Alloc => statement::MAX32,
+        Paired::Dealloc => statement::MAX32,
     }
 }
 

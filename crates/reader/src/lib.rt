@@ -16,6 +16,9 @@ ghost use Rattle.tokens.specs.Cursors.{seen};
 ghost use Rattle.statement.specs.Reading.{readOf, reasonOf, registersOf, his, los, operandsC, told};
 ghost use Rattle.reader.specs.Lists.{listC};
 
+// The most bytes of a text that reads.
+const LONGEST: usize = 4096;
+
 // The forms of a name and a number.
 pub enum Paired {
     Mov32,
@@ -63,8 +66,8 @@ pub fn operands(s: &[u8], k: Cursor, o: Opcode) -> Reading
 pub fn read(s: &[u8]) -> Reading
     ensures { λ r. ⌜ r ≡ readOf (now (s .entry)) ⌝ }
 {
-    if 4096 < s.len() {
-        return Reading::NoForm(4096);
+    if LONGEST < s.len() {
+        return Reading::NoForm(LONGEST);
     }
     let h = opcode::head_of(s);
     let e = h.end;
@@ -104,7 +107,7 @@ pub fn registers(s: &[u8], hi: &mut [u64; 128], lo: &mut [u64; 128]) -> usize
     ensures first { λ r. ⌜ now (hi .exit) ≡ sets (now (hi .entry)) 0 (his (registersOf (now (s .entry)))) ⌝ }
     ensures second { λ r. ⌜ now (lo .exit) ≡ sets (now (lo .entry)) 0 (los (registersOf (now (s .entry)))) ⌝ }
 {
-    if 4096 < s.len() {
+    if LONGEST < s.len() {
         return 0;
     }
     let h = opcode::head_of(s);

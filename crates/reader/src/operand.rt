@@ -17,13 +17,13 @@ ghost use Rattle.statement.specs.Reading.{inBracketsC, offsetC, insideC, addres
 ghost use Rattle.reader.specs.Rows.{namedC};
 
 // The most names that a list has.
-const MOST: usize = 128;
+const MOST: usize = statement::NAMES;
 
 // A number of 32 bits.
 pub fn number32(s: &[u8], k: Cursor) -> OffsetRead
     ensures { λ r. ⌜ offsetSeen (now (s .entry)) r ≡ numberC max32 (seen (now (s .entry)) k) ⌝ }
 {
-    let n = lexer::cursor::number(s, k, 0xffff_ffff);
+    let n = lexer::cursor::number(s, k, statement::MAX32);
     let v = n.value;
     let next = n.next;
     OffsetRead {

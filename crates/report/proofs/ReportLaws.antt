@@ -16,7 +16,7 @@ use Rattle.tokens.specs.Text.{tab, lf}
 use Rattle.tokens.proofs.Lengths.{decimal-short, name-short}
 use Rattle.laws.proofs.StoreLaws.{sets-append, tail-is}
 use Rattle.report.specs.Report.{numbersText, headText, rowText, putText, putEnd}
-use Rattle.report.specs.Pieces.{fieldRoom, lineRoom, fieldText}
+use Rattle.report.specs.Fields.{fieldRoom, lineRoom, fieldText}
 
 -- ---- a text put where there is room for it
 

@@ -46,6 +46,6 @@ putText room at text = cond (leb (at + length text) (length room)) (sets room at
 unfoldable pub putEnd : ℕ → ℕ → List ℕ → ℕ
 putEnd n at text = cond (leb (at + length text) n) (at + length text) at
 
--- room for the report of any sheet (`report-fits` of crate printed): a first line of at most 16 bytes, and at most 4,095 rows of 25
+-- enough for the report of any sheet (`report-fits` of crate printed): a row of 25 bytes for each line but the first, and 16 more
 abbrev pub reportRoom : ℕ
 reportRoom = 16 + 4095 * 25

@@ -6,9 +6,9 @@ ghost use lib.ListN.{length};
 ghost use lib.Seq.{sets};
 ghost use Rattle.tokens.specs.Names.{nameBytes};
 ghost use Rattle.report.specs.Report.{headText, rowText, putText, putEnd};
-ghost use Rattle.report.specs.Pieces.{fieldRoom, lineRoom, fieldText};
+ghost use Rattle.report.specs.Fields.{fieldRoom, lineRoom, fieldText};
 
-// Room for the report of any sheet: a first line of at most 16 bytes, and at most 4,095 rows of 25.
+// Enough for the report of any sheet: a row of 25 bytes for each line but the first, and 16 more.
 pub const ROOM: usize = 16 + 4095 * 25;
 
 // A number of 20 digits, and the byte after it.

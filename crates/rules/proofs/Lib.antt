@@ -1,6 +1,6 @@
 pub mod CountingLaws
 pub mod RuleLaws
-pub mod ByForm
+pub mod ByAct
 pub mod Figures
 pub mod LowestProved
 pub mod OrderlyProved

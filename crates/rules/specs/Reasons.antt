@@ -28,12 +28,16 @@ use Rattle.statement.specs.Views.{requestOf, releaseOf, accessOf, mmaOf, boundB
 use Rattle.rules.specs.State.{State, Placer, isLive, columnsOf, isBound, widthOf, numberOf}
 
 -- ---- addresses
--- an offset's lane is its quotient by 65,536, its column the remainder
+-- the offset from a lane to the next
+abbrev pub perLane : ℕ
+perLane = 65536
+
+-- an offset's lane is its quotient, its column the remainder
 abbrev pub laneOf : Address → ℕ
-laneOf a = a .offset / 65536
+laneOf a = a .offset / perLane
 
 abbrev pub columnOf : Address → ℕ
-columnOf a = a .offset % 65536
+columnOf a = a .offset % perLane
 
 -- ---- reason 5: N is over the shape's largest, or the count of registers differs: `counted` of the table of cells, asked of single statements too
 

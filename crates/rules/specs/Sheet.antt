@@ -69,7 +69,7 @@ added n columns (some start) l = record { name = n; start = start; columns = col
 abbrev pub moved : State → Name → ℕ → ℕ → State
 moved s n width v = record { live = s .live; values = bind (record { name = n; width = width; number = v }) (s .values); warp = s .warp; relinquished = s .relinquished; exited = s .exited }
 
--- the state after what it does: alloc adds, dealloc removes, mov binds; alloc and relinquish fix the warp; all else leaves it as it was
+-- the state after an act: alloc adds, dealloc removes, mov binds; alloc and relinquish fix the warp; exit is noted; all else leaves it as it was
 unfoldable pub effect : Placer → State → ℕ → Act → State
 effect place s w (act.binds n width v) = moved s n width v
 effect place s w (act.requests n v) = record { live = added n v (place (s .live) v) (s .live); values = s .values; warp = fixed (s .warp) w; relinquished = s .relinquished; exited = s .exited }

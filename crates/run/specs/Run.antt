@@ -150,7 +150,7 @@ known v t = of (mmaIn t) (λ m. isSome (numberOf (m .idesc) v)) true
 
 -- ---- a line
 -- whether a statement can be done: an alloc of a name that is not live, at a start that may be used; a dealloc of a holding of that name and
--- length; an exit where nothing is held; and each where every booked access lies in the holding that it names
+-- length; an exit where nothing is held; and of any, that the number which it needs was moved and each access that it books lies in the holding that it names
 unfoldable pub able : List ℕ → Run → Act → Bool
 able starts r t = holds
     (for (requestIn t) (λ q. not (has (hasName (q .name)) (r .live)) && mayUse (r .live) (q .columns) (startAt starts (r .requests)))

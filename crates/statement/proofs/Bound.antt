@@ -20,7 +20,7 @@ use Rattle.statement.specs.declared.Opcode.{Opcode}
 use Rattle.statement.specs.Forms.{word, Slot, name, number, inBrackets, address, operand, names, Value, Values, row}
 use Rattle.statement.specs.Opcodes.{opcodes}
 use Rattle.statement.proofs.Every.{every}
-use Rattle.statement.specs.Canonical.{opcodeOf, valuesOf, countOf, offsetText, addressText, operandText, moreNamesText, namesText, slotText, slotGiven, moreRowText, rowText, rowGiven, allNames, textOf, given}
+use Rattle.statement.specs.Canonical.{opcodeOf, valuesOf, countOf, offsetText, addressText, operandText, moreNamesText, namesText, slotText, slotGiven, moreRowText, rowText, rowGiven, allNames, textOf, longestWritten, given}
 use Rattle.statement.specs.declared.Operand.the-variants as o
 
 -- ---- operands
@@ -93,7 +93,7 @@ row-most p = leb-true (mostRow (row p)) 2400 (every (λ o. leb (mostRow (row o))
 word-short : (p : Opcode) → length (word p) ≤ 64
 word-short p = leb-true (length (word p)) 64 (every (λ o. leb (length (word o)) 64) (λ o. true) (unfold word opcodes in refl) p)
 
-pub text-short : (t : Statement) (regs : List Name) → given t regs ≡ true → length (textOf t regs) ≤ 2560
+pub text-short : (t : Statement) (regs : List Name) → given t regs ≡ true → length (textOf t regs) ≤ longestWritten
 unfolding textOf given
 text-short t regs e =
     let p = opcodeOf t in

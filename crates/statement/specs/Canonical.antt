@@ -100,6 +100,10 @@ rowText (k ∷ ks) v = bytes " " ++ (slotText k (v .0) ++ moreRowText ks (v .1))
 unfoldable pub textOf : Statement → List Name → List ℕ
 textOf t regs = word (opcodeOf t) ++ rowText (row (opcodeOf t)) (valuesOf t regs)
 
+-- room for any: `short` of crate grammar
+abbrev pub longestWritten : ℕ
+longestWritten = 2560
+
 -- ---- values such as reading gives
 abbrev pub allNames : List Name → Bool
 allNames [] = true

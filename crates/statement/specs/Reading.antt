@@ -116,9 +116,13 @@ opcodeLen text = runLen opcodeByte text
 unfoldable pub wholeC : List ℕ → Took Whole
 wholeC text = wholeBy text (drop (opcodeLen text) text) (recognise (take (opcodeLen text) text))
 
--- what a text reads as: over 4,096 bytes nothing
+-- the most bytes of a text that reads
+abbrev pub longestText : ℕ
+longestText = 4096
+
+-- what a text reads as: a longer one as nothing
 unfoldable pub readOf : List ℕ → Reading
-readOf text = cond (leb (length text) 4096) (answerOf text (wholeC text .next) (wholeC text .value .statement)) (NoForm 4096)
+readOf text = cond (leb (length text) longestText) (answerOf text (wholeC text .next) (wholeC text .value .statement)) (NoForm longestText)
 
 -- the number of an answer
 abbrev pub reasonOf : Reading → ℕ
@@ -132,7 +136,7 @@ fine r = cond (r .ok) (cond (r .over) false true) false
 
 -- the names of the registers of a text that reads; none for another
 unfoldable pub registersOf : List ℕ → List Name
-registersOf text = cond (leb (length text) 4096 && fine (wholeC text .next)) (wholeC text .value .registers) []
+registersOf text = cond (leb (length text) longestText && fine (wholeC text .next)) (wholeC text .value .registers) []
 
 -- ---- views of what the functions return
 abbrev pub offsetSeen : List ℕ → OffsetRead → Took ℕ

@@ -1,4 +1,4 @@
--- What a statement is to the rules: each view names the statements that it is of, and is none for the others. Assumes nothing.
+-- What a statement is to the rules: its act, with the warp a turn; each view names the acts that it is of, and is none for the others. Assumes nothing.
 use Prim.Native.Nat.{ℕ}
 use mathlib.Core.Bool.{Bool, true, false, _&&_}
 use mathlib.Core.List.{List, [], _∷_}
@@ -144,7 +144,7 @@ abbrev pub for : {A : Type 0} → Option A → (A → Bool) → Option Bool
 for none f = none
 for (some a) f = some (f a)
 
--- a test of the statements that are so
+-- a test that is asked only of what is so
 abbrev pub when : Bool → Bool → Option Bool
 when false b = none
 when true b = some b

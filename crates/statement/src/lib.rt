@@ -1,7 +1,15 @@
-// The typed statement. Types alone; what they mean, how they are read and written stands in specs/.
+// The typed statement. Types and limits alone; what they mean, how they are read and written stands in specs/.
 use instruction::Kind;
 use tokens::Cursor;
 use tokens::Name;
+
+// The largest numbers.
+pub const MAX32: u64 = 0xffff_ffff;
+
+pub const MAX64: u64 = 0xffff_ffff_ffff_ffff;
+
+// The most names of a list.
+pub const NAMES: usize = 128;
 
 // SHAPE of an access: lanes by bits.
 pub enum Shape {

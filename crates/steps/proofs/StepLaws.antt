@@ -24,7 +24,7 @@ use Rattle.statement.proofs.Statement.{enum, the-type}
 use Rattle.statement.proofs.Variants.{at-each}
 use Rattle.rules.specs.State.{State, Binding, lowest, isLive, isBound, bind}
 use Rattle.rules.specs.Reasons.{openRules, closedRules, rules}
-use Rattle.rules.proofs.ByForm.{movRules, first-broken, alloc-legal}
+use Rattle.rules.proofs.ByAct.{movRules, first-broken, alloc-legal}
 use Rattle.statement.specs.Cells.{counted}
 use Rattle.rules.specs.Sheet.{statement, effect, given, requested, released, moved, startList}
 use Rattle.tokens.proofs.Names.{same-true}

@@ -101,7 +101,7 @@ fn book(
     ensures answer { λ r. ⌜ r ≡ stepOf booked status asked returned ⌝ }
     ensures kept { λ _. ⌜ (now (hi .exit) ≡ stored booked (booked .next .hi) (now (hi .entry))) × (now (lo .exit) ≡ stored booked (booked .next .lo) (now (lo .entry))) × (now (columns .exit) ≡ stored booked (booked .next .columns) (now (columns .entry))) ⌝ }
 {
-    if booked.reason != 0 {
+    if booked.reason != reasons::PASSED {
         return quiet(status, booked.reason);
     }
     let h = booked.next.hi;

@@ -14,11 +14,11 @@ use Rattle.statement.specs.declared.Written.the-variants.{Length, Refused}
 use Rattle.tokens.specs.Text.{bytes}
 use Rattle.statement.specs.Forms.{word, Slot, inBrackets, names, Values, row}
 use Rattle.statement.specs.Reading.{paired}
-use Rattle.statement.specs.Canonical.{slotText, slotGiven, rowText, rowGiven, textOf, given}
+use Rattle.statement.specs.Canonical.{slotText, slotGiven, rowText, rowGiven, textOf, longestWritten, given}
 
--- how many bytes a buffer has: more than any statement
+-- how many bytes a buffer has: enough for any statement
 abbrev pub capacity : ℕ
-capacity = 2560
+capacity = longestWritten
 
 -- the position once writing failed
 abbrev pub failedAt : ℕ

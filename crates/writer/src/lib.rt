@@ -5,6 +5,8 @@ mod output;
 
 use output::Buffer;
 use output::CAPACITY;
+use statement::MAX32;
+use statement::MAX64;
 use statement::Statement;
 use statement::Written;
 ghost use mathlib.Core.Path.{_≡_};
@@ -13,11 +15,6 @@ ghost use lib.ListN.{length, take};
 ghost use Rattle.statement.specs.Canonical.{countOf, textOf, given};
 ghost use Rattle.statement.specs.Reading.{paired};
 ghost use Rattle.writer.specs.Outputs.{outSeen, addC, writtenOf, leftBy};
-
-// The largest numbers.
-const MAX32: u64 = 0xffff_ffff;
-
-const MAX64: u64 = 0xffff_ffff_ffff_ffff;
 
 // A statement's text in a buffer.
 fn compose(t: &mut Buffer, statement: Statement, hi: &[u64], lo: &[u64]) -> usize

@@ -40,7 +40,7 @@ fn offset(t: &mut Buffer, at: usize, v: u32) -> usize
         return at;
     }
     let a = crate::output::put(t, at, b"+");
-    crate::output::number(t, a, v as u64, 0xffff_ffff)
+    crate::output::number(t, a, v as u64, statement::MAX32)
 }
 
 pub fn address(t: &mut Buffer, at: usize, x: Address) -> usize
@@ -99,7 +99,7 @@ pub fn names(t: &mut Buffer, at: usize, hi: &[u64], lo: &[u64], count: usize) ->
     if count == 0 {
         return FAILED;
     }
-    if 128 < count {
+    if statement::NAMES < count {
         return FAILED;
     }
     if hi.len() < count {

@@ -10,7 +10,7 @@ ghost use Rattle.tokens.specs.Bytes.{wordByte, all};
 ghost use Rattle.tokens.specs.Numbers.{decimal};
 ghost use Rattle.writer.specs.Outputs.{outSeen, addC, halvesGiven};
 
-// How many bytes a buffer has: more than any statement.
+// How many bytes a buffer has: enough for any statement.
 pub const CAPACITY: usize = 2560;
 
 // The position once writing failed.

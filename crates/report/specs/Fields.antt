@@ -1,4 +1,4 @@
--- Pieces of a line of the report. Assumes nothing.
+-- The fields of a line of the report. Assumes nothing.
 use Prim.Native.Nat.{ℕ, _*_}
 use mathlib.Core.List.{List, [], _∷_, _++_}
 use Rattle.tokens.specs.Numbers.{decimal}
