@@ -16,12 +16,13 @@ use Rattle.laws.proofs.BoolLaws.{or-neither}
 use Rattle.laws.proofs.TestLaws.{never, each}
 use Rattle.tokens.specs.Numbers.{decimal}
 use Rattle.request.specs.Request.{legal}
-use Rattle.statement.specs.Views.{Ask, Act, requestIn, requestOf, exitIn, of}
+use Rattle.statement.specs.Views.{Ask, Act, requestIn, requestOf, of}
 use Rattle.lines.specs.Sheet.{Content, fault, contentAfter, lineCount, headed, oversize}
 use Rattle.rules.specs.declared.Answer.{Answer}
 use Rattle.rules.specs.State.{State, Allocation, slot, lowest}
 use Rattle.rules.specs.Sheet.{Line, actIn, ours, given, startList, heldAfter, stateBy, startsBy, rulesBy, lineRules, answer, answerOf, startsOf, placesAfter}
 use Rattle.rules.specs.Claims.{AllKept, Passed, exits}
+use Rattle.statement.proofs.Each.{exit-only}
 use Rattle.rules.proofs.RuleLaws.{accepted-line, request-kept}
 use Rattle.rules.proofs.RulesProved.{Clear, passing-clear, clear-passed, passed-figures}
 use Rattle.rules.proofs.FiguresProved.{figures-exact}
