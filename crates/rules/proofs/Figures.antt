@@ -36,7 +36,7 @@ unfolding total
 total-added n v none l e = absurd (clash e refl)
 total-added n v (some s) l e = refl
 
--- one accepted line
+-- an accepted act adds what it asks for and takes what it gives back
 module _ (place : Placer) (s : State) (held w : ℕ) (t : Statement) (a : Accepted place s held w t) where
   abbrev Balanced : Act → Type 0
   Balanced x = actOf t ≡ x → total (s .live) + of (requestIn x) (λ r. r .columns) 0 ≡ total (effect place s w x .live) + of (releaseIn x) (λ r. r .columns) 0
@@ -53,6 +53,7 @@ module _ (place : Placer) (s : State) (held w : ℕ) (t : Statement) (a : Accept
   unfolding effect
   balanced = each-act Balanced (actOf t) (search (asks, returns))
 
+-- one accepted line
 balance-step : (place : Placer) (s : State) (held : ℕ) (x : Line) → AllKept (lineRules place s held x) → total (s .live) + requested x ≡ total (lineEffect place s x .live) + released x
 unfolding requested released
 balance-step place s held x h =

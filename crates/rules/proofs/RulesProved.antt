@@ -22,7 +22,7 @@ use Rattle.rules.proofs.CountingLaws.{least-le, least-hit, least-below}
 use Rattle.rules.proofs.RuleLaws.{lacks, accepted-line, kept-none, none-kept, never, first-is, is-first, lacks-both, in-turn-kept, in-turn-broken, line-numbered}
 
 -- ---- lines and exit
--- a sheet is exited after an exit, or after a line that follows one
+-- an act ends the sheet, or leaves it as it was
 exited-next : (place : Placer) (s : State) (w : ℕ) (x : Act) → effect place s w x .exited ≡ exitIn x || s .exited
 unfolding effect
 exited-next place s w x = each-act (λ x. effect place s w x .exited ≡ exitIn x || s .exited) x search

@@ -79,7 +79,7 @@ finish-exited exited e = refl
 finish-exited ended e = absurd (omega (arith, ap number e))
 
 -- ---- one line
--- a statement that is done leaves the run going, but for an exit
+-- an act that is done leaves the run going, but for an exit
 done-phase : (starts : List ℕ) (r : Run) (t : Act) → r .phase ≡ going → done starts r t .phase ≡ cond (exitIn t) exited going
 unfolding done
 done-phase starts r t q = each-act (λ t. done starts r t .phase ≡ cond (exitIn t) exited going) t search
@@ -168,6 +168,7 @@ unfolding allLie
 all-inside [] l e = tt
 all-inside (a ∷ xs) l e = (inside a l (and-l (has (lies a) l) (allLie xs l) e), all-inside xs l (and-r (has (lies a) l) (allLie xs l) e))
 
+-- what an act that can be done books lies in the holdings, and its number is known
 able-lie : (starts : List ℕ) (r : Run) (t : Act) → able starts r t ≡ true → known (r .notes) t && allLie (bookedBy (r .notes) t) (r .live) ≡ true
 unfolding able bookedBy known allLie
 able-lie starts r t = each-act (λ t. able starts r t ≡ true → known (r .notes) t && allLie (bookedBy (r .notes) t) (r .live) ≡ true) t search

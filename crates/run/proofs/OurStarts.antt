@@ -184,6 +184,7 @@ one-start none e = absurd (clash e refl)
 one-start (some x) e = refl
 
 module _ (starts : List ℕ) (st : State) (r : Run) (held w : ℕ) (t : Statement) (a : Accepted lowest st held w t) (m : Agree st r) (e : Same (st .live) (r .live)) (g : Given starts (r .requests) st t) where
+  -- after an act the allocations are the same, and each start that it was given is one request
   abbrev Owned : Act → Type 0
   Owned x =
       actOf t ≡ x
