@@ -12,12 +12,14 @@ use lib.Dec.{eqb}
 use borrow.Author.Tests.{eqb-true}
 use Rattle.laws.proofs.BoolLaws.{and-l, and-r}
 use Rattle.tokens.specs.declared.Name.{Name}
+use Rattle.statement.specs.declared.Access.{Access}
 use Rattle.statement.specs.declared.Statement.{Statement}
 use Rattle.statement.specs.declared.Statement.the-variants as s
 use Rattle.statement.specs.declared.Reading.the-variants.{Got}
 use Rattle.statement.specs.Canonical.{countOf, given, rowGiven, slotGiven, addressGiven}
 use Rattle.statement.specs.Forms.{names}
 use Rattle.statement.proofs.Bound.{names-few}
+use Rattle.statement.proofs.Each.{each-statement}
 use Rattle.statement.specs.Reading.{readOf, registersOf, his, los, paired}
 use Rattle.grammar.proofs.Trip.{writable}
 
@@ -29,29 +31,33 @@ pairs (n ∷ ns) = ap (λ (m : List Name). n ∷ m) (pairs ns)
 front : (zs w : List ℕ) → length w ≤ length zs → take (length w) (sets zs 0 w) ≡ w
 front zs w h = ap (take (length w)) (sets-eq w zs 0 (rw (zero-add (length w)) h)) ∙ take-append-le (length w) w (drop (0 + length w) zs) (le-refl (length w)) ∙ take-all (length w) w (le-refl (length w))
 
--- the names of a statement that can be written are as many as it says, and at most 128
+-- the names of a statement that can be written are as many as it says
 count-is : (t : Statement) (regs : List Name) → given t regs ≡ true → countOf t ≡ length regs
 unfolding given
 count-is t regs h = eqb-true (countOf t) (length regs) (and-l (eqb (countOf t) (length regs)) _ h)
 
-none : (n : ℕ) → 0 ≡ n → n ≤ 128
-none n e = omega arith
+-- the names that it is given are at most 128: none but for a ld or st
+unfoldable Few : Statement → Type 0
+Few t = (regs : List Name) → given t regs ≡ true → length regs ≤ 128
+
+none-few : (t : Statement) → countOf t ≡ 0 → Few t
+unfolding Few
+none-few t e regs h = omega (arith, e, count-is t regs h)
+
+load-few : (a : Access) → Few (s.Load a)
+unfolding Few given rowGiven
+load-few a regs h = names-few regs (and-l (slotGiven names regs) _ (and-r (eqb (a .registers) (length regs)) _ h))
+
+store-few : (a : Access) → Few (s.Store a)
+unfolding Few given rowGiven
+store-few a regs h = names-few regs (and-l (slotGiven names regs) _ (and-r (addressGiven (a .address)) _ (and-r (eqb (a .registers) (length regs)) _ h)))
+
+all-few : (t : Statement) → Few t
+all-few t = each-statement Few t (search (load-few, store-few, none-few))
 
 most : (t : Statement) (regs : List Name) → given t regs ≡ true → length regs ≤ 128
-unfolding given rowGiven
-most (s.Mov32 n v) regs h = none (length regs) (count-is (s.Mov32 n v) regs h)
-most (s.Mov64 n v) regs h = none (length regs) (count-is (s.Mov64 n v) regs h)
-most (s.Alloc n v) regs h = none (length regs) (count-is (s.Alloc n v) regs h)
-most (s.Dealloc n v) regs h = none (length regs) (count-is (s.Dealloc n v) regs h)
-most s.Relinquish regs h = none (length regs) (count-is s.Relinquish regs h)
-most (s.Load a) regs h = names-few regs (and-l (slotGiven names regs) _ (and-r (eqb (a .registers) (length regs)) _ h))
-most (s.Store a) regs h = names-few regs (and-l (slotGiven names regs) _ (and-r (addressGiven (a .address)) _ (and-r (eqb (a .registers) (length regs)) _ h)))
-most s.WaitLoad regs h = none (length regs) (count-is s.WaitLoad regs h)
-most s.WaitStore regs h = none (length regs) (count-is s.WaitStore regs h)
-most s.FenceBefore regs h = none (length regs) (count-is s.FenceBefore regs h)
-most s.FenceAfter regs h = none (length regs) (count-is s.FenceAfter regs h)
-most (s.Multiply m) regs h = none (length regs) (count-is (s.Multiply m) regs h)
-most s.Exit regs h = none (length regs) (count-is s.Exit regs h)
+unfolding Few
+most t = all-few t
 
 -- what reads can be written
 can : (text : List ℕ) (t : Statement) → readOf text ≡ Got t → given t (registersOf text) ≡ true

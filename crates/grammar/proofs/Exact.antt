@@ -15,7 +15,6 @@ use Rattle.statement.specs.declared.Address.{Address}
 use Rattle.statement.specs.declared.Operand.the-variants as operand
 use Rattle.statement.specs.declared.Statement.{Statement}
 use Rattle.statement.specs.declared.Opcode.{Opcode}
-use Rattle.statement.specs.declared.Opcode.the-variants.{Mov32, Mov64, Alloc, Dealloc, Relinquish, Load, Store, WaitLoad, WaitStore, FenceBefore, FenceAfter, Multiply, Exit}
 use Rattle.statement.specs.declared.Found.{Found}
 use Rattle.statement.specs.declared.Found.the-variants.{Is, Nothing}
 use Rattle.statement.specs.declared.Reading.the-variants.{Got, NoForm, TooLarge}
@@ -25,6 +24,7 @@ use Rattle.statement.specs.Reading.{operandsC, start, wholeBy, opcodeLen, whole
 use Rattle.grammar.specs.Spells.{RowText, Spells, sizedSlot, sizedRow, sized}
 use Rattle.grammar.specs.Claims.{Exact}
 use Rattle.statement.proofs.Words.{recognised, recognises, clean}
+use Rattle.statement.proofs.Each.{each-opcode}
 use Rattle.laws.proofs.BoolLaws.{never}
 use Rattle.tokens.proofs.Runs.{run-all, run-ends}
 use Rattle.grammar.proofs.Lexing.{at, cut}
@@ -78,20 +78,7 @@ over-not (k ∷ ks) vs = go (sizedSlot k (vs .0)) (over-not ks (vs .1))
 
 made-sized : (o : Opcode) (vs : Values (row o)) → sized (make o vs .statement) ≡ sizedRow (row o) vs
 unfolding sized
-made-sized Mov32 vs = refl
-made-sized Mov64 vs = refl
-made-sized (Alloc shared) vs = refl
-made-sized Dealloc vs = refl
-made-sized Relinquish vs = refl
-made-sized (Load shape num) vs = refl
-made-sized (Store shape num) vs = refl
-made-sized WaitLoad vs = refl
-made-sized WaitStore vs = refl
-made-sized FenceBefore vs = refl
-made-sized FenceAfter vs = refl
-made-sized (Multiply ws false kind) vs = refl
-made-sized (Multiply ws true kind) vs = refl
-made-sized Exit vs = refl
+made-sized o = each-opcode (λ o. (vs : Values (row o)) → sized (make o vs .statement) ≡ sizedRow (row o) vs) o search
 
 pub over-sized : (o : Opcode) (vs : Values (row o)) → overRow (row o) vs false ≡ not (sized (make o vs .statement))
 over-sized o vs = over-not (row o) vs ∙ ap not (sym (made-sized o vs))

@@ -18,23 +18,25 @@ use Rattle.statement.specs.declared.Operand.the-variants as operand
 use Rattle.statement.specs.declared.Metadata.{Metadata}
 use Rattle.statement.specs.declared.Metadata.the-variants.{Dense, Sparse}
 use Rattle.statement.specs.declared.Mma.{Mma}
+use Rattle.statement.specs.declared.Access.{Access}
 use Rattle.statement.specs.declared.Statement.{Statement}
 use Rattle.statement.specs.declared.Statement.the-variants as s
 use Rattle.statement.specs.declared.Opcode.{Opcode}
-use Rattle.statement.specs.declared.Opcode.the-variants.{Mov32, Mov64, Alloc, Dealloc, Relinquish, Load, Store, WaitLoad, WaitStore, FenceBefore, FenceAfter, Multiply, Exit}
+use Rattle.statement.specs.declared.Opcode.the-variants.{Multiply}
 use Rattle.statement.specs.declared.Reading.the-variants.{Got}
-use Rattle.statement.specs.Forms.{Slot, name, number, inBrackets, address, operand, names, Value, Values, maxOffset, row, Whole, plain, make}
+use Rattle.statement.specs.Forms.{Slot, name, number, inBrackets, address, operand, names, Value, Values, maxOffset, row, Whole, plain, access, make}
 use Rattle.statement.specs.Reading.{readOf, registersOf}
 use Rattle.grammar.specs.Spells.{spaces, Mark, NameText, NumberText, BracketText, OffsetText, bare, plus, AddressText, OperandText, byName, byAddress, MoreNames, closes, comma, NamesText, opens, SlotText, MoreRow, RowText, Spells, sizedOperand, sizedSlot, sized}
 use Rattle.statement.specs.Canonical.{sparse, opcodeOf, mmaValues, valuesOf, offsetText, addressText, operandText, moreNamesText, namesText, slotText, moreRowText, rowText, textOf, allNames, addressGiven, operandGiven, slotGiven, rowGiven, countOf, given}
 use Rattle.grammar.specs.Claims.{Reads, Trip, Writable, Canonical}
 use Rattle.tokens.proofs.Names.{same-true}
-use Rattle.laws.proofs.BoolLaws.{and-split, never}
+use Rattle.laws.proofs.BoolLaws.{and-split, and-join, never}
 use Rattle.grammar.proofs.Rows.{overRow}
 use Rattle.grammar.proofs.Exact.{got-same, over-none, over-sized, exact}
 use Rattle.grammar.proofs.Back.{packed-given, decimal-number, decimal-value}
 use Rattle.statement.specs.Opcodes.{opcodes}
 use Rattle.statement.proofs.Every.{every}
+use Rattle.statement.proofs.Each.{each-opcode, each-statement}
 use Rattle.statement.proofs.Bound.{names-few, text-short}
 
 -- ---- limits of numbers that a decimal of 20 digits can write
@@ -178,24 +180,22 @@ no-names : (t : Statement) (regs : List Name) → eqb 0 (length regs) ≡ true �
 no-names t [] h = refl
 no-names t (n ∷ ns) h = absurd (let z = eqb-true 0 (suc (length ns)) h in omega arith)
 
-mma-made : (m : Mma) (e : Metadata) → make (Multiply (m .ws) (sparse e) (m .kind)) (mmaValues m e) ≡ plain (s.Multiply (record { ws = m .ws; kind = m .kind; d = m .d; a = m .a; b = m .b; metadata = e; idesc = m .idesc; predicate = m .predicate }))
-mma-made m Dense = refl
-mma-made m (Sparse e) = refl
+operands-made : (m : Mma) (e : Metadata) → make (Multiply (m .ws) (sparse e) (m .kind)) (mmaValues m e) ≡ plain (s.Multiply (record { ws = m .ws; kind = m .kind; d = m .d; a = m .a; b = m .b; metadata = e; idesc = m .idesc; predicate = m .predicate }))
+operands-made m Dense = refl
+operands-made m (Sparse e) = refl
 
-made : (t : Statement) (regs : List Name) → eqb (countOf t) (length regs) ≡ true → make (opcodeOf t) (valuesOf t regs) ≡ record { statement = t; registers = regs }
-made (s.Mov32 n v) regs h = no-names (s.Mov32 n v) regs h
-made (s.Mov64 n v) regs h = no-names (s.Mov64 n v) regs h
-made (s.Alloc n v) regs h = no-names (s.Alloc n v) regs h
-made (s.Dealloc n v) regs h = no-names (s.Dealloc n v) regs h
-made s.Relinquish regs h = no-names s.Relinquish regs h
-made (s.Load a) regs h = ap (λ (k : ℕ). record { statement = s.Load (record { shape = a .shape; num = a .num; registers = k; address = a .address }); registers = regs }) (sym (eqb-true (a .registers) (length regs) h))
-made (s.Store a) regs h = ap (λ (k : ℕ). record { statement = s.Store (record { shape = a .shape; num = a .num; registers = k; address = a .address }); registers = regs }) (sym (eqb-true (a .registers) (length regs) h))
-made s.WaitLoad regs h = no-names s.WaitLoad regs h
-made s.WaitStore regs h = no-names s.WaitStore regs h
-made s.FenceBefore regs h = no-names s.FenceBefore regs h
-made s.FenceAfter regs h = no-names s.FenceAfter regs h
-made (s.Multiply m) regs h = mma-made m (m .metadata) ∙ no-names (s.Multiply m) regs h
-made s.Exit regs h = no-names s.Exit regs h
+-- a statement is what its opcode makes of its operands
+abbrev Made : Statement → Type 0
+Made t = (regs : List Name) → eqb (countOf t) (length regs) ≡ true → make (opcodeOf t) (valuesOf t regs) ≡ record { statement = t; registers = regs }
+
+access-made : (a : Access) (regs : List Name) → eqb (a .registers) (length regs) ≡ true → access (a .shape) (a .num) regs (a .address) ≡ a
+access-made a regs h = ap (λ (k : ℕ). record { shape = a .shape; num = a .num; registers = k; address = a .address }) (sym (eqb-true (a .registers) (length regs) h))
+
+mma-made : (m : Mma) → Made (s.Multiply m)
+mma-made m regs h = operands-made m (m .metadata) ∙ no-names (s.Multiply m) regs h
+
+made : (t : Statement) → Made t
+made t = each-statement Made t (search (access-made, mma-made, no-names))
 
 pub text-spells : (t : Statement) (regs : List Name) → given t regs ≡ true → Spells (record { statement = t; registers = regs }) (textOf t regs)
 unfolding given textOf
@@ -255,22 +255,12 @@ row-given (k ∷ ks) vs l o t h =
     rw (slot-given k (vs .0) l (t .0) (t .1) (p .0)) (more-row-given ks (vs .1) (t .0) o (t .2) (p .1))
 
 -- a statement that an opcode makes of operands has them again
-made-given : (o : Opcode) (vs : Values (row o)) → rowGiven (row o) vs ≡ true → given (make o vs .statement) (make o vs .registers) ≡ true
+abbrev Again : Opcode → Type 0
+Again o = (vs : Values (row o)) → rowGiven (row o) vs ≡ true → given (make o vs .statement) (make o vs .registers) ≡ true
+
+made-given : (o : Opcode) → Again o
 unfolding given
-made-given Mov32 vs h = h
-made-given Mov64 vs h = h
-made-given (Alloc shared) vs h = h
-made-given Dealloc vs h = h
-made-given Relinquish vs h = h
-made-given (Load shape num) vs h = rw (eq-eqb (length (vs .0)) (length (vs .0)) refl) h
-made-given (Store shape num) vs h = rw (eq-eqb (length (vs .1 .0)) (length (vs .1 .0)) refl) h
-made-given WaitLoad vs h = h
-made-given WaitStore vs h = h
-made-given FenceBefore vs h = h
-made-given FenceAfter vs h = h
-made-given (Multiply ws false kind) vs h = h
-made-given (Multiply ws true kind) vs h = h
-made-given Exit vs h = h
+made-given o = each-opcode Again o (search (and-join, eq-eqb))
 
 pub spells-given : (w : Whole) (text : List ℕ) → Spells w text → sized (w .statement) ≡ true → given (w .statement) (w .registers) ≡ true
 spells-given w text t h =

@@ -16,13 +16,13 @@ use Rattle.laws.proofs.BoolLaws.{or-neither}
 use Rattle.laws.proofs.TestLaws.{never, each}
 use Rattle.tokens.specs.Numbers.{decimal}
 use Rattle.request.specs.Request.{legal}
-use Rattle.statement.specs.Views as act
-use Rattle.statement.specs.Views.{Ask, Act, requestIn, requestOf, exitIn, of}
+use Rattle.statement.specs.Views.{Ask, Act, requestIn, requestOf, of}
 use Rattle.lines.specs.Sheet.{Content, fault, contentAfter, lineCount, headed, oversize}
 use Rattle.rules.specs.declared.Answer.{Answer}
 use Rattle.rules.specs.State.{State, Allocation, slot, lowest}
 use Rattle.rules.specs.Sheet.{Line, actIn, ours, given, startList, heldAfter, stateBy, startsBy, rulesBy, lineRules, answer, answerOf, startsOf, placesAfter}
 use Rattle.rules.specs.Claims.{AllKept, Passed, exits}
+use Rattle.statement.proofs.Each.{exit-only}
 use Rattle.rules.proofs.RuleLaws.{accepted-line, request-kept}
 use Rattle.rules.proofs.RulesProved.{Clear, passing-clear, clear-passed, passed-figures}
 use Rattle.rules.proofs.FiguresProved.{figures-exact}
@@ -189,17 +189,7 @@ small-rows line starts l (suc n) h =
 
 exit-row : (x : Line) (v : ℕ) → exits x ≡ true → rowOf x v ≡ []
 unfolding rowOf
-exit-row x v e = by (actIn x) e
-  where
-    by : (x : Act) → exitIn x ≡ true → of {B = List Reported} (requestIn x) (λ r. record { name = r .name; start = v; columns = r .columns } ∷ []) [] ≡ []
-    by (act.binds n width c) e = refl
-    by (act.requests n c) e = never e
-    by (act.releases n c) e = refl
-    by act.relinquishes e = refl
-    by (act.accesses a) e = refl
-    by (act.multiplies m) e = refl
-    by act.exits e = refl
-    by act.nothing e = refl
+exit-row x v e = ap (λ (a : Act). of {B = List Reported} (requestIn a) (λ r. record { name = r .name; start = v; columns = r .columns } ∷ []) []) (exit-only (actIn x) e)
 
 last-row : (line : ℕ → Line) (starts : List ℕ) (m : ℕ) → exits (line m) ≡ true → length (rowsUpTo line starts (suc m)) ≤ m
 unfolding rowsUpTo

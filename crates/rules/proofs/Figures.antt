@@ -16,6 +16,7 @@ use Rattle.rules.specs.State.{State, Allocation, Placer, isLive, columns
 use Rattle.rules.specs.Sheet.{Line, Placing, lineRules, lineEffect, effect, added, requested, released, sum, heldAfter, stateBy, rulesBy}
 use Rattle.rules.specs.Claims.{AllKept}
 use Rattle.laws.proofs.BoolLaws.{clash}
+use Rattle.statement.proofs.Each.{each-act}
 use Rattle.rules.proofs.RuleLaws.{Accepted, accepted-line, request-kept, releases-kept}
 
 -- taking out an allocation takes its columns
@@ -35,25 +36,28 @@ unfolding total
 total-added n v none l e = absurd (clash e refl)
 total-added n v (some s) l e = refl
 
+-- an accepted act adds what it asks for and takes what it gives back
+module _ (place : Placer) (s : State) (held w : ℕ) (t : Statement) (a : Accepted place s held w t) where
+  abbrev Balanced : Act → Type 0
+  Balanced x = actOf t ≡ x → total (s .live) + of (requestIn x) (λ r. r .columns) 0 ≡ total (effect place s w x .live) + of (releaseIn x) (λ r. r .columns) 0
+
+  asks : (n : Name) (v : ℕ) → Balanced (act.requests n v)
+  unfolding effect
+  asks n v e = omega (arith, total-added n v (place (s .live) v) (s .live) (request-kept place s held w t a (record { name = n; columns = v }) (ap requestIn e) .1))
+
+  returns : (n : Name) (v : ℕ) → Balanced (act.releases n v)
+  unfolding effect
+  returns n v e = let k = releases-kept place s held w t a n v e in omega (arith, total-without n (s .live) (k .0), k .1)
+
+  balanced : Balanced (actOf t)
+  unfolding effect
+  balanced = each-act Balanced (actOf t) (search (asks, returns))
+
 -- one accepted line
 balance-step : (place : Placer) (s : State) (held : ℕ) (x : Line) → AllKept (lineRules place s held x) → total (s .live) + requested x ≡ total (lineEffect place s x .live) + released x
-unfolding effect requested released
+unfolding requested released
 balance-step place s held x h =
-    accepted-line place s held x h (λ x. total (s .live) + requested x ≡ total (lineEffect place s x .live) + released x) (λ w t p a. at w t a (actOf t) refl)
-  where
-    at : (w : ℕ) (t : Statement) → Accepted place s held w t → (x : Act) → actOf t ≡ x
-        → total (s .live) + of (requestIn x) (λ r. r .columns) 0 ≡ total (effect place s w x .live) + of (releaseIn x) (λ r. r .columns) 0
-    at w t a (act.binds n width v) e = refl
-    at w t a (act.requests n v) e =
-        omega (arith, total-added n v (place (s .live) v) (s .live) (request-kept place s held w t a (record { name = n; columns = v }) (ap requestIn e) .1))
-    at w t a (act.releases n v) e =
-        let k = releases-kept place s held w t a n v e in
-        omega (arith, total-without n (s .live) (k .0), k .1)
-    at w t a act.relinquishes e = refl
-    at w t a (act.accesses x) e = refl
-    at w t a (act.multiplies m) e = refl
-    at w t a act.exits e = refl
-    at w t a act.nothing e = refl
+    accepted-line place s held x h (λ x. total (s .live) + requested x ≡ total (lineEffect place s x .live) + released x) (λ w t p a. balanced place s held w t a refl)
 
 module _ (placing : Placing) (line : ℕ → Line) where
   -- what is asked for is what was given back and what is live

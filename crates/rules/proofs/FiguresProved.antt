@@ -8,13 +8,13 @@ use native.Mathlib.Omega.{arith}
 use lib.Dec.{leb, ltb}
 use lib.ListN.{length}
 use borrow.Author.Tests.{ltb-true, ltb-false, leb-true, leb-false}
-use Rattle.statement.specs.Views as act
-use Rattle.statement.specs.Views.{Act, actOf, exitIn}
+use Rattle.statement.specs.Views.{actOf}
 use Rattle.rules.specs.declared.Answer.{Answer}
 use Rattle.rules.specs.State.{State, Placer, total}
 use Rattle.rules.specs.Sheet.{Line, Sheet, Placing, lineRules, lineEffect, effect, stateBy, startsBy, reasonBy, stopBy, sum, heldAfter, peakUpTo, answer, answerBy}
 use Rattle.rules.specs.Claims.{AllKept, exits, acceptedLines, liveAfter, MostLive, FiguresExact}
-use Rattle.laws.proofs.BoolLaws.{bool, clash}
+use Rattle.laws.proofs.BoolLaws.{bool}
+use Rattle.statement.proofs.Each.{exit-only}
 use Rattle.rules.proofs.RuleLaws.{accepted-line, exits-kept}
 use Rattle.rules.proofs.Figures.{held-total}
 use Rattle.rules.proofs.RulesProved.{zero-kept, stop-le, stop-hit, stop-before, stop-none, Clear, clear-passed, passing-clear, bad-header, at-stop, at-end}
@@ -23,17 +23,8 @@ use Rattle.rules.proofs.RulesProved.{zero-kept, stop-le, stop-hit, stop
 exit-clears : (place : Placer) (s : State) (held : ℕ) (x : Line) → held ≡ total (s .live) → AllKept (lineRules place s held x) → exits x ≡ true → total (lineEffect place s x .live) ≡ 0
 unfolding effect
 exit-clears place s held x q h =
-    accepted-line place s held x h (λ x. exits x ≡ true → total (lineEffect place s x .live) ≡ 0) (λ w t p a e. at w (actOf t) e (sym q ∙ exits-kept place s held w t a e))
-  where
-    at : (w : ℕ) (x : Act) → exitIn x ≡ true → total (s .live) ≡ 0 → total (effect place s w x .live) ≡ 0
-    at w (act.binds n width v) f z = absurd (clash f refl)
-    at w (act.requests n v) f z = absurd (clash f refl)
-    at w (act.releases n v) f z = absurd (clash f refl)
-    at w act.relinquishes f z = absurd (clash f refl)
-    at w (act.accesses a) f z = absurd (clash f refl)
-    at w (act.multiplies m) f z = absurd (clash f refl)
-    at w act.exits f z = z
-    at w act.nothing f z = absurd (clash f refl)
+    accepted-line place s held x h (λ x. exits x ≡ true → total (lineEffect place s x .live) ≡ 0)
+    (λ w t p a e. subst (λ y. total (effect place s w y .live) ≡ 0) (sym (exit-only (actOf t) e)) (sym q ∙ exits-kept place s held w t a e))
 
 -- ---- the peak
 held-first : (line : ℕ → Line) → heldAfter line 0 ≡ 0

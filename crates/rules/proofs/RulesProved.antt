@@ -2,7 +2,7 @@
 -- read off. Assumes nothing.
 use Prim.Native.Nat.{ℕ, zero, suc, _+_, _≤_, _<_}
 use mathlib.Core.Path.{_≡_, refl, sym, ap, _∙_, subst}
-use mathlib.Core.Bool.{Bool, true, false, not, cond}
+use mathlib.Core.Bool.{Bool, true, false, not, _||_, cond}
 use mathlib.Core.List.{[], _∷_}
 use mathlib.Core.Logic.{_⊎_, inl, inr}
 use native.Mathlib.Omega.{arith}
@@ -10,7 +10,6 @@ use lib.Dec.{leb, ltb, eqb}
 use lib.ListN.{length}
 use borrow.Author.Tests.{not-true, not-false, eqb-true, eqb-false, ltb-true, ltb-false, leb-true, leb-false, lt-ltb, le-ltb, eq-eqb, ne-eqb}
 use Rattle.laws.specs.Rules.{rule, firstBroken}
-use Rattle.statement.specs.Views as act
 use Rattle.statement.specs.Views.{Act, exitIn}
 use Rattle.rules.specs.Counting.{least}
 use Rattle.rules.specs.State.{State, Placer}
@@ -18,37 +17,21 @@ use Rattle.rules.specs.Sheet.{Line, turnOf, actIn, Sheet, Placing, lineR
 use Rattle.rules.specs.Claims.{AllKept, exits, Passing, Passed, endRules, ownRules, rulesAt, Refused, RulesExact}
 use Rattle.rules.specs.declared.Answer.{Answer}
 use Rattle.laws.proofs.BoolLaws.{bool, clash}
+use Rattle.statement.proofs.Each.{each-act}
 use Rattle.rules.proofs.CountingLaws.{least-le, least-hit, least-below}
 use Rattle.rules.proofs.RuleLaws.{lacks, accepted-line, kept-none, none-kept, never, first-is, is-first, lacks-both, in-turn-kept, in-turn-broken, line-numbered}
 
 -- ---- lines and exit
-pub exit-ends : (place : Placer) (s : State) (x : Line) → exits x ≡ true → lineEffect place s x .exited ≡ true
+-- an act ends the sheet, or leaves it as it was
+exited-next : (place : Placer) (s : State) (w : ℕ) (x : Act) → effect place s w x .exited ≡ exitIn x || s .exited
 unfolding effect
-exit-ends place s x e = at (turnOf x .warp) (actIn x) e
-  where
-    at : (w : ℕ) (x : Act) → exitIn x ≡ true → effect place s w x .exited ≡ true
-    at w (act.binds n width v) e = absurd (clash e refl)
-    at w (act.requests n v) e = absurd (clash e refl)
-    at w (act.releases n v) e = absurd (clash e refl)
-    at w act.relinquishes e = absurd (clash e refl)
-    at w (act.accesses a) e = absurd (clash e refl)
-    at w (act.multiplies m) e = absurd (clash e refl)
-    at w act.exits e = refl
-    at w act.nothing e = absurd (clash e refl)
+exited-next place s w x = each-act (λ x. effect place s w x .exited ≡ exitIn x || s .exited) x search
+
+pub exit-ends : (place : Placer) (s : State) (x : Line) → exits x ≡ true → lineEffect place s x .exited ≡ true
+exit-ends place s x e = exited-next place s (turnOf x .warp) (actIn x) ∙ ap (λ b. b || s .exited) e
 
 pub other-stays : (place : Placer) (s : State) (x : Line) → exits x ≡ false → lineEffect place s x .exited ≡ s .exited
-unfolding effect
-other-stays place s x e = at (turnOf x .warp) (actIn x) e
-  where
-    at : (w : ℕ) (x : Act) → exitIn x ≡ false → effect place s w x .exited ≡ s .exited
-    at w (act.binds n width v) e = refl
-    at w (act.requests n v) e = refl
-    at w (act.releases n v) e = refl
-    at w act.relinquishes e = refl
-    at w (act.accesses a) e = refl
-    at w (act.multiplies m) e = refl
-    at w act.exits e = absurd (clash refl e)
-    at w act.nothing e = refl
+other-stays place s x e = exited-next place s (turnOf x .warp) (actIn x) ∙ ap (λ b. b || s .exited) e
 
 -- after exit every line breaks a rule
 pub no-more : (place : Placer) (s : State) (held : ℕ) (x : Line) → AllKept (lineRules place s held x) → s .exited ≡ true → ⊥

@@ -10,12 +10,12 @@ use native.Mathlib.Omega.{arith}
 use lib.Dec.{leb}
 use borrow.Author.Tests.{leb-true, leb-false, le-leb, lt-ltb, eqb-true}
 use Rattle.tokens.specs.Names.{sameName}
-use Rattle.statement.specs.Views as act
-use Rattle.statement.specs.Views.{Act, Turn, Ask, requestIn, of}
+use Rattle.statement.specs.Views.{Act, Turn, Ask, requestIn, exitIn, of}
 use Rattle.rules.specs.Sheet.{Sheet, Placing, heldAfter, stateBy, rulesBy}
 use Rattle.rules.specs.Claims.{AllKept}
-use Rattle.laws.proofs.BoolLaws.{and-l, and-r, or-cases, bool, clash}
+use Rattle.laws.proofs.BoolLaws.{and-l, and-r, and-split, or-cases, bool, clash}
 use Rattle.tokens.proofs.Names.{same-true}
+use Rattle.statement.proofs.Each.{each-act, exit-only}
 use Rattle.rules.proofs.Figures.{held-total}
 use Rattle.rules.proofs.RulesProved.{Clear, zero-kept}
 use Rattle.run.specs.Run.{Holding, Region, Run, Phase, going, stoppedAt, exited, ended, within, heldColumns, usable, startAt, mayUse, has, lies, allLie, bookedBy, known, able, done, inPhase, go, after, finish, outcome}
@@ -79,17 +79,18 @@ finish-exited exited e = refl
 finish-exited ended e = absurd (omega (arith, ap number e))
 
 -- ---- one line
--- a statement that is done does not stop the run
-pub done-goes : (starts : List ℕ) (r : Run) (t : Act) (l : ℕ) → r .phase ≡ going → done starts r t .phase ≡ stoppedAt l → ⊥
+-- an act that is done leaves the run going, but for an exit
+done-phase : (starts : List ℕ) (r : Run) (t : Act) → r .phase ≡ going → done starts r t .phase ≡ cond (exitIn t) exited going
 unfolding done
-done-goes starts r (act.binds n w v) l q e = going-stopped l refl e
-done-goes starts r (act.requests n v) l q e = going-stopped l refl e
-done-goes starts r (act.releases n v) l q e = going-stopped l refl e
-done-goes starts r act.relinquishes l q e = going-stopped l q e
-done-goes starts r (act.accesses a) l q e = going-stopped l q e
-done-goes starts r (act.multiplies m) l q e = going-stopped l q e
-done-goes starts r act.exits l q e = exited-stopped l refl e
-done-goes starts r act.nothing l q e = going-stopped l q e
+done-phase starts r t q = each-act (λ t. done starts r t .phase ≡ cond (exitIn t) exited going) t search
+
+-- it does not stop it
+pub done-goes : (starts : List ℕ) (r : Run) (t : Act) (l : ℕ) → r .phase ≡ going → done starts r t .phase ≡ stoppedAt l → ⊥
+done-goes starts r t l q e = at (exitIn t) (sym (done-phase starts r t q) ∙ e)
+  where
+    at : (b : Bool) → cond b exited going ≡ stoppedAt l → ⊥
+    at true f = exited-stopped l refl f
+    at false f = going-stopped l refl f
 
 module _ (starts : List ℕ) (r : Run) (line : ℕ) (x : Turn) (q : r .phase ≡ going) where
   by-able : go (r .phase) starts r line x ≡ cond (able starts r (x .act)) (done starts r (x .act)) (inPhase (stoppedAt line) r)
@@ -167,31 +168,24 @@ unfolding allLie
 all-inside [] l e = tt
 all-inside (a ∷ xs) l e = (inside a l (and-l (has (lies a) l) (allLie xs l) e), all-inside xs l (and-r (has (lies a) l) (allLie xs l) e))
 
-able-inside : (starts : List ℕ) (r : Run) (t : Act) → able starts r t ≡ true → (known (r .notes) t ≡ true) × AllInside (bookedBy (r .notes) t) (r .live)
+-- what an act that can be done books lies in the holdings, and its number is known
+able-lie : (starts : List ℕ) (r : Run) (t : Act) → able starts r t ≡ true → known (r .notes) t && allLie (bookedBy (r .notes) t) (r .live) ≡ true
 unfolding able bookedBy known allLie
-able-inside starts r (act.binds n w v) e = (refl, tt)
-able-inside starts r (act.requests n v) e = (refl, tt)
-able-inside starts r (act.releases n v) e = (refl, tt)
-able-inside starts r act.relinquishes e = (refl, tt)
-able-inside starts r (act.accesses a) e = (refl, all-inside (bookedBy (r .notes) (act.accesses a)) (r .live) e)
-able-inside starts r (act.multiplies m) e =
-    let k = known (r .notes) (act.multiplies m) in
-    let b = bookedBy (r .notes) (act.multiplies m) in
-    (and-l k (allLie b (r .live)) e, all-inside b (r .live) (and-r k (allLie b (r .live)) e))
-able-inside starts r act.exits e = (refl, tt)
-able-inside starts r act.nothing e = (refl, tt)
+able-lie starts r t = each-act (λ t. able starts r t ≡ true → known (r .notes) t && allLie (bookedBy (r .notes) t) (r .live) ≡ true) t search
+
+able-inside : (starts : List ℕ) (r : Run) (t : Act) → able starts r t ≡ true → (known (r .notes) t ≡ true) × AllInside (bookedBy (r .notes) t) (r .live)
+able-inside starts r t e =
+    let p = and-split (known (r .notes) t) (allLie (bookedBy (r .notes) t) (r .live)) (able-lie starts r t e) in
+    (p .0, all-inside (bookedBy (r .notes) t) (r .live) (p .1))
 
 -- ---- the exit
 exit-empty : (starts : List ℕ) (r : Run) (t : Act) → r .phase ≡ going → able starts r t ≡ true → done starts r t .phase ≡ exited → heldColumns (done starts r t .live) ≡ 0
 unfolding able done bookedBy known allLie
-exit-empty starts r (act.binds n w v) q e f = absurd (going-exited refl f)
-exit-empty starts r (act.requests n v) q e f = absurd (going-exited refl f)
-exit-empty starts r (act.releases n v) q e f = absurd (going-exited refl f)
-exit-empty starts r act.relinquishes q e f = absurd (going-exited q f)
-exit-empty starts r (act.accesses a) q e f = absurd (going-exited q f)
-exit-empty starts r (act.multiplies m) q e f = absurd (going-exited q f)
-exit-empty starts r act.exits q e f = eqb-true (heldColumns (r .live)) 0 e
-exit-empty starts r act.nothing q e f = absurd (going-exited q f)
+exit-empty starts r t q e f = at (exitIn t) refl (sym (done-phase starts r t q) ∙ f)
+  where
+    at : (b : Bool) → exitIn t ≡ b → cond b exited going ≡ exited → heldColumns (done starts r t .live) ≡ 0
+    at true g h = subst (λ x. able starts r x ≡ true → heldColumns (done starts r x .live) ≡ 0) (sym (exit-only t g)) (eqb-true (heldColumns (r .live)) 0) e
+    at false g h = absurd (going-exited refl h)
 
 -- ---- many lines
 module _ (starts : List ℕ) (turns : ℕ → Turn) where

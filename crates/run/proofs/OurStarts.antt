@@ -27,6 +27,7 @@ use Rattle.rules.specs.Reasons as reasons
 use Rattle.rules.specs.Sheet.{Line, statement, turnOf, actIn, Sheet, ours, lineRules, lineEffect, added, effect, given, startList, stateBy, startsBy, rulesBy, heldAfter, peakUpTo, answerBy, startsOf, placesAfter}
 use Rattle.rules.specs.Claims.{AllKept}
 use Rattle.laws.proofs.BoolLaws.{and-l, and-r, and-join, not-or, bool, clash}
+use Rattle.statement.proofs.Each.{each-act}
 use Rattle.rules.proofs.CountingLaws.{every-at, every-all, least-hit, least-below}
 use Rattle.rules.proofs.RuleLaws.{Accepted, accepted-line, request-kept, releases-kept}
 use Rattle.rules.proofs.Figures.{held-total}
@@ -182,30 +183,33 @@ one-start : (o : Option ℕ) → isSome o ≡ true → length (startList o) ≡ 
 one-start none e = absurd (clash e refl)
 one-start (some x) e = refl
 
-own-done : (starts : List ℕ) (st : State) (r : Run) (held w : ℕ) (t : Statement) → Accepted lowest st held w t → Agree st r → Same (st .live) (r .live) → Given starts (r .requests) st t
-    → Same (effect lowest st w (actOf t) .live) (done starts r (actOf t) .live) × (done starts r (actOf t) .requests ≡ r .requests + length (given lowest st (statement w t)))
-unfolding done effect given
-own-done starts st r held w t a m e g = at (actOf t) refl
-  where
-    at : (x : Act) → actOf t ≡ x
-        → Same (effect lowest st w x .live) (done starts r x .live) × (done starts r x .requests ≡ r .requests + length (of (requestIn x) (λ y. startList (lowest (st .live) (y .columns))) []))
-    at (act.binds n width v) f = (e, omega arith)
-    at (act.requests n v) f =
-        let q : Ask = record { name = n; columns = v } in
-        let k = request-kept lowest st held w t a q (ap requestIn f) .1 in (
-          subst (λ o. Same (added n v (lowest (st .live) v) (st .live)) (record { name = n; start = orZero o; length = v } ∷ r .live)) (sym (g q (ap requestIn f)))
-              (same-added n v (lowest (st .live) v) (st .live) (r .live) k e),
-          omega (arith, one-start (lowest (st .live) v) k),
-        )
-    at (act.releases n v) f = (
-      subst (λ l. Same (s.without n (st .live)) l) (sym (dealloc-both st r n v (releases-kept lowest st held w t a n v f) m .1)) (same-without n (st .live) (r .live) e),
-      omega arith,
-    )
-    at act.relinquishes f = (e, omega arith)
-    at (act.accesses x) f = (e, omega arith)
-    at (act.multiplies x) f = (e, omega arith)
-    at act.exits f = (e, omega arith)
-    at act.nothing f = (e, omega arith)
+module _ (starts : List ℕ) (st : State) (r : Run) (held w : ℕ) (t : Statement) (a : Accepted lowest st held w t) (m : Agree st r) (e : Same (st .live) (r .live)) (g : Given starts (r .requests) st t) where
+  -- after an act the allocations are the same, and each start that it was given is one request
+  abbrev Owned : Act → Type 0
+  Owned x =
+      actOf t ≡ x
+      → Same (effect lowest st w x .live) (done starts r x .live) × (done starts r x .requests ≡ r .requests + length (of (requestIn x) (λ y. startList (lowest (st .live) (y .columns))) []))
+
+  owns-new : (n : Name) (v : ℕ) → Owned (act.requests n v)
+  unfolding done effect
+  owns-new n v f =
+      let q : Ask = record { name = n; columns = v } in
+      let k = request-kept lowest st held w t a q (ap requestIn f) .1 in (
+        subst (λ o. Same (added n v (lowest (st .live) v) (st .live)) (record { name = n; start = orZero o; length = v } ∷ r .live)) (sym (g q (ap requestIn f)))
+            (same-added n v (lowest (st .live) v) (st .live) (r .live) k e),
+        omega (arith, one-start (lowest (st .live) v) k),
+      )
+
+  owns-less : (n : Name) (v : ℕ) → Owned (act.releases n v)
+  unfolding done effect
+  owns-less n v f = (
+    subst (λ l. Same (s.without n (st .live)) l) (sym (dealloc-both st r n v (releases-kept lowest st held w t a n v f) m .1)) (same-without n (st .live) (r .live) e),
+    omega arith,
+  )
+
+  own-done : Same (effect lowest st w (actOf t) .live) (done starts r (actOf t) .live) × (done starts r (actOf t) .requests ≡ r .requests + length (given lowest st (statement w t)))
+  unfolding done effect given
+  own-done = let z : r .requests ≡ r .requests + 0 = omega arith in each-act Owned (actOf t) (search (owns-new, owns-less)) refl
 
 -- what holds of our run in each phase
 abbrev Own : Phase → State → Run → ℕ → Type 0

@@ -3,3 +3,4 @@ pub mod Readings
 pub mod Words
 pub mod Bound
 pub mod Variants
+pub mod Each
