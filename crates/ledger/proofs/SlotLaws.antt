@@ -10,6 +10,7 @@ use lib.Dec.{leb, ltb, eqb}
 use lib.ListN.{getD, set, length, length-set, List·getD-eq-default}
 use lib.Seq.{getD-set-same, getD-set-other}
 use borrow.Author.Tests.{ltb-true, ltb-false, leb-true, lt-ltb, le-leb, eqb-true, eqb-false, eq-eqb, ne-eqb, not-true, not-false}
+use Rattle.laws.specs.Lists.{Among}
 use Rattle.laws.proofs.BoolLaws.{bool, clash, same-test, and-split, and-join, and-cases, and-left-false, and-right-false, or-cases, or-left, or-right, or-neither}
 use Rattle.tokens.specs.declared.Name.{Name}
 use Rattle.tokens.specs.Names.{sameName}
@@ -22,7 +23,7 @@ use Rattle.search.proofs.SearchLaws.{least-at-most, least-agree}
 use Rattle.ledger.specs.declared.Span.{Span}
 use Rattle.ledger.specs.Slots.{ownsAt, slotOf, meetsAt, fitsAt, placeOf, total}
 use Rattle.ledger.specs.Booking.{findIn}
-use Rattle.ledger.specs.Shows.{Among, Unique, slotAt, Slots, Finds}
+use Rattle.ledger.specs.Shows.{Unique, slotAt, Slots, Finds}
 use Rattle.ledger.proofs.PlaceLaws.{meets-in}
 
 -- ---- lists of allocations
