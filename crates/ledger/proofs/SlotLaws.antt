@@ -18,6 +18,7 @@ use Rattle.rules.specs.Counting.{least, every}
 use Rattle.rules.specs.State as rules
 use Rattle.rules.specs.State.{Allocation, covers, isFree, freeFrom}
 use Rattle.rules.proofs.CountingLaws.{least-le, least-hit, least-below, every-at, every-all}
+use Rattle.rules.proofs.StateLaws.{total-without}
 use Rattle.tokens.proofs.Names.{same-true, same-name, other-name}
 use Rattle.search.proofs.SearchLaws.{least-at-most, least-agree}
 use Rattle.ledger.specs.declared.Span.{Span}
@@ -247,16 +248,6 @@ total-set columns p x (suc n) b h = at (bool (eqb n p)) (total-set columns p x n
         let o : n ≡ p → ⊥ = eqb-false n p z in
         let f : getD (set columns p x) n 0 ≡ getD columns n 0 = getD-set-other columns p n x 0 o in
         omega (arith, ih (omega arith))
-
-total-without : (n : Name) (l : List Allocation) → rules.total (rules.without n l) + rules.columnsOf n l ≡ rules.total l
-unfolding rules.total rules.without rules.columnsOf
-total-without n [] = refl
-total-without n (b ∷ l) = at (sameName (b .name) n) (total-without n l)
-  where
-    at : (t : Bool) → rules.total (rules.without n l) + rules.columnsOf n l ≡ rules.total l
-        → rules.total (cond t l (b ∷ rules.without n l)) + cond t (b .columns) (rules.columnsOf n l) ≡ b .columns + rules.total l
-    at true ih = omega arith
-    at false ih = omega arith
 
 -- ---- taking out the allocation of a name
 among-without : (n : Name) (a : Allocation) (l : List Allocation) → Among a (rules.without n l) → Among a l

@@ -12,7 +12,7 @@ use lib.Dec.{leb, ltb, eqb}
 use lib.ListN.{length, length-append, drop}
 use lib.Seq.{sets, sets-eq}
 use borrow.Author.Tests.{ltb-true, lt-ltb, leb-true, leb-false, le-leb, eqb-true, eq-eqb}
-use Rattle.laws.specs.Tests.{isSome}
+use Rattle.laws.specs.Tests.{bit, isSome}
 use Rattle.laws.proofs.TestLaws.{each}
 use Rattle.tokens.specs.declared.Name.{Name}
 use Rattle.tokens.specs.Names.{sameName}
@@ -29,6 +29,7 @@ use Rattle.rules.specs.Claims.{AllKept}
 use Rattle.laws.proofs.BoolLaws.{and-l, and-r, and-join, not-or, bool, clash}
 use Rattle.rules.proofs.CountingLaws.{every-at, every-all, least-hit, least-below}
 use Rattle.rules.proofs.RuleLaws.{Accepted, accepted-line, request-kept, releases-kept}
+use Rattle.rules.proofs.StateLaws.{one-start}
 use Rattle.rules.proofs.Figures.{held-total}
 use Rattle.rules.proofs.RulesProved.{Clear, zero-kept, no-more, passed-figures}
 use Rattle.rules.proofs.FiguresProved.{figures-exact}
@@ -178,10 +179,6 @@ own-free starts st r held w t a e g = at (requestOf t) refl
         ap (λ o. mayUse (r .live) (x .columns) o) (g x f)
         ∙ lowest-may (st .live) (r .live) (x .columns) e (request-kept lowest st held w t a x f .1)
 
-one-start : (o : Option ℕ) → isSome o ≡ true → length (startList o) ≡ 1
-one-start none e = absurd (clash e refl)
-one-start (some x) e = refl
-
 own-done : (starts : List ℕ) (st : State) (r : Run) (held w : ℕ) (t : Statement) → Accepted lowest st held w t → Agree st r → Same (st .live) (r .live) → Given starts (r .requests) st t
     → Same (effect lowest st w (actOf t) .live) (done starts r (actOf t) .live) × (done starts r (actOf t) .requests ≡ r .requests + length (given lowest st (statement w t)))
 unfolding done effect given
@@ -195,7 +192,7 @@ own-done starts st r held w t a m e g = at (actOf t) refl
         let k = request-kept lowest st held w t a q (ap requestIn f) .1 in (
           subst (λ o. Same (added n v (lowest (st .live) v) (st .live)) (record { name = n; start = orZero o; length = v } ∷ r .live)) (sym (g q (ap requestIn f)))
               (same-added n v (lowest (st .live) v) (st .live) (r .live) k e),
-          omega (arith, one-start (lowest (st .live) v) k),
+          omega (arith, one-start (lowest (st .live) v) ∙ ap bit k),
         )
     at (act.releases n v) f = (
       subst (λ l. Same (s.without n (st .live)) l) (sym (dealloc-both st r n v (releases-kept lowest st held w t a n v f) m .1)) (same-without n (st .live) (r .live) e),
