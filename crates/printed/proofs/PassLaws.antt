@@ -12,8 +12,8 @@ use lib.Seq.{sets, sets-eq, getD-append-add, getD-drop}
 use lib.Count.{ones}
 use lib.Dec.{eqb, leb, ltb}
 use borrow.Author.Tests.{leb-true, ltb-true, ltb-false, eqb-true, eqb-false, eq-eqb, ne-eqb}
-use Rattle.laws.proofs.BoolLaws.{or-neither}
-use Rattle.laws.proofs.TestLaws.{never, each}
+use Rattle.laws.proofs.BoolLaws.{never, or-neither}
+use Rattle.laws.proofs.TestLaws.{each}
 use Rattle.tokens.specs.Numbers.{decimal}
 use Rattle.request.specs.Request.{legal}
 use Rattle.statement.specs.Views as act
