@@ -1,7 +1,5 @@
 -- The theorems, together: each is proved in the file that its line names. Assumes nothing.
-use Prim.Native.Nat.{ℕ, _<_}
-use lib.ListN.{length}
-use borrow.Author.Tests.{lt-leb}
+use Prim.Native.Nat.{ℕ}
 use mathlib.Core.Path.{_≡_, refl, ap, sym, _∙_}
 use mathlib.Core.List.{List, _++_}
 use mathlib.Core.Bool.{true}
@@ -9,11 +7,10 @@ use Rattle.tokens.specs.Names.{isName, packed, nameBytes}
 use Rattle.tokens.specs.Numbers.{lowDigits, trimmed, decimal}
 use Rattle.statement.specs.declared.Num.{Num}
 use Rattle.statement.specs.declared.Num.the-variants.{X1, X2, X4, X8, X16, X32, X64, X128}
-use Rattle.statement.specs.declared.Reading.the-variants.{NoForm}
-use Rattle.statement.specs.Reading.{readOf}
 use Rattle.tokens.specs.Text.{bytes}
 use Rattle.statement.specs.Forms.{numText}
 use Rattle.statement.specs.Cells.{times}
+use Rattle.statement.proofs.Readings.{read-long}
 use Rattle.grammar.specs.Claims.{Theorems}
 use Rattle.grammar.proofs.Back.{name-back}
 use Rattle.grammar.proofs.Exact.{exact}
@@ -23,10 +20,6 @@ use Rattle.grammar.proofs.OnePlace.{ones}
 
 names : (v w : List ℕ) → isName v ≡ true → isName w ≡ true → packed v ≡ packed w → v ≡ w
 names v w p q e = sym (name-back v p) ∙ ap nameBytes e ∙ name-back w q
-
-long : (text : List ℕ) → 4096 < length text → readOf text ≡ NoForm 4096
-unfolding readOf
-long text h = rw (lt-leb (length text) 4096 h)
 
 nums : (n : Num) → numText n ≡ bytes ".x" ++ decimal (times n)
 unfolding decimal trimmed lowDigits
@@ -40,4 +33,4 @@ nums X64 = refl
 nums X128 = refl
 
 pub theorems : Theorems
-theorems = record { exact = exact; trip = trip; writable = writable; canonical = canonical; three = places; long = long; four = overs; one = ones; names = names; nums = nums }
+theorems = record { exact = exact; trip = trip; writable = writable; canonical = canonical; three = places; long = read-long; four = overs; one = ones; names = names; nums = nums }

@@ -8,7 +8,7 @@ use mathlib.Core.Option.{Option, none, some}
 use Rattle.laws.specs.Tests.{all}
 use Rattle.laws.specs.Layout.{Part, says, stands, ranges, pack, tiles}
 use Rattle.laws.specs.Format.{readBy, wordBy}
-use Rattle.laws.proofs.TestLaws.{and-split, chosen, cond-and, cond-same}
+use Rattle.laws.proofs.BoolLaws.{and-split, chosen, cond-and, cond-same}
 use Rattle.laws.proofs.LayoutLaws.{packed, unpacked}
 
 -- reading a word whose numbers name a descriptor, and writing, each make two tests: as one

@@ -12,7 +12,8 @@ use lib.Pow.{pow-pos, pow-add, high, low, split, shr-shr, shr-lt, le-ones, lt-of
 use borrow.Author.Tests.{eqb-true, leb-true, ltb-true, eq-eqb, le-leb}
 use Rattle.laws.specs.Tests.{all}
 use Rattle.laws.specs.Layout.{Part, plain, scaled, fixed, width, says, stands, ranges, pack, tiles}
-use Rattle.laws.proofs.TestLaws.{never, and-split, Each, each, all-of}
+use Rattle.laws.proofs.BoolLaws.{never, and-split}
+use Rattle.laws.proofs.TestLaws.{Each, each, all-of}
 
 -- what a number says by the parts taken off from its low end, the tests of its fixed parts, and the number of a list
 abbrev low-says : List Part → ℕ → List ℕ

@@ -6,7 +6,7 @@ use mathlib.Core.Bool.{Bool, true, false, _&&_, _||_, cond}
 use mathlib.Core.List.{List, [], _∷_}
 use mathlib.Core.Option.{Option, some, Option·some-injective, Option·none-ne-some}
 use Rattle.laws.specs.Tests.{all, allFrom, find, bit, isSome}
-pub use Rattle.laws.proofs.BoolLaws.{never, and-split, and-join, cond-and, cond-same, chosen}
+use Rattle.laws.proofs.BoolLaws.{and-split, and-join}
 
 pub bit-le : (b : Bool) → bit b ≤ 1
 bit-le true = omega arith

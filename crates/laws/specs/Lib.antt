@@ -1,4 +1,5 @@
 pub mod Tests
+pub mod Lists
 pub mod Layout
 pub mod Format
 pub mod Rules

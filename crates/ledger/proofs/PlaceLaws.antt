@@ -1,7 +1,7 @@
 -- One pass over the slots finds the lowest place. Below the start so far nothing fits, for an allocation is met there; from it on all slots looked at
 -- are empty, and they are not enough yet. Assumes nothing.
 use Prim.Native.Nat.{ℕ, _+_, _*_, _/_, _≤_, _<_, max}
-use mathlib.Core.Path.{_≡_, ap, _∙_}
+use mathlib.Core.Path.{_≡_, sym, ap, _∙_, subst}
 use mathlib.Core.Bool.{Bool, true, false, not, cond, and-false}
 use mathlib.Core.List.{List}
 use mathlib.Core.Logic.{_⊎_, inl, inr}
@@ -77,13 +77,22 @@ scan-start columns k p = record {
 }
 
 module _ (columns : List ℕ) (requested start i next : ℕ) (s : Scanned columns requested start i) (b : i < 16) (p : 0 < requested) where
+  -- no slot up to i reaches beyond the next start
+  past-next : start ≤ next → (0 < getD columns i 0 → i * 32 + getD columns i 0 ≤ next * 32) → (j : ℕ) → j < i + 1 → 0 < getD columns j 0
+      → j * 32 + getD columns j 0 ≤ next * 32
+  past-next h own j q r = at (bool (eqb j i))
+    where
+      at : (eqb j i ≡ true) ⊎ (eqb j i ≡ false) → j * 32 + getD columns j 0 ≤ next * 32
+      at (inl t) = subst (λ (n : ℕ). 0 < getD columns n 0 → n * 32 + getD columns n 0 ≤ next * 32) (sym (eqb-true j i t)) own r
+      at (inr t) = omega (arith, s .past j (omega (arith, eqb-false j i t)) r)
+
   -- past the allocation of the slot
   full : 0 < getD columns i 0 → getD columns i 0 ≤ 65535 → next ≡ max start (i + (getD columns i 0 + 31) / 32) → Scanned columns requested next (i + 1)
   full c m e = record {
     bound = omega arith;
     room = omega (arith, s .room);
     none = none;
-    past = past;
+    past = past-next (omega arith) (λ x. omega arith);
     short = omega arith;
   }
     where
@@ -94,29 +103,15 @@ module _ (columns : List ℕ) (requested start i next : ℕ) (s : Scanned column
           at (inl t) = s .none k (ltb-true k start t) r
           at (inr t) = let g : start ≤ k = ltb-false k start t in not-fits columns requested k i b c (omega (arith, s .short)) (omega arith)
 
-      past : (j : ℕ) → j < i + 1 → 0 < getD columns j 0 → j * 32 + getD columns j 0 ≤ next * 32
-      past j q r = at (bool (eqb j i))
-        where
-          at : (eqb j i ≡ true) ⊎ (eqb j i ≡ false) → j * 32 + getD columns j 0 ≤ next * 32
-          at (inl t) = let z : j ≡ i = eqb-true j i t in rw z (omega arith)
-          at (inr t) = omega (arith, s .past j (omega (arith, eqb-false j i t)) r)
-
   -- an empty slot
   empty : getD columns i 0 ≡ 0 → next ≡ start → (i + 1) * 32 < next * 32 + requested → Scanned columns requested next (i + 1)
   empty c e h = record {
     bound = omega arith;
     room = omega (arith, s .room);
     none = λ k q r. s .none k (omega arith) r;
-    past = past;
+    past = past-next (omega arith) (λ x. absurd (omega arith));
     short = h;
   }
-    where
-      past : (j : ℕ) → j < i + 1 → 0 < getD columns j 0 → j * 32 + getD columns j 0 ≤ next * 32
-      past j q r = at (bool (eqb j i))
-        where
-          at : (eqb j i ≡ true) ⊎ (eqb j i ≡ false) → j * 32 + getD columns j 0 ≤ next * 32
-          at (inl t) = let z : getD columns j 0 ≡ 0 = ap (λ (n : ℕ). getD columns n 0) (eqb-true j i t) ∙ c in omega arith
-          at (inr t) = omega (arith, s .past j (omega (arith, eqb-false j i t)) r)
 
   -- the run of empty slots is long enough
   found : getD columns i 0 ≡ 0 → next ≡ start → next * 32 + requested ≤ (i + 1) * 32 → placeOf columns requested ≡ next

@@ -90,14 +90,6 @@ shows-empty = record {
     zeros : (i : ℕ) → i < 16 → _≡_ {A = ℕ} (getD (replicate 16 0) i 0) 0
     zeros i h = getD-replicate 16 i 0 0 h
 
--- ---- a line that touches no allocation, warp or permit
-pub unmoved : (l : Ledger) (s r : State) → r .live ≡ s .live → r .warp ≡ s .warp → r .relinquished ≡ s .relinquished → Shows l s → Shows l r
-unmoved l s r a b c h = record {
-  slots = subst (λ (x : List Allocation). Slots (l .hi) (l .lo) (l .columns) x) (sym a) (h .slots);
-  warp = h .warp ∙ sym b;
-  relinquished = h .relinquished ∙ sym c;
-}
-
 module _ (l : Ledger) (s : State) (h : Shows l s) where
   live-test : (n : Name) → isLive l n ≡ rules.isLive n (s .live)
   live-test n = live-slot (l .hi) (l .lo) (l .columns) (s .live) (h .slots) n

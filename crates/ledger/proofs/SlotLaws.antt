@@ -10,6 +10,7 @@ use lib.Dec.{leb, ltb, eqb}
 use lib.ListN.{getD, set, length, length-set, List·getD-eq-default}
 use lib.Seq.{getD-set-same, getD-set-other}
 use borrow.Author.Tests.{ltb-true, ltb-false, leb-true, lt-ltb, le-leb, eqb-true, eqb-false, eq-eqb, ne-eqb, not-true, not-false}
+use Rattle.laws.specs.Lists.{Among}
 use Rattle.laws.proofs.BoolLaws.{bool, clash, same-test, and-split, and-join, and-cases, and-left-false, and-right-false, or-cases, or-left, or-right, or-neither}
 use Rattle.tokens.specs.declared.Name.{Name}
 use Rattle.tokens.specs.Names.{sameName}
@@ -17,12 +18,13 @@ use Rattle.rules.specs.Counting.{least, every}
 use Rattle.rules.specs.State as rules
 use Rattle.rules.specs.State.{Allocation, covers, isFree, freeFrom}
 use Rattle.rules.proofs.CountingLaws.{least-le, least-hit, least-below, every-at, every-all}
+use Rattle.rules.proofs.StateLaws.{total-without}
 use Rattle.tokens.proofs.Names.{same-true, same-name, other-name}
 use Rattle.search.proofs.SearchLaws.{least-at-most, least-agree}
 use Rattle.ledger.specs.declared.Span.{Span}
 use Rattle.ledger.specs.Slots.{ownsAt, slotOf, meetsAt, fitsAt, placeOf, total}
 use Rattle.ledger.specs.Booking.{findIn}
-use Rattle.ledger.specs.Shows.{Among, Unique, slotAt, Slots, Finds}
+use Rattle.ledger.specs.Shows.{Unique, slotAt, Slots, Finds}
 use Rattle.ledger.proofs.PlaceLaws.{meets-in}
 
 -- ---- lists of allocations
@@ -246,16 +248,6 @@ total-set columns p x (suc n) b h = at (bool (eqb n p)) (total-set columns p x n
         let o : n ≡ p → ⊥ = eqb-false n p z in
         let f : getD (set columns p x) n 0 ≡ getD columns n 0 = getD-set-other columns p n x 0 o in
         omega (arith, ih (omega arith))
-
-total-without : (n : Name) (l : List Allocation) → rules.total (rules.without n l) + rules.columnsOf n l ≡ rules.total l
-unfolding rules.total rules.without rules.columnsOf
-total-without n [] = refl
-total-without n (b ∷ l) = at (sameName (b .name) n) (total-without n l)
-  where
-    at : (t : Bool) → rules.total (rules.without n l) + rules.columnsOf n l ≡ rules.total l
-        → rules.total (cond t l (b ∷ rules.without n l)) + cond t (b .columns) (rules.columnsOf n l) ≡ b .columns + rules.total l
-    at true ih = omega arith
-    at false ih = omega arith
 
 -- ---- taking out the allocation of a name
 among-without : (n : Name) (a : Allocation) (l : List Allocation) → Among a (rules.without n l) → Among a l

@@ -4,10 +4,10 @@ use Prim.Native.Nat.{ℕ, _*_, _<_}
 use mathlib.Core.Path.{_≡_}
 use mathlib.Core.Bool.{false, not, cond}
 use mathlib.Core.List.{List, [], _∷_}
-use mathlib.Core.Logic.{_⊎_}
 use mathlib.Core.Option.{Option, none, some}
 use lib.Dec.{eqb}
 use lib.ListN.{getD, length}
+use Rattle.laws.specs.Lists.{Among}
 use Rattle.laws.specs.Rules.{firstBroken}
 use Rattle.tokens.specs.declared.Name.{Name}
 use Rattle.statement.specs.declared.Statement.the-variants.{Alloc, Dealloc, Relinquish}
@@ -19,11 +19,6 @@ use Rattle.rules.specs.Sheet.{effect, startList}
 use Rattle.ledger.specs.declared.Ledger.{Ledger}
 use Rattle.ledger.specs.Slots.{total}
 use Rattle.ledger.specs.Booking.{allocOf, releaseOf, relinquishOf, findIn}
-
--- an allocation is one of a list
-abbrev pub Among : Allocation → List Allocation → Type 0
-Among a [] = ⊥
-Among a (b ∷ l) = (a ≡ b) ⊎ Among a l
 
 -- each name once
 abbrev pub Unique : List Allocation → Type 0

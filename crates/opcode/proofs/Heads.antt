@@ -8,7 +8,7 @@ use mathlib.Core.Bool.{Bool, true, false, _&&_, not, cond}
 use lib.ListN.{length, take, drop, take-append-drop}
 use lib.Seq.{take-append-seam, drop-append-seam, length-take-le}
 use lib.Dec.{eqb}
-use borrow.Author.Tests.{eq-eqb, eqb-true}
+use borrow.Author.Tests.{eq-eqb, eqb-true, not-true}
 use Rattle.laws.proofs.BoolLaws.{never, and-split}
 use Rattle.tokens.specs.Bytes.{opcodeByte, runLen}
 use Rattle.tokens.proofs.Runs.{run-le, run-ends, run-all}
@@ -39,11 +39,7 @@ starts-self (x ∷ p) r = rw (eq-eqb x x refl) (starts-self p r)
 -- ---- runs
 stops-run : (l : List ℕ) → stops l ≡ true → runLen opcodeByte l ≡ 0
 stops-run [] h = refl
-stops-run (x ∷ l) h = rw (not-by (opcodeByte x) h)
-  where
-    not-by : (b : Bool) → not b ≡ true → b ≡ false
-    not-by true h = sym h
-    not-by false h = refl
+stops-run (x ∷ l) h = rw (not-true (opcodeByte x) h)
 
 run-stops : (l : List ℕ) → runLen opcodeByte l ≡ 0 → stops l ≡ true
 run-stops [] h = refl

@@ -27,8 +27,8 @@ pub struct Head {
 pub fn access(w: &[u8], head: Place, shape: Shape, num: Num) -> Place
     ensures { λ r. ⌜ leftSeen (now (w .entry)) r ≡ pieceC (shapeText shape ++ (numText num ++ bytes ".b32")) (leftSeen (now (w .entry)) head) ⌝ }
 {
-    let a = piece::shape_piece(w, head, shape);
-    let b = piece::num_piece(w, a, num);
+    let a = piece::spelled(w, head, spellings::shape(shape));
+    let b = piece::spelled(w, a, spellings::num(num));
     piece::piece(w, b, b".b32")
 }
 
@@ -59,7 +59,7 @@ pub fn multiply(w: &[u8], ws: bool, sp: bool, kind: Kind) -> Place
     let b = piece::option_piece(w, a, ws, b".ws");
     let c = piece::option_piece(w, b, sp, b".sp");
     let d = piece::piece(w, c, b".cta_group::1.kind::");
-    piece::kind_piece(w, d, kind)
+    piece::spelled(w, d, spellings::kind(kind))
 }
 
 // Past an opcode's word.

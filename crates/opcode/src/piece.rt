@@ -1,12 +1,9 @@
 // Pieces of a word, compared one after the other.
-use instruction::Kind;
 use spellings::Spelling;
-use statement::Num;
-use statement::Shape;
 ghost use mathlib.Core.Path.{_≡_};
 ghost use Prim.Native.Nat.{_+_, _≤_};
 ghost use lib.ListN.{length, take, drop};
-ghost use Rattle.statement.specs.Forms.{shapeText, numText, kindText, option};
+ghost use Rattle.statement.specs.Forms.{option};
 ghost use Rattle.opcode.specs.Pieces.{startsWith, leftSeen, pieceC, whole};
 
 // A position in a word, and whether all before it was as wanted.
@@ -60,31 +57,13 @@ pub fn first(w: &[u8], p: &[u8]) -> Place
 }
 
 // Past a spelling.
-fn spelled(w: &[u8], k: Place, p: Spelling) -> Place
+pub fn spelled(w: &[u8], k: Place, p: Spelling) -> Place
     requires { ⌜ (p .length ≤ 8) × (length (p .bytes) ≡ 8) ⌝ }
     ensures { λ r. ⌜ leftSeen (now (w .entry)) r ≡ pieceC (take (p .length) (p .bytes)) (leftSeen (now (w .entry)) k) ⌝ }
 {
     let bytes = p.bytes;
     let n = p.length;
     piece(w, k, &bytes[..n])
-}
-
-pub fn shape_piece(w: &[u8], k: Place, shape: Shape) -> Place
-    ensures { λ r. ⌜ leftSeen (now (w .entry)) r ≡ pieceC (shapeText shape) (leftSeen (now (w .entry)) k) ⌝ }
-{
-    spelled(w, k, spellings::shape(shape))
-}
-
-pub fn num_piece(w: &[u8], k: Place, num: Num) -> Place
-    ensures { λ r. ⌜ leftSeen (now (w .entry)) r ≡ pieceC (numText num) (leftSeen (now (w .entry)) k) ⌝ }
-{
-    spelled(w, k, spellings::num(num))
-}
-
-pub fn kind_piece(w: &[u8], k: Place, kind: Kind) -> Place
-    ensures { λ r. ⌜ leftSeen (now (w .entry)) r ≡ pieceC (kindText kind) (leftSeen (now (w .entry)) k) ⌝ }
-{
-    spelled(w, k, spellings::kind(kind))
 }
 
 // Past a piece that may be left out.

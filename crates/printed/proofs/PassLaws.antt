@@ -11,9 +11,9 @@ use lib.ListN.{length, getD, drop, replicate, length-append, length-replicate, L
 use lib.Seq.{sets, sets-eq, getD-append-add, getD-drop}
 use lib.Count.{ones}
 use lib.Dec.{eqb, leb, ltb}
-use borrow.Author.Tests.{leb-true, ltb-true, ltb-false, eqb-true, eq-eqb, ne-eqb}
-use Rattle.laws.proofs.BoolLaws.{or-neither}
-use Rattle.laws.proofs.TestLaws.{never, each}
+use borrow.Author.Tests.{leb-true, ltb-true, ltb-false, eqb-true, eqb-false, eq-eqb, ne-eqb}
+use Rattle.laws.proofs.BoolLaws.{never, or-neither}
+use Rattle.laws.proofs.TestLaws.{each}
 use Rattle.tokens.specs.Numbers.{decimal}
 use Rattle.request.specs.Request.{legal}
 use Rattle.statement.specs.Views.{Ask, Act, requestIn, requestOf, of}
@@ -241,10 +241,7 @@ fits-by true s e =
     let z = eqb-true (answered s .reason) 0 e in
     omega (arith, ap length (report-passed s z), length-append (headOf s) (rowsText (rowsOf s)), head-passed (answered s .reason) (answered s .line) (answered s .held) (answered s .peak) z (omega (arith, line-is s 4096 z, lines-most s 4096 z)) (held-is s 4096 z), rows-most s z)
 fits-by false s e =
-    omega (arith, ap length (report-refused s (eqb-no (answered s .reason) e)), head-any (answered s .reason) (answered s .line) (answered s .held) (answered s .peak))
-  where
-    eqb-no : (r : ℕ) → eqb r 0 ≡ false → r ≡ 0 → ⊥
-    eqb-no r f g = never (sym f ∙ eq-eqb r 0 g)
+    omega (arith, ap length (report-refused s (eqb-false (answered s .reason) 0 e)), head-any (answered s .reason) (answered s .line) (answered s .held) (answered s .peak))
 
 -- no report needs more than 102,391 bytes
 pub report-fits : (s : List ℕ) → length (reportOf s) ≤ reportRoom

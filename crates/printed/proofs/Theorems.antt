@@ -2,21 +2,21 @@
 -- own. Assumes nothing.
 use Prim.Native.Nat.{ℕ, zero, suc, _-_, _<_, _≤_}
 use native.Mathlib.Omega.{arith}
-use mathlib.Core.Path.{_≡_, refl}
+use mathlib.Core.Path.{_≡_, refl, sym, ap, _∙_}
 use mathlib.Core.List.{List, [], _∷_}
 use mathlib.Core.Bool.{true}
 use mathlib.Core.Option.{Option, none, some}
 use lib.ListN.{length, getD, take, length-append}
 use lib.Dec.{leb}
 use borrow.Author.Tests.{le-leb}
-use Rattle.laws.specs.Tests.{isSome}
-use Rattle.laws.proofs.TestLaws.{never}
+use Rattle.laws.specs.Tests.{bit, isSome}
 use Rattle.statement.specs.Views.{Ask, requestOf, of}
 use Rattle.lines.specs.Sheet.{lineCount}
 use Rattle.rules.specs.State.{State, lowest}
 use Rattle.rules.specs.Sheet.{Line, ours, given, startList, heldAfter, stateBy, startsBy, rulesBy, lineRules, startsOf}
 use Rattle.rules.specs.Claims.{AllKept}
 use Rattle.rules.proofs.RuleLaws.{accepted-line, request-kept}
+use Rattle.rules.proofs.StateLaws.{one-start}
 use Rattle.judge.specs.Judged.{linesOf, sheetOf}
 use Rattle.report.specs.Report.{Reported, reportRoom}
 use Rattle.report.proofs.ReportLaws.{put-whole}
@@ -34,10 +34,6 @@ printed-bytes s room h =
 
 -- ---- a start for each alloc
 
-one-start : (o : Option ℕ) → isSome o ≡ true → _≡_ {A = ℕ} 1 (length (startList o))
-one-start none e = never e
-one-start (some x) e = refl
-
 row-start : (s : State) (held : ℕ) (x : Line) (v : ℕ) → AllKept (lineRules lowest s held x) → length (rowOf x v) ≡ length (given lowest s x)
 unfolding rowOf given
 row-start s held x v k =
@@ -46,7 +42,7 @@ row-start s held x v k =
     by : (o : Option Ask) → ((r : Ask) → o ≡ some r → isSome (lowest (s .live) (r .columns)) ≡ true)
         → length {A = Reported} (of o (λ r. record { name = r .name; start = v; columns = r .columns } ∷ []) []) ≡ length (of o (λ r. startList (lowest (s .live) (r .columns))) [])
     by none f = refl
-    by (some r) f = one-start (lowest (s .live) (r .columns)) (f r refl)
+    by (some r) f = sym (one-start (lowest (s .live) (r .columns)) ∙ ap bit (f r refl))
 
 rows-starts : (line : ℕ → Line) (starts : List ℕ) (n : ℕ) → ((k : ℕ) → k < n → AllKept (rulesBy ours line k)) → length (rowsUpTo line starts n) ≡ length (startsBy ours line n)
 unfolding rowsUpTo startsBy

@@ -10,6 +10,7 @@ use lib.ListN.{length, set, length-append}
 use lib.Seq.{sets, length-sets}
 use borrow.Author.Tests.{ltb-true, ltb-false, eqb-true}
 use Rattle.laws.proofs.BoolLaws.{bool}
+use Rattle.laws.proofs.StoreLaws.{sets-append}
 use Rattle.laws.specs.Rules.{firstBroken}
 use Rattle.rules.specs.State.{State, opened, lowest}
 use Rattle.rules.specs.Sheet.{Line, lineRules, lineEffect, given, requested, released, sum, heldAfter, peakUpTo, ours, stateBy, startsBy, rulesBy, reasonBy, stateAfter, startsUpTo}
@@ -65,12 +66,6 @@ begins lines first l t p e f g =
     (subst (λ (x : Progress). Going lines 0 first first (from ledger.empty bindings.empty) x) (sym g) (opening-going lines first)))
 
 -- ---- a start after others
-sets-last : (l w : List ℕ) (i v : ℕ) → sets l i (w ++ (v ∷ [])) ≡ set (sets l i w) (i + length w) v
-sets-last l [] i v = let n : i ≡ i + 0 = omega arith in ap (λ (x : ℕ). set l x v) n
-sets-last l (a ∷ w) i v =
-    let n : suc i + length w ≡ i + suc (length w) = omega arith in
-    sets-last (set l i a) w (suc i) v ∙ ap (λ (x : ℕ). set (sets (set l i a) (suc i) w) x v) n
-
 starts-by : (b : Bool) (first w more old next : List ℕ) (place start : ℕ) → old ≡ sets first 0 w → place ≡ length w
     → more ≡ cond b [] (start ∷ []) → start < 512 → next ≡ cond b old (set old place (start % 65536)) → next ≡ sets first 0 (w ++ more)
 starts-by true first w more old next place start e f g s h = h ∙ e ∙ ap (sets first 0) (sym (ap (λ (x : List ℕ). w ++ x) g ∙ append-nil w))
@@ -82,7 +77,8 @@ starts-by false first w more old next place start e f g s h =
     ∙ ap (λ (n : ℕ). set (sets first 0 w) n (start % 65536)) f
     ∙ ap (set (sets first 0 w) (length w)) q
     ∙ ap (λ (n : ℕ). set (sets first 0 w) n start) n
-    ∙ sym (ap (λ (x : List ℕ). sets first 0 (w ++ x)) g ∙ sets-last first w 0 start)
+    ∙ sets-append first 0 w (start ∷ [])
+    ∙ sym (ap (λ (x : List ℕ). sets first 0 (w ++ x)) g)
 
 count-by : (b : Bool) (w more : List ℕ) (requests start : ℕ) → requests ≡ length w → more ≡ cond b [] (start ∷ []) → cond b requests (requests + 1) ≡ length (w ++ more)
 count-by true w more requests start e g = omega (arith, e, length-append w more, ap (length {A = ℕ}) g)

@@ -8,7 +8,9 @@ use native.Mathlib.Omega.{arith}
 use lib.Dec.{ltb, eqb}
 use lib.ListN.{length, length-append}
 use borrow.Author.Tests.{ltb-true}
+use Rattle.laws.specs.Tests.{isSome}
 use Rattle.laws.proofs.BoolLaws.{and-r}
+use Rattle.laws.proofs.TestLaws.{bit-le}
 use Rattle.request.specs.Request.{legal}
 use Rattle.request.proofs.RequestLaws.{request-exact}
 use Rattle.statement.specs.Views.{Ask, requestIn, requestOf, releaseOf, for, holds, of}
@@ -17,6 +19,7 @@ use Rattle.rules.specs.Reasons.{sized}
 use Rattle.rules.specs.Sheet.{Line, actIn, lineRules, startList, given, requested, sum, heldAfter, ours, stateAfter, startsBy, startsUpTo, rulesBy}
 use Rattle.rules.specs.Claims.{AllKept}
 use Rattle.rules.proofs.RuleLaws.{accepted-line}
+use Rattle.rules.proofs.StateLaws.{one-start}
 
 -- ---- what is asked for
 asked-by : (s : State) (o p : Option Ask) → holds (for o (λ r. legal (r .columns)) ∷ for p (λ r. eqb (columnsOf (r .name) (s .live)) (r .columns)) ∷ []) ≡ true → of o (λ r. r .columns) 0 ≤ 512
@@ -42,13 +45,9 @@ held-most line k h = omega (arith, sum-most line k h)
 
 -- ---- the starts
 -- a line is given at most one
-one-start : (o : Option ℕ) → length (startList o) ≤ 1
-one-start none = omega arith
-one-start (some x) = omega arith
-
 given-by : (s : State) (o : Option Ask) → length (of o (λ r. startList (lowest (s .live) (r .columns))) []) ≤ 1
 given-by s none = omega arith
-given-by s (some r) = one-start (lowest (s .live) (r .columns))
+given-by s (some r) = let o = lowest (s .live) (r .columns) in rw (one-start o) (bit-le (isSome o))
 
 given-few : (s : State) (x : Line) → length (given lowest s x) ≤ 1
 unfolding given

@@ -140,10 +140,6 @@ module _ (s : List ℕ) (h : Head) (is : headSeen s h ≡ headOf s) where
   whole-none e = head-whole s ∙ rw (← is, e)
 
 -- ---- the answer
-pub read-long : (s : List ℕ) → 4096 < length s → NoForm 4096 ≡ readOf s
-unfolding readOf
-read-long s h = rw (lt-leb (length s) 4096 h)
-
 pub read-none : (s : List ℕ) → length s ≤ 4096 → wholeC s ≡ record { value = plain Exit; next = off (start s) s } → NoForm 0 ≡ readOf s
 unfolding readOf answerOf
 read-none s h w = rw (le-leb (length s) 4096 h, w, sub-self (length s))

@@ -1,19 +1,18 @@
--- How long a report can be. A number below a power of ten has no more digits than that, so a first line has at most 16 bytes and a row at most
--- 25. Assumes nothing.
+-- How long the rows of a report can be. A number below a power of ten has no more digits than that, so a row has at most 25 bytes. Assumes nothing.
 use Prim.Native.Nat.{ℕ, zero, suc, _+_, _*_, _/_, _%_, _<_, _≤_}
 use native.Mathlib.Omega.{arith}
 use mathlib.Core.Path.{_≡_, refl, ap}
 use mathlib.Core.List.{List, [], _∷_, _++_}
-use mathlib.Core.Bool.{Bool, true, false, cond}
+use mathlib.Core.Bool.{Bool, true, false}
 use lib.ListN.{length, length-append}
-use lib.Dec.{eqb, leb}
+use lib.Dec.{leb}
 use borrow.Author.Tests.{leb-true, leb-false}
 use Rattle.tokens.specs.declared.Name.{Name}
 use Rattle.tokens.specs.Text.{byte, tab, lf}
 use Rattle.tokens.specs.Names.{nameBytes}
 use Rattle.tokens.specs.Numbers.{lowDigits, trimmed, decimal}
 use Rattle.tokens.proofs.Lengths.{digits-length, trimmed-short, name-short}
-use Rattle.report.specs.Report.{numbersText, headText, rowText, Reported, rowsText, reportText, reportRoom}
+use Rattle.report.specs.Report.{numbersText, rowText, Reported, rowsText}
 
 -- the n-th power of ten
 abbrev pub ten : ℕ → ℕ
@@ -70,17 +69,6 @@ unfolding rowText
 row-short n s c h k =
     omega (arith, length-append (nameBytes n) (tab ∷ numbersText (s ∷ (c ∷ []))), name-short n, pair-text s c, decimal-below 3 s (omega arith) h, decimal-below 3 c (omega arith) k)
 
-four-text : (r l h p : ℕ) → length (numbersText (r ∷ (l ∷ (h ∷ (p ∷ []))))) ≡ length (decimal r) + length (decimal l) + (length (decimal h) + length (decimal p)) + 4
-unfolding numbersText
-four-text r l h p =
-    omega (arith, length-append (decimal r) (tab ∷ (decimal l ++ tab ∷ numbersText (h ∷ (p ∷ [])))), length-append (decimal l) (tab ∷ numbersText (h ∷ (p ∷ []))), pair-text h p)
-
--- a first line with a reason below 100, a line below 10,000, held and peak below 1,000
-pub head-short : (r l h p : ℕ) → r < 100 → l < 10000 → h < 1000 → p < 1000 → length (headText r l h p) ≤ 16
-unfolding headText
-head-short r l h p a b c d =
-    omega (arith, four-text r l h p, decimal-below 2 r (omega arith) a, decimal-below 4 l (omega arith) b, decimal-below 3 h (omega arith) c, decimal-below 3 p (omega arith) d)
-
 -- starts and columns below 1,000
 abbrev pub Small : List Reported → Type 0
 Small [] = Unit
@@ -90,13 +78,3 @@ pub rows-short : (l : List Reported) → Small l → length (rowsText l) ≤ 25 
 unfolding rowsText
 rows-short [] h = omega arith
 rows-short (a ∷ l) h = omega (arith, length-append (rowText (a .name) (a .start) (a .columns)) (rowsText l), row-short (a .name) (a .start) (a .columns) (h .0 .0) (h .0 .1), rows-short l (h .1))
-
-chosen-short : (b : Bool) (l : List Reported) → Small l → length (cond b (rowsText l) []) ≤ 25 * length l
-chosen-short true l h = rows-short l h
-chosen-short false l h = omega arith
-
--- the report of any sheet has room
-pub report-short : (r l h p : ℕ) (a : List Reported) → r < 100 → l < 10000 → h < 1000 → p < 1000 → length a ≤ 4095 → Small a → length (reportText r l h p a) ≤ reportRoom
-unfolding reportText
-report-short r l h p a i j k m n s =
-    omega (arith, length-append (headText r l h p) (cond (eqb r 0) (rowsText a) []), head-short r l h p i j k m, chosen-short (eqb r 0) a s)

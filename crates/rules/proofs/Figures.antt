@@ -2,33 +2,22 @@
 -- Assumes nothing.
 use Prim.Native.Nat.{ℕ, zero, suc, _+_, _-_, _<_}
 use mathlib.Core.Path.{_≡_, refl, ap}
-use mathlib.Core.Bool.{Bool, true, false, _||_, cond}
-use mathlib.Core.List.{List, [], _∷_}
+use mathlib.Core.Bool.{true}
+use mathlib.Core.List.{List}
 use mathlib.Core.Option.{Option, none, some}
 use native.Mathlib.Omega.{arith}
 use Rattle.laws.specs.Tests.{isSome}
 use Rattle.tokens.specs.declared.Name.{Name}
-use Rattle.tokens.specs.Names.{sameName}
 use Rattle.statement.specs.declared.Statement.{Statement}
 use Rattle.statement.specs.Views as act
 use Rattle.statement.specs.Views.{Act, actOf, requestIn, releaseIn, of}
-use Rattle.rules.specs.State.{State, Allocation, Placer, isLive, columnsOf, without, total}
+use Rattle.rules.specs.State.{State, Allocation, Placer, total}
 use Rattle.rules.specs.Sheet.{Line, Placing, lineRules, lineEffect, effect, added, requested, released, sum, heldAfter, stateBy, rulesBy}
 use Rattle.rules.specs.Claims.{AllKept}
 use Rattle.laws.proofs.BoolLaws.{clash}
 use Rattle.statement.proofs.Each.{each-act}
+use Rattle.rules.proofs.StateLaws.{total-without}
 use Rattle.rules.proofs.RuleLaws.{Accepted, accepted-line, request-kept, releases-kept}
-
--- taking out an allocation takes its columns
-pub total-without : (n : Name) (l : List Allocation) → isLive n l ≡ true → total (without n l) + columnsOf n l ≡ total l
-unfolding isLive without columnsOf total
-total-without n [] e = absurd (clash e refl)
-total-without n (a ∷ l) e = at (sameName (a .name) n) e (total-without n l)
-  where
-    at : (t : Bool) → t || isLive n l ≡ true → (isLive n l ≡ true → total (without n l) + columnsOf n l ≡ total l)
-        → total (cond t l (a ∷ without n l)) + cond t (a .columns) (columnsOf n l) ≡ a .columns + total l
-    at true e ih = omega arith
-    at false e ih = omega (arith, ih e)
 
 -- adding one adds its columns
 total-added : (n : Name) (v : ℕ) (o : Option ℕ) (l : List Allocation) → isSome o ≡ true → total (added n v o l) ≡ v + total l
@@ -47,7 +36,7 @@ module _ (place : Placer) (s : State) (held w : ℕ) (t : Statement) (a : Accept
 
   returns : (n : Name) (v : ℕ) → Balanced (act.releases n v)
   unfolding effect
-  returns n v e = let k = releases-kept place s held w t a n v e in omega (arith, total-without n (s .live) (k .0), k .1)
+  returns n v e = let k = releases-kept place s held w t a n v e in omega (arith, total-without n (s .live), k .1)
 
   balanced : Balanced (actOf t)
   unfolding effect

@@ -1,5 +1,6 @@
 pub mod CountingLaws
 pub mod RuleLaws
+pub mod StateLaws
 pub mod ByAct
 pub mod Figures
 pub mod LowestProved

@@ -13,13 +13,14 @@ use Rattle.tokens.specs.Names.{sameName}
 use Rattle.statement.specs.Views.{Act, Turn, Ask, requestIn, exitIn, of}
 use Rattle.rules.specs.Sheet.{Sheet, Placing, heldAfter, stateBy, rulesBy}
 use Rattle.rules.specs.Claims.{AllKept}
+use Rattle.laws.specs.Lists.{Among}
 use Rattle.laws.proofs.BoolLaws.{and-l, and-r, and-split, or-cases, bool, clash}
 use Rattle.tokens.proofs.Names.{same-true}
 use Rattle.statement.proofs.Each.{each-act, exit-only}
 use Rattle.rules.proofs.Figures.{held-total}
 use Rattle.rules.proofs.RulesProved.{Clear, zero-kept}
 use Rattle.run.specs.Run.{Holding, Region, Run, Phase, going, stoppedAt, exited, ended, within, heldColumns, usable, startAt, mayUse, has, lies, allLie, bookedBy, known, able, done, inPhase, go, after, finish, outcome}
-use Rattle.run.specs.Demand3.{turnsOf, Among, Inside, AllInside, Requests, Reached, Asks, Fails, Outcome, Willing, Fallen, Whichever}
+use Rattle.run.specs.Demand3.{turnsOf, Inside, AllInside, Requests, Reached, Asks, Fails, Outcome, Willing, Fallen, Whichever}
 use Rattle.run.proofs.Sound.{sound, sums}
 use Rattle.run.proofs.Agree.{Agree, Follows, follows, freeFor, able-line}
 

@@ -12,7 +12,7 @@ use lib.Dec.{leb, ltb, eqb}
 use lib.ListN.{length, length-append, drop}
 use lib.Seq.{sets, sets-eq}
 use borrow.Author.Tests.{ltb-true, lt-ltb, leb-true, leb-false, le-leb, eqb-true, eq-eqb}
-use Rattle.laws.specs.Tests.{isSome}
+use Rattle.laws.specs.Tests.{bit, isSome}
 use Rattle.laws.proofs.TestLaws.{each}
 use Rattle.tokens.specs.declared.Name.{Name}
 use Rattle.tokens.specs.Names.{sameName}
@@ -30,6 +30,7 @@ use Rattle.laws.proofs.BoolLaws.{and-l, and-r, and-join, not-or, bool, clash}
 use Rattle.statement.proofs.Each.{each-act}
 use Rattle.rules.proofs.CountingLaws.{every-at, every-all, least-hit, least-below}
 use Rattle.rules.proofs.RuleLaws.{Accepted, accepted-line, request-kept, releases-kept}
+use Rattle.rules.proofs.StateLaws.{one-start}
 use Rattle.rules.proofs.Figures.{held-total}
 use Rattle.rules.proofs.RulesProved.{Clear, zero-kept, no-more, passed-figures}
 use Rattle.rules.proofs.FiguresProved.{figures-exact}
@@ -179,10 +180,6 @@ own-free starts st r held w t a e g = at (requestOf t) refl
         ap (λ o. mayUse (r .live) (x .columns) o) (g x f)
         ∙ lowest-may (st .live) (r .live) (x .columns) e (request-kept lowest st held w t a x f .1)
 
-one-start : (o : Option ℕ) → isSome o ≡ true → length (startList o) ≡ 1
-one-start none e = absurd (clash e refl)
-one-start (some x) e = refl
-
 module _ (starts : List ℕ) (st : State) (r : Run) (held w : ℕ) (t : Statement) (a : Accepted lowest st held w t) (m : Agree st r) (e : Same (st .live) (r .live)) (g : Given starts (r .requests) st t) where
   -- after an act the allocations are the same, and each start that it was given is one request
   abbrev Owned : Act → Type 0
@@ -197,7 +194,7 @@ module _ (starts : List ℕ) (st : State) (r : Run) (held w : ℕ) (t : Statemen
       let k = request-kept lowest st held w t a q (ap requestIn f) .1 in (
         subst (λ o. Same (added n v (lowest (st .live) v) (st .live)) (record { name = n; start = orZero o; length = v } ∷ r .live)) (sym (g q (ap requestIn f)))
             (same-added n v (lowest (st .live) v) (st .live) (r .live) k e),
-        omega (arith, one-start (lowest (st .live) v) k),
+        omega (arith, one-start (lowest (st .live) v) ∙ ap bit k),
       )
 
   owns-less : (n : Name) (v : ℕ) → Owned (act.releases n v)

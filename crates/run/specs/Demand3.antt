@@ -4,8 +4,8 @@ use mathlib.Core.Path.{_≡_}
 use mathlib.Core.Bool.{Bool, true, false}
 use mathlib.Core.List.{List, [], _∷_, _++_}
 use mathlib.Core.Option.{none, some}
-use mathlib.Core.Logic.{_⊎_}
 use lib.ListN.{length, drop}
+use Rattle.laws.specs.Lists.{Among}
 use Rattle.statement.specs.Views.{Act, Turn, requestIn, of}
 use Rattle.rules.specs.Sheet.{Sheet, turnOf, answerOf, startsOf, placesAfter}
 use Rattle.run.specs.Run.{Holding, Region, Run, Phase, going, stoppedAt, exited, within, held, heldColumns, usable, startAt, mayUse, bookedBy, known, after, outcome, peakOf}
@@ -19,10 +19,6 @@ turnsOf sheet k = turnOf (sheet .line k)
 abbrev pub NoOverlap : List Holding → Type 0
 NoOverlap [] = Unit {0}
 NoOverlap (h ∷ l) = ((c : ℕ) → within h c ≡ true → held l c ≡ true → ⊥) × NoOverlap l
-
-abbrev pub Among : Holding → List Holding → Type 0
-Among h [] = ⊥
-Among h (g ∷ l) = (h ≡ g) ⊎ Among h l
 
 -- the access lies below lane 128, and each of its columns in the live holding of its name
 pub record Inside (r : Region) (l : List Holding) : Type 0 where

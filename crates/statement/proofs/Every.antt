@@ -3,8 +3,9 @@
 use mathlib.Core.Path.{_≡_, refl}
 use mathlib.Core.List.{List, [], _∷_, _++_, map}
 use mathlib.Core.Bool.{Bool, true, false}
-use mathlib.Core.Logic.{_⊎_, inl, inr}
+use mathlib.Core.Logic.{inl, inr}
 use Prim.Native.Nat.{ℕ, zero, suc}
+use Rattle.laws.specs.Lists.{Among}
 use Rattle.instruction.specs.declared.Kind.{Kind}
 use Rattle.instruction.specs.declared.Kind.the-variants.{F16, Tf32, F8f6f4, I8}
 use Rattle.statement.specs.declared.Shape.{Shape}
@@ -16,48 +17,44 @@ use Rattle.statement.specs.declared.Opcode.the-variants.{Mov32, Mov64, A
 use Rattle.statement.specs.Opcodes.{each, shapes, nums, kinds, flags, singles, loadStores, mmas, opcodes}
 
 -- ---- lists
--- x stands in a list; at its place k
-abbrev In : {A : Type 0} → A → List A → Type 0
-In x [] = ⊥
-In x (y ∷ l) = (x ≡ y) ⊎ In x l
-
+-- x stands in a list at place k
 abbrev At : {A : Type 0} → A → List A → ℕ → Type 0
 At x [] k = ⊥
 At x (y ∷ l) zero = x ≡ y
 At x (y ∷ l) (suc k) = At x l k
 
-at : {A : Type 0} (x : A) (l : List A) (k : ℕ) → At x l k → In x l
+at : {A : Type 0} (x : A) (l : List A) (k : ℕ) → At x l k → Among x l
 at x [] k h = h
 at x (y ∷ l) zero h = inl h
 at x (y ∷ l) (suc k) h = inr (at x l k h)
 
-in-left : {A : Type 0} (x : A) (l m : List A) → In x l → In x (l ++ m)
+in-left : {A : Type 0} (x : A) (l m : List A) → Among x l → Among x (l ++ m)
 in-left x [] m h = absurd h
 in-left x (y ∷ l) m (inl e) = inl e
 in-left x (y ∷ l) m (inr h) = inr (in-left x l m h)
 
-in-right : {A : Type 0} (x : A) (l m : List A) → In x m → In x (l ++ m)
+in-right : {A : Type 0} (x : A) (l m : List A) → Among x m → Among x (l ++ m)
 in-right x [] m h = h
 in-right x (y ∷ l) m h = inr (in-right x l m h)
 
-in-each : {A : Type 0} (o : Opcode) (x : A) (l : List A) (f : A → List Opcode) → In x l → In o (f x) → In o (each l f)
+in-each : {A : Type 0} (o : Opcode) (x : A) (l : List A) (f : A → List Opcode) → Among x l → Among o (f x) → Among o (each l f)
 in-each o x [] f h k = h
 in-each o x (y ∷ l) f (inl e) k = in-left o (f y) (each l f) (rw (← e) k)
 in-each o x (y ∷ l) f (inr h) k = in-right o (f y) (each l f) (in-each o x l f h k)
 
-agree : {A B : Type 0} (f g : A → B) (l : List A) → map f l ≡ map g l → (x : A) → In x l → f x ≡ g x
+agree : {A B : Type 0} (f g : A → B) (l : List A) → map f l ≡ map g l → (x : A) → Among x l → f x ≡ g x
 agree f g [] e x h = absurd h
 agree f g (y ∷ l) e x (inl p) = let q : f y ≡ g y = cc in rw p q
 agree f g (y ∷ l) e x (inr h) = let q : map f l ≡ map g l = cc in agree f g l q x h
 
 -- ---- the table
-shape-listed : (s : Shape) → In s shapes
+shape-listed : (s : Shape) → Among s shapes
 shape-listed S32x32 = at S32x32 shapes 0 refl
 shape-listed S16x64 = at S16x64 shapes 1 refl
 shape-listed S16x128 = at S16x128 shapes 2 refl
 shape-listed S16x256 = at S16x256 shapes 3 refl
 
-num-listed : (n : Num) → In n nums
+num-listed : (n : Num) → Among n nums
 num-listed X1 = at X1 nums 0 refl
 num-listed X2 = at X2 nums 1 refl
 num-listed X4 = at X4 nums 2 refl
@@ -67,28 +64,28 @@ num-listed X32 = at X32 nums 5 refl
 num-listed X64 = at X64 nums 6 refl
 num-listed X128 = at X128 nums 7 refl
 
-kind-listed : (k : Kind) → In k kinds
+kind-listed : (k : Kind) → Among k kinds
 kind-listed F16 = at F16 kinds 0 refl
 kind-listed Tf32 = at Tf32 kinds 1 refl
 kind-listed F8f6f4 = at F8f6f4 kinds 2 refl
 kind-listed I8 = at I8 kinds 3 refl
 
-flag-listed : (b : Bool) → In b flags
+flag-listed : (b : Bool) → Among b flags
 flag-listed false = at false flags 0 refl
 flag-listed true = at true flags 1 refl
 
-single : (o : Opcode) (k : ℕ) → At o singles k → In o opcodes
+single : (o : Opcode) (k : ℕ) → At o singles k → Among o opcodes
 unfolding opcodes
 single o k h = in-left o singles (loadStores ++ mmas) (at o singles k h)
 
-access : (o : Opcode) (shape : Shape) (num : Num) → In o (Load shape num ∷ Store shape num ∷ []) → In o opcodes
+access : (o : Opcode) (shape : Shape) (num : Num) → Among o (Load shape num ∷ Store shape num ∷ []) → Among o opcodes
 unfolding opcodes
 access o shape num h =
     in-right o singles (loadStores ++ mmas) (in-left o loadStores mmas
     (in-each o shape shapes (λ s. each nums (λ n. Load s n ∷ Store s n ∷ [])) (shape-listed shape)
     (in-each o num nums (λ n. Load shape n ∷ Store shape n ∷ []) (num-listed num) h)))
 
-multiply : (o : Opcode) (ws sp : Bool) (kind : Kind) → In o (Multiply ws sp kind ∷ []) → In o opcodes
+multiply : (o : Opcode) (ws sp : Bool) (kind : Kind) → Among o (Multiply ws sp kind ∷ []) → Among o opcodes
 unfolding opcodes
 multiply o ws sp kind h =
     in-right o singles (loadStores ++ mmas) (in-right o loadStores mmas
@@ -96,7 +93,7 @@ multiply o ws sp kind h =
     (in-each o sp flags (λ s. each kinds (λ k. Multiply ws s k ∷ [])) (flag-listed sp)
     (in-each o kind kinds (λ k. Multiply ws sp k ∷ []) (kind-listed kind) h))))
 
-listed : (o : Opcode) → In o opcodes
+listed : (o : Opcode) → Among o opcodes
 listed Mov32 = single Mov32 0 refl
 listed Mov64 = single Mov64 1 refl
 listed (Alloc false) = single (Alloc false) 2 refl

@@ -1,14 +1,23 @@
 -- Answers of the reader that are no statement. Assumes nothing.
+use Prim.Native.Nat.{ℕ, _<_}
 use native.Mathlib.Omega.{arith}
 use mathlib.Core.Path.{_≡_, subst}
-use mathlib.Core.List.{[], _∷_}
+use mathlib.Core.List.{List, [], _∷_}
 use mathlib.Core.Logic.{inl, inr}
+use lib.ListN.{length}
+use borrow.Author.Tests.{lt-leb}
 use denote.Enum.Declared.{tagOf}
 use types.Run.{OneOf}
 use Rattle.statement.specs.declared.Statement.{Statement}
 use Rattle.statement.specs.declared.Reading.{Reading}
 use Rattle.statement.proofs.Reading.{the-type}
-use Rattle.statement.specs.declared.Reading.the-variants.{Got}
+use Rattle.statement.specs.declared.Reading.the-variants.{Got, NoForm}
+use Rattle.statement.specs.Reading.{readOf}
+
+-- a text over 4,096 bytes has no form
+pub read-long : (text : List ℕ) → 4096 < length text → readOf text ≡ NoForm 4096
+unfolding readOf
+read-long text h = rw (lt-leb (length text) 4096 h)
 
 abbrev pub Unread : Reading → Type 0
 Unread r = (t : Statement) → r ≡ Got t → ⊥

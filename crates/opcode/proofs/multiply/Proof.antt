@@ -1,7 +1,6 @@
--- `opcode::multiply` meets its contract. The law of five pieces, by the callees' contracts. Assumes nothing.
+-- `opcode::multiply` meets its contract. The law of five pieces, by the callees' contracts; a spelling is its text. Assumes nothing.
 use Rattle.tokens.specs.Text.{bytes}
 use Rattle.statement.specs.Forms.{word, option, kindText}
-use mathlib.Core.Path.{_∙_}
 use Rattle.opcode.proofs.Laws.{piece-five}
 use Rattle.opcode.specs.Pieces.{whole}
 use borrow.Author.Needs.{needs}
@@ -32,23 +31,17 @@ slice-aggregate-piece c = search needs
 piece-requires : tie.Need-piece-requires
 piece-requires c κs = search needs
 
-kind-piece-requires : tie.Need-kind-piece-requires
-kind-piece-requires c κs = search needs
+kind-requires : tie.Need-kind-requires
+kind-requires c κs = search needs
+
+spelled-requires : tie.Need-spelled-requires
+spelled-requires c κs = search needs
 
 returns : tie.Need-returns
 unfolding word
 returns c =
-    let c₁ = c .before .before .before .before .before in
-    let c₂ = c₁ .before .before in
-    let c₃ = c₂ .before .before .before in
-    let a = c₃ .args in
-    c .kind-piece .ensures ∙ rw (
-      c .before .piece .ensures,
-      c .before .before .before .option-piece2 .ensures,
-      c₁ .option-piece .ensures,
-      c₂ .first .ensures,
-    ) (piece-five (bytes "tcgen05.mma") (option (a .ws) (bytes ".ws")) (option (a .sp) (bytes ".sp")) (bytes ".cta_group::1.kind::")
-    (kindText (a .kind)) (whole (a .w .now)))
+    let a = c .before .before .before .before .before .before .before .before .before .before .before .args in
+    cc (piece-five (bytes "tcgen05.mma") (option (a .ws) (bytes ".ws")) (option (a .sp) (bytes ".sp")) (bytes ".cta_group::1.kind::") (kindText (a .kind)) (whole (a .w .now)))
 
 pub multiply-spec : {M : Type 1} → statement M
 multiply-spec =
@@ -62,5 +55,6 @@ multiply-spec =
     option-piece-requires-2
     slice-aggregate-piece
     piece-requires
-    kind-piece-requires
+    kind-requires
+    spelled-requires
     returns)

@@ -1,12 +1,13 @@
 -- `reader::read` meets its contract. One law for each way out: too long, no opcode, and the operands' answer. Assumes nothing.
-use mathlib.Core.Path.{_∙_}
-use Rattle.reader.proofs.Laws.{read-long, read-none, read-told, whole-is, whole-none}
+use mathlib.Core.Path.{sym, _∙_}
+use Rattle.statement.proofs.Readings.{read-long}
+use Rattle.reader.proofs.Laws.{read-none, read-told, whole-is, whole-none}
 use borrow.Author.Needs.{needs}
 use Rattle.reader.proofs.read.Statement.{statement}
 use Rattle.reader.proofs.read.Tie as tie
 
 returns : tie.Need-returns
-returns c = read-long (c .before .before .args .s .now) (c .if1 .taken)
+returns c = sym (read-long (c .before .before .args .s .now) (c .if1 .taken))
 
 head-of-requires : tie.Need-head-of-requires
 head-of-requires c κs = search needs
