@@ -12,6 +12,7 @@ use borrow.Author.Tests.{ltb-true, ltb-false, eqb-true}
 use Rattle.laws.proofs.BoolLaws.{bool}
 use Rattle.laws.proofs.StoreLaws.{sets-append}
 use Rattle.laws.specs.Rules.{firstBroken}
+use Rattle.lines.specs.Sheet.{mostLines}
 use Rattle.rules.specs.State.{State, opened, lowest}
 use Rattle.rules.specs.Sheet.{Line, lineRules, lineEffect, given, requested, released, sum, heldAfter, peakUpTo, ours, stateBy, startsBy, rulesBy, reasonBy, stateAfter, startsUpTo}
 use Rattle.rules.specs.Claims.{AllKept}
@@ -142,7 +143,7 @@ module _ (lines : ℕ → Line) (k : ℕ) (first given₀ : List ℕ) (a : Array
       balance = omega (arith, held-next ours lines k kept-all, gives .asks z, gives .returns z, g .held-is)
 
       -- nothing overflows
-      pub small : k < 4095 → Small p r
+      pub small : suc k < mostLines → Small p r
       small c = record {
         requests = omega (arith, few, c);
         line = omega (arith, g .line-is, c);
@@ -194,10 +195,10 @@ module _ (x : Line) (given₀ : List ℕ) (a : Arrays) (p : Progress) (y : Ready
   pub ready-sized : Sized a
   ready-sized = sized (y .lines) (y .done) (y .first) given₀ a p (y .going)
 
-  pub ready-line : p .line < 4096
+  pub ready-line : p .line < mostLines
   ready-line = omega (arith, y .going .line-is, y .few)
 
-  pub ready-place : (p .requests < 4096) × (length given₀ ≡ 4096)
+  pub ready-place : (p .requests < mostLines) × (length given₀ ≡ mostLines)
   ready-place = (omega (arith, few (y .lines) (y .done) (y .first) given₀ a p (y .going), y .few), y .places)
 
   pub ready-small : (next : Arrays) (r : Step) → LineDone (p .held) x a (p .status) r next → r .reason ≡ 0 → Small p r
