@@ -1,9 +1,9 @@
 -- The tests of an mma are those of its rules: names by the slots and the table, descriptors by their numbers. Assumes nothing.
-use Prim.Native.Nat.{ℕ, _+_, _/_, _%_, _^_, _<_}
+use Prim.Native.Nat.{ℕ, _+_, _%_, _^_, _<_}
 use native.Mathlib.Omega.{arith}
 use mathlib.Core.Path.{_≡_, refl, sym, ap, _∙_}
 use mathlib.Core.Bool.{Bool, true, false, not, _&&_, cond}
-use mathlib.Core.List.{List, [], _∷_}
+use mathlib.Core.List.{List}
 use lib.Dec.{leb, eqb}
 use borrow.Author.Tests.{eqb-true}
 use Rattle.laws.specs.Tests.{all}
@@ -19,7 +19,7 @@ use Rattle.statement.specs.declared.Address.{Address}
 use Rattle.statement.specs.declared.Mma.{Mma}
 use Rattle.statement.specs.declared.Statement.the-variants.{Multiply}
 use Rattle.statement.specs.Canonical.{sparse}
-use Rattle.rules.specs.State.{State, lowest, isLive, columnsOf, widthOf, numberOf}
+use Rattle.rules.specs.State.{State, lowest, isLive, widthOf, numberOf}
 use Rattle.rules.specs.Reasons.{laneOf, columnOf, sharedReads, mmaEnds, operandNamed, metadataNamed, operandReads, operandEnds, metadataEnds, mmaNamed, mmaReads, allEnd, instructionOf, fieldsOf, openRules}
 use Rattle.rules.proofs.ByAct.{mmaOrder, mma-listed}
 use Rattle.laws.proofs.BoolLaws.{and-r}

@@ -1,7 +1,7 @@
 // What a ld, a st or an mma is refused for, by tables that are left where they are.
 ghost use mathlib.Core.Path.{_≡_};
 ghost use mathlib.Core.Bool.{_&&_, _||_};
-ghost use Prim.Native.Nat.{_+_, _*_, _/_, _%_, _^_, _≤_};
+ghost use Prim.Native.Nat.{_+_, _*_, _/_, _%_, _^_};
 ghost use lib.Dec.{eqb, leb};
 ghost use Rattle.laws.specs.Rules.{firstBroken};
 ghost use Rattle.statement.specs.Canonical.{sparse};

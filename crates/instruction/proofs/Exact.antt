@@ -1,14 +1,12 @@
 -- Reading and writing instruction descriptors undo each other: the format meets the general laws (laws, proofs/FormatLaws.antt). Assumes nothing.
 use Prim.Native.Nat.{ℕ, _<_, _^_}
 use mathlib.Core.Path.{_≡_, refl, ap, sym, _∙_, subst}
-use mathlib.Core.Bool.{Bool, true, false}
-use mathlib.Core.List.{List}
-use mathlib.Core.Option.{Option, none, some}
+use mathlib.Core.Bool.{Bool, true}
 use native.Mathlib.Omega.{arith}
 use Rattle.laws.specs.Tests.{all}
-use Rattle.laws.specs.Layout.{ranges, pack}
+use Rattle.laws.specs.Layout.{pack}
 use Rattle.laws.proofs.FormatLaws.{Reading, Writing, reading, writing, read-word, word-read}
-use Rattle.instruction.specs.Instruction.{layout, fields, values, fieldsIn, numbers, named, rules, keeps, found, made, noDescriptor, noWord, good, fieldsRead, decoded, encoded, encodedNumbers}
+use Rattle.instruction.specs.Instruction.{layout, fields, values, numbers, named, rules, keeps, found, made, noDescriptor, noWord, good, fieldsRead, decoded, encoded, encodedNumbers}
 use Rattle.instruction.proofs.NumberLaws.{word-numbers, numbers-back}
 use Rattle.instruction.specs.Claims.{InstructionExact}
 use Rattle.instruction.specs.declared.Kind.{Kind}

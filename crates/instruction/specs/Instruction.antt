@@ -1,7 +1,7 @@
 -- The instruction descriptor (docs/FORMAT.md, 'Descriptor words'): 32 bits, read under an opcode, that is a kind, `.ws` and `.sp`. The code goes by
 -- the fields as numbers; a descriptor with named types is a view of them. Assumes nothing.
 use Prim.Native.Nat.{ℕ, _*_, _%_}
-use mathlib.Core.Bool.{Bool, true, false, _&&_, _||_, not, cond, Bool·beq}
+use mathlib.Core.Bool.{Bool, false, _&&_, _||_, not, cond, Bool·beq}
 use mathlib.Core.List.{List, [], _∷_}
 use mathlib.Core.Option.{Option, none, some}
 use lib.Dec.{eqb, leb}

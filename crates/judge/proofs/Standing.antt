@@ -1,13 +1,13 @@
 -- The loop over the lines: it begins after the header, goes on by an accepted line, and its answer at a refused line and at the end is that of the
 -- rules. Assumes nothing.
-use Prim.Native.Nat.{ℕ, zero, suc, _+_, _-_, _≤_, _<_}
+use Prim.Native.Nat.{ℕ, suc, _+_, _-_, _≤_, _<_}
 use mathlib.Core.Path.{_≡_, refl, sym, ap, _∙_, subst}
 use mathlib.Core.Bool.{Bool, true, false, cond}
-use mathlib.Core.List.{List, _++_}
+use mathlib.Core.List.{List}
 use native.Mathlib.Omega.{arith}
 use lib.Dec.{ltb, eqb}
 use lib.ListN.{length, take, drop}
-use lib.Seq.{sets, sets-eq, length-sets, take-append-seam}
+use lib.Seq.{sets-eq, length-sets, take-append-seam}
 use borrow.Author.Tests.{eq-eqb, ne-eqb, lt-ltb, le-ltb}
 use Rattle.lines.specs.Sheet.{after, contentOf, lineAt, lineCount, headed, bodyAt, After}
 use Rattle.lines.proofs.SheetLaws.{fault-seen, line-seen}
@@ -15,7 +15,7 @@ use Rattle.lines.proofs.SheetTheorems.{after-header, one-more, all-done, step-m
 use Rattle.laws.specs.Rules.{firstBroken}
 use Rattle.rules.specs.declared.Answer.{Answer}
 use Rattle.rules.specs.State.{lowest}
-use Rattle.rules.specs.Sheet.{Line, lineRules, heldAfter, peakUpTo, ours, rulesBy, reasonBy, stopBy, answer, closing, stateAfter, startsUpTo, answerOf, startsOf}
+use Rattle.rules.specs.Sheet.{Line, lineRules, heldAfter, peakUpTo, ours, reasonBy, stopBy, answer, closing, stateAfter, startsUpTo, answerOf, startsOf}
 use Rattle.rules.proofs.RulesProved.{stop-hit, stop-before, stop-none, at-stop, at-end}
 use Rattle.ledger.specs.declared.Ledger.{Ledger}
 use Rattle.ledger.specs.Booking as ledger
@@ -24,7 +24,7 @@ use Rattle.bindings.specs.Table as bindings
 use Rattle.steps.specs.Steps.{Arrays, arrays}
 use Rattle.progress.specs.declared.Progress.{Progress}
 use Rattle.progress.specs.declared.Advanced.{Advanced}
-use Rattle.progress.specs.Going.{seen, lineSeen, opening, Going, Ready, passedBy, Next, Went}
+use Rattle.progress.specs.Going.{seen, lineSeen, opening, Ready, Next, Went}
 use Rattle.progress.proofs.LineLaws.{starts-few}
 use Rattle.progress.proofs.Going as going
 use Rattle.judge.specs.Judged.{linesOf, sheetOf}

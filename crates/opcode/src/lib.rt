@@ -1,6 +1,6 @@
 // The opcode at the head of a text: a few bytes tell the one that it can be, and the text is compared with that one's word.
-pub mod candidate;
-pub mod piece;
+mod candidate;
+mod piece;
 
 use crate::piece::Place;
 use instruction::Kind;

@@ -1,5 +1,5 @@
 -- One line more, over plain values: an accepted line leads from after k lines to after k + 1, a refused one has the reason of the rules. Assumes nothing.
-use Prim.Native.Nat.{ℕ, zero, suc, _+_, _-_, _*_, _%_, _≤_, _<_, _^_, max}
+use Prim.Native.Nat.{ℕ, suc, _+_, _-_, _*_, _%_, _≤_, _<_, max}
 use mathlib.Core.Path.{_≡_, refl, sym, ap, _∙_, subst}
 use mathlib.Core.Bool.{Bool, true, false, cond}
 use mathlib.Core.List.{List, [], _∷_, _++_, append-nil}
@@ -7,7 +7,7 @@ use mathlib.Core.Logic.{_⊎_, inl, inr}
 use native.Mathlib.Omega.{arith}
 use lib.Dec.{ltb, eqb}
 use lib.ListN.{length, set, length-append}
-use lib.Seq.{sets, length-sets}
+use lib.Seq.{sets}
 use borrow.Author.Tests.{ltb-true, ltb-false, eqb-true}
 use Rattle.laws.proofs.BoolLaws.{bool}
 use Rattle.laws.proofs.StoreLaws.{sets-append}
@@ -27,8 +27,7 @@ use Rattle.bindings.proofs.ShowLaws as bindings-laws
 use Rattle.steps.specs.declared.Step.{Step}
 use Rattle.steps.specs.Steps.{Arrays, arrays, Sized, Kept, Gives, LineDone}
 use Rattle.progress.specs.declared.Progress.{Progress}
-use Rattle.progress.specs.declared.Advanced.{Advanced}
-use Rattle.progress.specs.Going.{opening, Going, Ready, Small, passedBy, countedOf, Next, Went}
+use Rattle.progress.specs.Going.{opening, Going, Ready, Small, passedBy, countedOf, Went}
 use Rattle.progress.proofs.LineLaws.{asked-most, held-most, starts-few, start-below}
 
 -- ---- after line 1

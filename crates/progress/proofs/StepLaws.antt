@@ -1,14 +1,13 @@
 -- The line at a place, by each way out of `step`: a layout fault, a statement that did not read, and what the statement gives. Assumes nothing.
-use Prim.Native.Nat.{ℕ, _+_, _-_, _≤_, _<_}
+use Prim.Native.Nat.{ℕ, _-_, _≤_, _<_}
 use mathlib.Core.Path.{_≡_, refl, sym, ap, _∙_, subst}
 use mathlib.Core.Bool.{Bool, true, false, cond}
 use mathlib.Core.List.{List}
 use native.Mathlib.Omega.{arith}
-use lib.Dec.{ltb, eqb}
 use lib.ListN.{length, take, drop}
 use borrow.Author.Tests.{lt-ltb}
 use Rattle.lines.specs.declared.Line as lines
-use Rattle.lines.specs.Sheet.{Content, fault, laid, contentOf, contentSeen, lineAt}
+use Rattle.lines.specs.Sheet.{laid, contentSeen, lineAt}
 use Rattle.lines.proofs.SheetLaws.{fault-seen, laid-seen, line-seen, line-inside, line-next}
 use Rattle.lines.proofs.SheetTheorems.{read-written, warp-below}
 use Rattle.laws.specs.Rules.{firstBroken}

@@ -9,7 +9,6 @@ use lib.Seq.{sets}
 use Rattle.statement.specs.Reading.{readOf}
 use Rattle.lines.specs.Sheet.{Content, fault, mostLines, laid, contentSeen, lineAt}
 use Rattle.rules.specs.Sheet.{Line, badLayout, lineOf, heldAfter, peakUpTo, ours, reasonBy, stateAfter, startsUpTo}
-use Rattle.steps.specs.declared.Status.{Status}
 use Rattle.steps.specs.declared.Step.{Step}
 use Rattle.steps.specs.Steps.{Arrays, Kept}
 use Rattle.progress.specs.declared.Progress.{Progress}

@@ -2,7 +2,7 @@
 -- definition is seen here. proofs/WorkedProved.antt computes them. Assumes nothing.
 use Prim.Native.Nat.{ℕ, zero, suc, _+_, _*_}
 use mathlib.Core.Path.{_≡_}
-use mathlib.Core.Bool.{Bool, true, false, cond}
+use mathlib.Core.Bool.{Bool, true, false}
 use mathlib.Core.List.{List, [], _∷_, _++_}
 use mathlib.Core.Option.{none}
 use lib.ListN.{getD, length}
@@ -24,7 +24,7 @@ use Rattle.statement.specs.declared.Statement.the-variants.{Mov32, Mov64, Alloc
 use Rattle.rules.specs.declared.Answer.{Answer}
 use Rattle.rules.specs.State.{State, Allocation, Binding, lowest}
 use Rattle.rules.specs.Reasons.{openRules}
-use Rattle.rules.specs.Sheet.{Line, badLayout, noForm, tooLarge, statement, Sheet, answer, answerOf}
+use Rattle.rules.specs.Sheet.{Line, badLayout, noForm, tooLarge, statement, answer, answerOf}
 
 -- ---- lines
 abbrev pub name : ℕ → Name

@@ -2,7 +2,7 @@
 -- its exit, and its peak is ours. Assumes nothing.
 use Prim.Native.Nat.{ℕ, zero, suc, _+_, _*_, _/_, _%_, _≤_, _<_}
 use mathlib.Core.Path.{_≡_, refl, sym, ap, _∙_, subst}
-use mathlib.Core.Bool.{Bool, true, false, not, _&&_, _||_, cond}
+use mathlib.Core.Bool.{Bool, true, false, not, _&&_, cond}
 use mathlib.Core.List.{List, [], _∷_, _++_, append-assoc, append-nil}
 use mathlib.Core.Option.{Option, none, some, Option·some-injective, Option·none-ne-some}
 use mathlib.Core.Logic.{_⊎_}
@@ -23,7 +23,6 @@ use Rattle.statement.specs.Views.{Ask, Act, actOf, requestOf, requestIn, of}
 use Rattle.rules.specs.Counting.{every, least}
 use Rattle.rules.specs.State as s
 use Rattle.rules.specs.State.{State, Allocation, covers, isFree, freeFrom, slot, lowest}
-use Rattle.rules.specs.Reasons as reasons
 use Rattle.rules.specs.Sheet.{Line, statement, turnOf, actIn, Sheet, ours, lineRules, lineEffect, added, effect, given, startList, stateBy, startsBy, rulesBy, heldAfter, peakUpTo, answerBy, startsOf, placesAfter}
 use Rattle.rules.specs.Claims.{AllKept}
 use Rattle.laws.proofs.BoolLaws.{and-l, and-r, and-join, not-or, bool, clash}
@@ -34,7 +33,7 @@ use Rattle.rules.proofs.StateLaws.{one-start}
 use Rattle.rules.proofs.Figures.{held-total}
 use Rattle.rules.proofs.RulesProved.{Clear, zero-kept, no-more, passed-figures}
 use Rattle.rules.proofs.FiguresProved.{figures-exact}
-use Rattle.run.specs.Run.{Holding, Run, Phase, going, stoppedAt, exited, ended, within, held, heldColumns, usable, startAt, mayUse, has, hasName, without, orZero, able, done, go, after, peakOf}
+use Rattle.run.specs.Run.{Holding, Run, Phase, going, stoppedAt, exited, ended, within, held, heldColumns, usable, startAt, mayUse, hasName, without, orZero, able, done, go, after, peakOf}
 use Rattle.run.specs.Demand3.{turnsOf, Requests, Asks, Placed, Reached}
 use Rattle.run.proofs.Sound.{sound, counted, usable-at}
 use Rattle.run.proofs.Agree.{Alike, Agree, Follows, freeFor, total-alike, dealloc-both}

@@ -1,6 +1,6 @@
 -- What a list of values tells of a name once a value is bound: of the name itself what was bound, of any other what it told before. One law for the
 -- width, the number and being bound at all. Assumes nothing.
-use Prim.Native.Nat.{ℕ, suc, _+_}
+use Prim.Native.Nat.{suc, _+_}
 use mathlib.Core.Path.{_≡_, refl, sym, ap, _∙_}
 use mathlib.Core.Bool.{Bool, true, false, _||_, cond}
 use mathlib.Core.List.{List, [], _∷_}

@@ -2,7 +2,6 @@
 use instruction::Kind;
 use statement::Num;
 use statement::Shape;
-ghost use mathlib.Core.Path.{_≡_};
 ghost use Rattle.statement.specs.Forms.{shapeText, numText, kindText};
 ghost use Rattle.spellings.specs.Spellings.{Spells};
 

@@ -1,18 +1,16 @@
 -- What the functions on plain numbers answer: those of the crates `instruction` and `shared_memory`, and for a number that is no kind, or a flag that is not 0 or 1, what
 -- they answer to a refusal. Assumes nothing.
 use Prim.Native.Nat.{ℕ}
-use mathlib.Core.Bool.{Bool, _&&_, cond}
-use mathlib.Core.List.{List, [], _∷_}
+use mathlib.Core.Bool.{_&&_, cond}
+use mathlib.Core.List.{[], _∷_}
 use mathlib.Core.Option.{Option, none, some}
 use lib.Dec.{eqb, leb}
-use lib.ListN.{getD}
 use Rattle.laws.specs.Tests.{find}
 use Rattle.instruction.specs.Instruction as I
 use Rattle.instruction.specs.declared.Kind.{Kind}
 use Rattle.instruction.specs.declared.Fields.{Fields}
 use Rattle.instruction.specs.Descriptor.{InstructionRead}
 use Rattle.instruction.specs.declared.InstructionWord.{InstructionWord}
-use Rattle.shared_memory.specs.declared.Shared.{Shared}
 use Rattle.staplehorn.specs.declared.words.Opcode.{Opcode}
 use Rattle.staplehorn.specs.declared.words.OpcodeRead.{OpcodeRead}
 use Rattle.staplehorn.specs.declared.words.KindRead.{KindRead}

@@ -1,5 +1,4 @@
 // Whole sheets, on bytes.
-use rules::Answer;
 ghost use mathlib.Core.Path.{_≡_};
 ghost use lib.ListN.{length};
 ghost use Rattle.judge.specs.Judged.{judgedOf, startsAfter, RunKept};

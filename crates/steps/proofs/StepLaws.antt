@@ -1,10 +1,9 @@
 -- What each arm of a statement gives, from any state that is kept: the claims of the ledger and of the table of value names give reasons and next states,
 -- and a refusal changes nothing. Assumes nothing.
-use Prim.Native.Nat.{ℕ, _*_, _^_, _≤_, _<_}
+use Prim.Native.Nat.{ℕ, _^_, _≤_, _<_}
 use mathlib.Core.Path.{_≡_, refl, sym, ap, _∙_, subst}
 use mathlib.Core.Bool.{Bool, true, false, not, cond}
 use mathlib.Core.List.{List, [], _∷_}
-use mathlib.Core.Logic.{_⊎_, inl, inr}
 use native.Mathlib.Omega.{arith}
 use lib.Dec.{ltb, eqb}
 use types.Run.{OneOf}
@@ -13,7 +12,6 @@ use lib.ListN.{set}
 use borrow.Author.Tests.{lt-ltb, le-ltb, eq-eqb, ne-eqb, eqb-true, eqb-false}
 use Rattle.laws.specs.Rules.{firstBroken}
 use Rattle.tokens.specs.declared.Name.{Name}
-use Rattle.tokens.specs.Names.{sameName}
 use Rattle.statement.specs.declared.Access.{Access}
 use Rattle.statement.specs.declared.Mma.{Mma}
 use Rattle.statement.specs.declared.Statement.{Statement}
@@ -27,7 +25,6 @@ use Rattle.rules.specs.Reasons.{openRules, closedRules, rules}
 use Rattle.rules.proofs.ByAct.{movRules, first-broken, alloc-legal}
 use Rattle.statement.specs.Cells.{counted}
 use Rattle.rules.specs.Sheet.{statement, effect, given, requested, released, moved, startList}
-use Rattle.tokens.proofs.Names.{same-true}
 use Rattle.ledger.specs.declared.Ledger.{Ledger}
 use Rattle.ledger.specs.declared.Booked.{Booked}
 use Rattle.ledger.specs.declared.Span.{Span}

@@ -1,5 +1,5 @@
 -- `canonical::rewrite` meets its contract: what the text reads as decides, and a statement is written. Assumes nothing.
-use mathlib.Core.Path.{_≡_, refl, sym, _∙_, ap}
+use mathlib.Core.Path.{refl, sym, _∙_, ap}
 use lib.ListN.{length}
 use denote.Ref.{now}
 use Rattle.statement.specs.Reading.{registersOf}

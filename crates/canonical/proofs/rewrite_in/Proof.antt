@@ -1,5 +1,5 @@
 -- `canonical::rewrite_in` meets its contract: the names in the arrays are those of the registers, by `found`. Assumes nothing.
-use mathlib.Core.Path.{_≡_, sym, _∙_, ap}
+use mathlib.Core.Path.{_∙_, ap}
 use lib.ListN.{length}
 use denote.Ref.{now}
 use Rattle.writer.specs.Outputs.{writtenOf, leftBy}

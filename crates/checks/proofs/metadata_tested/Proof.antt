@@ -1,5 +1,4 @@
 -- `checks::metadata_tested` meets its contract: with or without metadata. Assumes nothing.
-use mathlib.Core.Path.{_∙_}
 use borrow.Author.Needs.{needs}
 use Rattle.checks.proofs.metadata_tested.Statement.{statement}
 use Rattle.checks.proofs.metadata_tested.Tie as tie

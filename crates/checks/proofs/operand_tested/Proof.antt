@@ -1,5 +1,4 @@
 -- `checks::operand_tested` meets its contract: a descriptor or an address. Assumes nothing.
-use mathlib.Core.Path.{_∙_}
 use borrow.Author.Needs.{needs}
 use Rattle.checks.proofs.operand_tested.Statement.{statement}
 use Rattle.checks.proofs.operand_tested.Tie as tie

@@ -1,6 +1,6 @@
 -- `instruction::encode_fields` meets its contract: the numbers are in range and kept, or not, by `word-numbers`. Assumes nothing.
 use mathlib.Core.Path.{refl, sym, _∙_}
-use mathlib.Core.Bool.{true, false}
+use mathlib.Core.Bool.{false}
 use Rattle.laws.proofs.BoolLaws.{and-join, and-left-false, and-right-false}
 use borrow.Author.Tests.{not-true, not-false}
 use Rattle.laws.proofs.LayoutLaws.{within}

@@ -1,6 +1,6 @@
 -- `instruction::k` meets its contract: no K is over 32, so that the double fits. Assumes nothing.
 use Prim.Native.Nat.{ℕ, _*_, _≤_}
-use mathlib.Core.Path.{_≡_, ap}
+use mathlib.Core.Path.{ap}
 use native.Mathlib.Omega.{arith}
 use Rattle.instruction.specs.Instruction.{denseK}
 use Rattle.instruction.specs.declared.Kind.{Kind}

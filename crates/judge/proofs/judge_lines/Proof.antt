@@ -1,13 +1,13 @@
 -- `judge::judge_lines` meets its contract: before each line the judge stands where `Standing` says. The measure is what is left of the sheet. Assumes
 -- nothing.
-use Prim.Native.Nat.{ℕ, _-_}
-use mathlib.Core.Path.{_≡_, refl, sym, ap, _∙_}
+use Prim.Native.Nat.{_-_}
+use mathlib.Core.Path.{sym, ap, _∙_}
 use lib.ListN.{length}
 use native.Mathlib.Omega.{arith}
 use borrow.Author.Needs.{needs}
 use Rattle.steps.specs.Steps.{arrays}
 use Rattle.judge.specs.Standing.{Standing}
-use Rattle.judge.proofs.Standing.{begins, less-left, places, ready, refuses, refused-count, same-places, goes, goes-on, ends-starts, ends-few, ends-counted, ends}
+use Rattle.judge.proofs.Standing.{begins, less-left, ready, refuses, refused-count, same-places, goes, goes-on, ends-counted, ends}
 use Rattle.judge.proofs.judge_lines.Statement.{statement}
 use Rattle.judge.proofs.judge_lines.Tie as tie
 

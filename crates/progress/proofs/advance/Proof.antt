@@ -1,6 +1,5 @@
 -- `progress::advance` meets its contract: a refused line changes its number alone, an accepted one leads from after k lines to after k + 1. Assumes
 -- nothing.
-use borrow.Author.Needs.{needs}
 use Rattle.progress.proofs.Going.{stops, goes, ready-sized, ready-line, ready-place, ready-small}
 use Rattle.progress.proofs.advance.Statement.{statement}
 use Rattle.progress.proofs.advance.Tie as tie

@@ -1,6 +1,6 @@
 -- `progress::step` meets its contract: one law for each way out, a layout fault, a statement that did not read, and what the statement gives. Assumes
 -- nothing.
-use mathlib.Core.Path.{refl, _∙_}
+use mathlib.Core.Path.{refl}
 use borrow.Author.Needs.{needs}
 use borrow.Author.Tests.{not-true, not-false}
 use Rattle.statement.proofs.Readings.{unread}

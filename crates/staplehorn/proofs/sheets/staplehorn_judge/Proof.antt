@@ -1,6 +1,6 @@
 -- `staplehorn::sheets::staplehorn_judge` meets its contract: the answer is taken apart; its line and its count of starts are small numbers. Assumes nothing.
 use native.Mathlib.Omega.{arith}
-use mathlib.Core.Path.{_≡_, ap}
+use mathlib.Core.Path.{ap}
 use lib.ListN.{length}
 use borrow.Author.Needs.{needs}
 use Rattle.rules.specs.declared.Answer.{Answer}

@@ -1,5 +1,5 @@
 -- `staplehorn::sheets::staplehorn_report` meets its contract: the answer is taken apart. Assumes nothing.
-use mathlib.Core.Path.{_≡_, ap}
+use mathlib.Core.Path.{ap}
 use borrow.Author.Needs.{needs}
 use Rattle.printed.specs.declared.Printed.{Printed}
 use Rattle.staplehorn.proofs.sheets.staplehorn_report.Statement.{statement}

@@ -1,5 +1,5 @@
 -- `staplehorn::words::judge_word` meets its contract: the opcode or none decides. Assumes nothing.
-use mathlib.Core.Path.{_≡_, refl, sym, _∙_, ap}
+use mathlib.Core.Path.{sym, _∙_, ap}
 use mathlib.Core.Option.{Option}
 use Rattle.instruction.specs.declared.Judged.{Judged}
 use Rattle.staplehorn.specs.declared.words.Opcode.{Opcode}

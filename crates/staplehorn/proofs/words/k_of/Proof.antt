@@ -1,6 +1,6 @@
 -- `staplehorn::words::k_of` meets its contract: the opcode or none decides. Assumes nothing.
 use Prim.Native.Nat.{ℕ}
-use mathlib.Core.Path.{_≡_, refl, sym, _∙_, ap}
+use mathlib.Core.Path.{sym, _∙_, ap}
 use mathlib.Core.Option.{Option}
 use Rattle.staplehorn.specs.declared.words.Opcode.{Opcode}
 use Rattle.staplehorn.specs.Words.{kFor, opcodeSeen}

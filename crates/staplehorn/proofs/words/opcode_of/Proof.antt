@@ -1,9 +1,6 @@
 -- `staplehorn::words::opcode_of` meets its contract: a kind or none, and then the flags. Assumes nothing.
-use mathlib.Core.Path.{_≡_, refl, sym, _∙_, ap}
-use mathlib.Core.Bool.{Bool, cond}
-use mathlib.Core.Option.{Option, none, some}
+use mathlib.Core.Path.{sym, _∙_, ap}
 use Rattle.staplehorn.specs.Words.{opcodeOf, withFlags, kindSeen}
-use Rattle.staplehorn.specs.declared.words.Opcode.{Opcode}
 use borrow.Author.Needs.{needs}
 use Rattle.staplehorn.proofs.words.opcode_of.Statement.{statement}
 use Rattle.staplehorn.proofs.words.opcode_of.Tie as tie

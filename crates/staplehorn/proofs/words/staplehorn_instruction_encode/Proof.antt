@@ -1,6 +1,5 @@
 -- `staplehorn::words::staplehorn_instruction_encode` meets its contract: the answer is taken apart. Assumes nothing.
-use mathlib.Core.Path.{_≡_, refl, sym, _∙_, ap}
-use Rattle.instruction.specs.declared.Fields.{Fields}
+use mathlib.Core.Path.{_∙_, ap}
 use Rattle.instruction.specs.declared.InstructionWord.{InstructionWord}
 use Rattle.staplehorn.specs.Words.{opcodeOf, encodedFor}
 use borrow.Author.Needs.{needs}

@@ -1,5 +1,5 @@
 -- `staplehorn::words::staplehorn_instruction_k` meets its contract: the answer is taken apart. Assumes nothing.
-use mathlib.Core.Path.{_≡_, refl, sym, _∙_, ap}
+use mathlib.Core.Path.{ap}
 use Rattle.staplehorn.specs.declared.words.KRead.{KRead}
 use borrow.Author.Needs.{needs}
 use Rattle.staplehorn.proofs.words.staplehorn_instruction_k.Statement.{statement}

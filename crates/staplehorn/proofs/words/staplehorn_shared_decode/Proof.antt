@@ -1,5 +1,5 @@
 -- `staplehorn::words::staplehorn_shared_decode` meets its contract: the answer is taken apart. Assumes nothing.
-use mathlib.Core.Path.{_≡_, refl, sym, _∙_, ap}
+use mathlib.Core.Path.{ap}
 use Rattle.shared_memory.specs.Shared.{numbers}
 use Rattle.shared_memory.specs.declared.SharedRead.{SharedRead}
 use borrow.Author.Needs.{needs}

@@ -1,5 +1,5 @@
 -- `staplehorn::words::staplehorn_shared_encode` meets its contract: the answer is taken apart. Assumes nothing.
-use mathlib.Core.Path.{_≡_, refl, sym, _∙_, ap}
+use mathlib.Core.Path.{ap}
 use Rattle.shared_memory.specs.declared.SharedWord.{SharedWord}
 use borrow.Author.Needs.{needs}
 use Rattle.staplehorn.proofs.words.staplehorn_shared_encode.Statement.{statement}
