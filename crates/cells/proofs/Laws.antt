@@ -14,7 +14,7 @@ use Rattle.statement.specs.declared.Shape.{Shape}
 use Rattle.statement.specs.declared.Shape.the-variants.{S32x32, S16x64, S16x128, S16x256}
 use Rattle.statement.specs.declared.Num.{Num}
 use Rattle.statement.specs.declared.Num.the-variants.{X1, X2, X4, X8, X16, X32, X64, X128}
-use Rattle.statement.specs.Cells.{times, cells, columnsOf, counted}
+use Rattle.statement.specs.Cells.{times, cells, columnsFor, counted}
 
 times-le : (num : Num) → times num ≤ 128
 times-le X1 = omega arith
@@ -39,8 +39,8 @@ columns-le S16x128 = omega arith
 columns-le S16x256 = omega arith
 
 -- an access has at most 1,024 columns
-pub columns-few : (shape : Shape) (num : Num) → columnsOf shape num ≤ 1024
-unfolding columnsOf
+pub columns-few : (shape : Shape) (num : Num) → columnsFor shape num ≤ 1024
+unfolding columnsFor
 columns-few shape num = omega (arith, mul-le-mul (columns-le shape) (times-le num))
 
 -- up to eight for each N

@@ -4,7 +4,7 @@ use statement::Num;
 use statement::Shape;
 use statement::Statement;
 ghost use mathlib.Core.Path.{_≡_};
-ghost use Rattle.statement.specs.Cells.{times, registersFor, lanesOf, columnsOf, miscounted, counted};
+ghost use Rattle.statement.specs.Cells.{times, registersFor, lanesFor, columnsFor, miscounted, counted};
 ghost use Rattle.cells.specs.Rows.{rowOf};
 
 // A row of the table: registers for each N, lanes, columns for each N, largest N.
@@ -72,7 +72,7 @@ pub fn registers(shape: Shape, num: Num) -> usize
 
 // How many lanes an access covers.
 pub fn lanes(shape: Shape) -> usize
-    ensures { λ r. ⌜ r ≡ lanesOf shape ⌝ }
+    ensures { λ r. ⌜ r ≡ lanesFor shape ⌝ }
 {
     let c = row_of(shape);
     c.lanes
@@ -80,7 +80,7 @@ pub fn lanes(shape: Shape) -> usize
 
 // How many columns an access covers.
 pub fn columns(shape: Shape, num: Num) -> usize
-    ensures { λ r. ⌜ r ≡ columnsOf shape num ⌝ }
+    ensures { λ r. ⌜ r ≡ columnsFor shape num ⌝ }
 {
     let c = row_of(shape);
     c.columns * times_of(num)

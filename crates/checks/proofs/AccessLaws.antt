@@ -42,7 +42,7 @@ module _ (s : State) (held w : ℕ) (a : Access) where
     pub access-6 : eqb (span .columns) 0 ≡ true → Both 6
     access-6 e = both 6 (rw (m, ← live-found, e))
 
-    module _ (live : eqb (span .columns) 0 ≡ false) (lanes : ℕ) (lane : Bool) (p : lanes ≡ cells.lanesOf (a .shape))
+    module _ (live : eqb (span .columns) 0 ≡ false) (lanes : ℕ) (lane : Bool) (p : lanes ≡ cells.lanesFor (a .shape))
         (q : lane ≡ eqb (laneOf (a .address)) (32 * w) || (eqb lanes 16 && eqb (laneOf (a .address)) (32 * w + 16))) where
       lane-is : lane ≡ laneOfWarp w a
       unfolding laneOfWarp
@@ -51,6 +51,6 @@ module _ (s : State) (held w : ℕ) (a : Access) where
       pub access-8 : lane ≡ false → Both 8
       access-8 e = both 8 (rw (m, ← live-found, live, ← lane-is, e))
 
-      pub access-end : (needed : ℕ) (end : Bool) → lane ≡ true → needed ≡ cells.columnsOf (a .shape) (a .num)
+      pub access-end : (needed : ℕ) (end : Bool) → lane ≡ true → needed ≡ cells.columnsFor (a .shape) (a .num)
           → end ≡ leb (columnOf (a .address) + needed) (span .columns) → (t : Bool) → end ≡ t → Both (cond t 0 14)
       access-end needed end e n f t g = both (cond t 0 14) (rw (m, ← live-found, live, ← lane-is, e, ← g, f, n, columns-found))

@@ -5,7 +5,7 @@ ghost use Prim.Native.Nat.{_+_, _*_, _/_, _%_, _^_};
 ghost use lib.Dec.{eqb, leb};
 ghost use Rattle.laws.specs.Rules.{firstBroken};
 ghost use Rattle.statement.specs.Canonical.{sparse};
-ghost use Rattle.statement.specs.Cells.{columnsOf};
+ghost use Rattle.statement.specs.Cells.{columnsFor};
 ghost use Rattle.rules.specs.Reasons.{perLane, closedRules};
 ghost use Rattle.checks.specs.Checks.{AccessJudged, AddressTested, DescriptorTested, OperandTested, MetadataTested, OperandsJudged, MmaJudged};
 use bindings::Value;
@@ -55,7 +55,7 @@ fn mma_within(offset: u32, needed: u32, columns: u32) -> bool
 
 // The columns of an access.
 fn columns_needed(shape: Shape, num: Num) -> u32
-    ensures { λ r. ⌜ r ≡ columnsOf shape num ⌝ }
+    ensures { λ r. ⌜ r ≡ columnsFor shape num ⌝ }
 {
     cells::columns(shape, num) as u32
 }

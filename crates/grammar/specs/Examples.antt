@@ -2,9 +2,9 @@
 -- Assumes nothing.
 use Prim.Native.Nat.{ℕ}
 use Prim.Native.String.{String}
-use mathlib.Core.Path.{_≡_}
-use mathlib.Core.List.{List, [], _∷_}
+use mathlib.Core.List.{List, [], _∷_, _++_}
 use mathlib.Core.Bool.{Bool, true, false}
+use Rattle.laws.specs.Worked.{Gives}
 use Rattle.instruction.specs.declared.Kind.{Kind}
 use Rattle.instruction.specs.declared.Kind.the-variants.{F16, Tf32, F8f6f4, I8}
 use Rattle.tokens.specs.declared.Name.{Name}
@@ -27,117 +27,117 @@ use Rattle.statement.specs.Reading.{readOf, reasonOf, registersOf}
 use Rattle.statement.specs.Canonical.{textOf}
 use Rattle.grammar.specs.Claims.{Reads}
 
--- what a text reads as, written: nothing if it does not read
+-- the reason of a text, 0 if it reads
+abbrev pub reasonFor : String → ℕ
+reasonFor text = reasonOf (readOf (bytes text))
+
+-- what it reads as
+abbrev pub reading : String → Reading
+reading text = readOf (bytes text)
+
+-- each text reads as the statement beside it, with the names of its registers
+abbrev pub AllRead : List (String × Statement × List Name) → Type 0
+AllRead [] = Unit {0}
+AllRead ((text, t, regs) ∷ l) = Reads (bytes text) t regs × AllRead l
+
+-- its canonical text: nothing if it does not read
 abbrev pub writtenBy : Reading → List Name → List ℕ
 writtenBy (Got t) regs = textOf t regs
 writtenBy (NoForm at) regs = []
 writtenBy (TooLarge at) regs = []
 
-pub data Example : Type 0 where
-  -- this text has this reason, 0 if it reads
-  gives : String → ℕ → Example
-  -- this text reads as this statement with these names of registers
-  reads : String → Statement → List Name → Example
-  -- no form matches this text, from this place on
-  stops : String → ℕ → Example
-  -- the number at this place of this text is too large
-  over : String → ℕ → Example
-  -- this text has this canonical text
-  writes : String → String → Example
-
-abbrev pub Holds : Example → Type 0
-Holds (gives text reason) = reasonOf (readOf (bytes text)) ≡ reason
-Holds (reads text t regs) = Reads (bytes text) t regs
-Holds (stops text at) = readOf (bytes text) ≡ NoForm at
-Holds (over text at) = readOf (bytes text) ≡ TooLarge at
-Holds (writes text other) = writtenBy (readOf (bytes text)) (registersOf (bytes text)) ≡ bytes other
-
-abbrev pub All : List Example → Type 0
-All [] = Unit {0}
-All (e ∷ l) = Holds e × All l
+abbrev pub canonical : String → List ℕ
+canonical text = writtenBy (reading text) (registersOf (bytes text))
 
 -- Spaces may stand between tokens, and need not.
-abbrev pub spacing : List Example
+abbrev pub spacing : List (String × ℕ)
 spacing =
-    gives "exit;" 0 ∷
-    gives "exit     ;" 0 ∷
-    gives "mov.b32%x,1;" 0 ∷
-    gives "mov.b32$x,1;" 0 ∷
-    gives "mov.b32_x,1;" 3 ∷
-    gives "tcgen05.alloc.cta_group::1.sync.aligned.b32[t],32;" 0 ∷
-    gives "tcgen05.ld.sync.aligned.32x32b.x1.b32 { r } , [ t + 3 ] ;" 0 ∷
-    gives " exit;" 3 ∷
-    gives "exit; " 3 ∷
+    ("exit;", 0) ∷
+    ("exit     ;", 0) ∷
+    ("mov.b32%x,1;", 0) ∷
+    ("mov.b32$x,1;", 0) ∷
+    ("mov.b32_x,1;", 3) ∷
+    ("tcgen05.alloc.cta_group::1.sync.aligned.b32[t],32;", 0) ∷
+    ("tcgen05.ld.sync.aligned.32x32b.x1.b32 { r } , [ t + 3 ] ;", 0) ∷
+    (" exit;", 3) ∷
+    ("exit; ", 3) ∷
     []
 
 -- A run of word bytes is one token, and names have up to 16 bytes.
-abbrev pub words : List Example
+abbrev pub words : List (String × ℕ)
 words =
-    gives "mov.b32 x, 64abc;" 3 ∷
-    gives "mov.b32 x, 0x1g;" 3 ∷
-    gives "mov.b32 rrrrrrrrrrrrrrrr, 1;" 0 ∷
-    gives "mov.b32 rrrrrrrrrrrrrrrrr, 1;" 3 ∷
-    gives "mov.b32 %rrrrrrrrrrrrrrr, 1;" 0 ∷
-    gives "mov.b32 %rrrrrrrrrrrrrrrr, 1;" 3 ∷
-    gives "mov.b32 %r0, 1;" 0 ∷
-    gives "mov.b32 %1, 1;" 0 ∷
-    gives "mov.b32 _1, 1;" 0 ∷
-    gives "mov.b32 $$, 1;" 0 ∷
-    gives "mov.b32 %%, 1;" 3 ∷
-    gives "mov.b32 _%, 1;" 3 ∷
-    gives "mov.b32 a%, 1;" 3 ∷
-    gives "mov.b32 _, 1;" 3 ∷
-    gives "mov.b32 $, 1;" 3 ∷
-    gives "mov.b32 %, 1;" 3 ∷
-    gives "EXIT;" 3 ∷
-    gives "mov.b32 exit, 1;" 0 ∷
+    ("mov.b32 x, 64abc;", 3) ∷
+    ("mov.b32 x, 0x1g;", 3) ∷
+    ("mov.b32 rrrrrrrrrrrrrrrr, 1;", 0) ∷
+    ("mov.b32 rrrrrrrrrrrrrrrrr, 1;", 3) ∷
+    ("mov.b32 %rrrrrrrrrrrrrrr, 1;", 0) ∷
+    ("mov.b32 %rrrrrrrrrrrrrrrr, 1;", 3) ∷
+    ("mov.b32 %r0, 1;", 0) ∷
+    ("mov.b32 %1, 1;", 0) ∷
+    ("mov.b32 _1, 1;", 0) ∷
+    ("mov.b32 $$, 1;", 0) ∷
+    ("mov.b32 %%, 1;", 3) ∷
+    ("mov.b32 _%, 1;", 3) ∷
+    ("mov.b32 a%, 1;", 3) ∷
+    ("mov.b32 _, 1;", 3) ∷
+    ("mov.b32 $, 1;", 3) ∷
+    ("mov.b32 %, 1;", 3) ∷
+    ("EXIT;", 3) ∷
+    ("mov.b32 exit, 1;", 0) ∷
     []
 
 -- Numbers: no leading zero, hex of either case, 4 by value, and 3 before 4.
-abbrev pub numbers : List Example
+abbrev pub numbers : List (String × ℕ)
 numbers =
-    gives "mov.b32 x, 0;" 0 ∷
-    gives "mov.b32 x, 0X00fF;" 0 ∷
-    gives "mov.b32 x, 064;" 3 ∷
-    gives "mov.b32 x, 00;" 3 ∷
-    gives "mov.b32 x, 0x;" 3 ∷
-    gives "mov.b32 x, 64U;" 3 ∷
-    gives "mov.b32 x, 0b1;" 3 ∷
-    gives "mov.b32 x, -1;" 3 ∷
-    gives "mov.b32 x, +1;" 3 ∷
-    gives "mov.b32 x, 4294967295;" 0 ∷
-    gives "mov.b32 x, 4294967296;" 4 ∷
-    gives "mov.b32 x, 4294967296" 3 ∷
-    gives "mov.b32 x, 4294967296;;" 3 ∷
-    gives "mov.b32 x, 0x00000000000000000000000000000001;" 0 ∷
-    gives "mov.b32 x, 99999999999999999999999999999999999999999999999999999999999999999999999999999999999999999999999999999999999999999999999999999999999999999999999999999999999999999999999999999999999999999999999999999999;" 4 ∷
-    gives "mov.b32 x, 0x000000000000000000000000000000000000000000000000000000000000000000000000000000000000000000000000000000000000000000000000000000000000000000000000000000000000000000000000000000000000000000000000000000001;" 0 ∷
-    gives "mov.b64 x, 18446744073709551615;" 0 ∷
-    gives "mov.b64 x, 18446744073709551616;" 4 ∷
-    gives "tcgen05.alloc.cta_group::1.sync.aligned.b32 [t], 4294967296;" 4 ∷
+    ("mov.b32 x, 0;", 0) ∷
+    ("mov.b32 x, 0X00fF;", 0) ∷
+    ("mov.b32 x, 064;", 3) ∷
+    ("mov.b32 x, 00;", 3) ∷
+    ("mov.b32 x, 0x;", 3) ∷
+    ("mov.b32 x, 64U;", 3) ∷
+    ("mov.b32 x, 0b1;", 3) ∷
+    ("mov.b32 x, -1;", 3) ∷
+    ("mov.b32 x, +1;", 3) ∷
+    ("mov.b32 x, 4294967295;", 0) ∷
+    ("mov.b32 x, 4294967296;", 4) ∷
+    ("mov.b32 x, 4294967296", 3) ∷
+    ("mov.b32 x, 4294967296;;", 3) ∷
+    ("mov.b32 x, 0x00000000000000000000000000000001;", 0) ∷
+    ("mov.b32 x, 99999999999999999999999999999999999999999999999999999999999999999999999999999999999999999999999999999999999999999999999999999999999999999999999999999999999999999999999999999999999999999999999999999999;", 4) ∷
+    ("mov.b32 x, 0x000000000000000000000000000000000000000000000000000000000000000000000000000000000000000000000000000000000000000000000000000000000000000000000000000000000000000000000000000000000000000000000000000000001;", 0) ∷
+    ("mov.b64 x, 18446744073709551615;", 0) ∷
+    ("mov.b64 x, 18446744073709551616;", 4) ∷
+    ("tcgen05.alloc.cta_group::1.sync.aligned.b32 [t], 4294967295;", 0) ∷
+    ("tcgen05.alloc.cta_group::1.sync.aligned.b32 [t], 4294967296;", 4) ∷
+    ("tcgen05.dealloc.cta_group::1.sync.aligned.b32 t, 4294967295;", 0) ∷
+    ("tcgen05.dealloc.cta_group::1.sync.aligned.b32 t, 4294967296;", 4) ∷
+    ("tcgen05.ld.sync.aligned.32x32b.x1.b32 {r}, [t+4294967295];", 0) ∷
+    ("tcgen05.ld.sync.aligned.32x32b.x1.b32 {r}, [t+4294967296];", 4) ∷
+    ("tcgen05.mma.cta_group::1.kind::f16 [d], [a+4294967295], b, i, p;", 0) ∷
+    ("tcgen05.mma.cta_group::1.kind::f16 [d], [a+4294967296], b, i, p;", 4) ∷
     []
 
 -- Forms.
-abbrev pub forms : List Example
+abbrev pub forms : List (String × ℕ)
 forms =
-    gives "" 3 ∷
-    gives "  " 3 ∷
-    gives "tcgen05.ld.sync.aligned.32x32b.x1.b32 {}, [t];" 3 ∷
-    gives "tcgen05.ld.sync.aligned.32x32b.x128.b32 {r,r,r,r,r,r,r,r,r,r,r,r,r,r,r,r,r,r,r,r,r,r,r,r,r,r,r,r,r,r,r,r,r,r,r,r,r,r,r,r,r,r,r,r,r,r,r,r,r,r,r,r,r,r,r,r,r,r,r,r,r,r,r,r,r,r,r,r,r,r,r,r,r,r,r,r,r,r,r,r,r,r,r,r,r,r,r,r,r,r,r,r,r,r,r,r,r,r,r,r,r,r,r,r,r,r,r,r,r,r,r,r,r,r,r,r,r,r,r,r,r,r,r,r,r,r,r,r}, [t];" 0 ∷
-    gives "tcgen05.ld.sync.aligned.32x32b.x128.b32 {r,r,r,r,r,r,r,r,r,r,r,r,r,r,r,r,r,r,r,r,r,r,r,r,r,r,r,r,r,r,r,r,r,r,r,r,r,r,r,r,r,r,r,r,r,r,r,r,r,r,r,r,r,r,r,r,r,r,r,r,r,r,r,r,r,r,r,r,r,r,r,r,r,r,r,r,r,r,r,r,r,r,r,r,r,r,r,r,r,r,r,r,r,r,r,r,r,r,r,r,r,r,r,r,r,r,r,r,r,r,r,r,r,r,r,r,r,r,r,r,r,r,r,r,r,r,r,r,r}, [t];" 3 ∷
-    gives "tcgen05.alloc.cta_group::1.sync.aligned.b32 [t+0], 32;" 3 ∷
-    gives "tcgen05.ld.sync.aligned.32x32b.x3.b32 {r}, [t];" 3 ∷
-    gives "tcgen05.ld.sync.aligned.32x32b.x01.b32 {r}, [t];" 3 ∷
-    gives "tcgen05.st.sync.aligned.32x32b.x256.b32 [t], {r};" 3 ∷
-    gives "tcgen05.st.sync.aligned.16x256b.x128.b32 [t], {r};" 0 ∷
-    gives "tcgen05.mma.ws.sp.cta_group::1.kind::f8f6f4 [d], [a+1], b, [m], i, p;" 0 ∷
-    gives "tcgen05.mma.sp.ws.cta_group::1.kind::f16 [d], a, b, [m], i, p;" 3 ∷
-    gives "tcgen05.mma.cta_group::2.kind::f16 [d], a, b, i, p;" 3 ∷
-    gives "tcgen05.mma.cta_group::1.kind::f16 [d], a, b, [m], i, p;" 3 ∷
-    gives "tcgen05.dealloc.cta_group::1.sync.aligned.shared::cta.b32 t, 32;" 3 ∷
-    gives "exit;;" 3 ∷
-    gives "exit; exit;" 3 ∷
-    gives "@p exit;" 3 ∷
+    ("", 3) ∷
+    ("  ", 3) ∷
+    ("tcgen05.ld.sync.aligned.32x32b.x1.b32 {}, [t];", 3) ∷
+    ("tcgen05.ld.sync.aligned.32x32b.x128.b32 {r,r,r,r,r,r,r,r,r,r,r,r,r,r,r,r,r,r,r,r,r,r,r,r,r,r,r,r,r,r,r,r,r,r,r,r,r,r,r,r,r,r,r,r,r,r,r,r,r,r,r,r,r,r,r,r,r,r,r,r,r,r,r,r,r,r,r,r,r,r,r,r,r,r,r,r,r,r,r,r,r,r,r,r,r,r,r,r,r,r,r,r,r,r,r,r,r,r,r,r,r,r,r,r,r,r,r,r,r,r,r,r,r,r,r,r,r,r,r,r,r,r,r,r,r,r,r,r}, [t];", 0) ∷
+    ("tcgen05.ld.sync.aligned.32x32b.x128.b32 {r,r,r,r,r,r,r,r,r,r,r,r,r,r,r,r,r,r,r,r,r,r,r,r,r,r,r,r,r,r,r,r,r,r,r,r,r,r,r,r,r,r,r,r,r,r,r,r,r,r,r,r,r,r,r,r,r,r,r,r,r,r,r,r,r,r,r,r,r,r,r,r,r,r,r,r,r,r,r,r,r,r,r,r,r,r,r,r,r,r,r,r,r,r,r,r,r,r,r,r,r,r,r,r,r,r,r,r,r,r,r,r,r,r,r,r,r,r,r,r,r,r,r,r,r,r,r,r,r}, [t];", 3) ∷
+    ("tcgen05.alloc.cta_group::1.sync.aligned.b32 [t+0], 32;", 3) ∷
+    ("tcgen05.ld.sync.aligned.32x32b.x3.b32 {r}, [t];", 3) ∷
+    ("tcgen05.ld.sync.aligned.32x32b.x01.b32 {r}, [t];", 3) ∷
+    ("tcgen05.st.sync.aligned.32x32b.x256.b32 [t], {r};", 3) ∷
+    ("tcgen05.st.sync.aligned.16x256b.x128.b32 [t], {r};", 0) ∷
+    ("tcgen05.mma.ws.sp.cta_group::1.kind::f8f6f4 [d], [a+1], b, [m], i, p;", 0) ∷
+    ("tcgen05.mma.sp.ws.cta_group::1.kind::f16 [d], a, b, [m], i, p;", 3) ∷
+    ("tcgen05.mma.cta_group::2.kind::f16 [d], a, b, i, p;", 3) ∷
+    ("tcgen05.mma.cta_group::1.kind::f16 [d], a, b, [m], i, p;", 3) ∷
+    ("tcgen05.dealloc.cta_group::1.sync.aligned.shared::cta.b32 t, 32;", 3) ∷
+    ("exit;;", 3) ∷
+    ("exit; exit;", 3) ∷
+    ("@p exit;", 3) ∷
     []
 
 -- a name, and an address
@@ -148,18 +148,18 @@ abbrev pub offsetBy : String → ℕ → Address
 offsetBy text offset = record { base = named text; offset = offset }
 
 -- Each form, with its typed statement.
-abbrev pub typed : List Example
+abbrev pub typed : List (String × Statement × List Name)
 typed =
-    reads "mov.b32 x, 7;" (Mov32 (named "x") 7) [] ∷
-    reads "mov.b64 x, 7;" (Mov64 (named "x") 7) [] ∷
-    reads "tcgen05.alloc.cta_group::1.sync.aligned.b32 [t], 64;" (Alloc (named "t") 64) [] ∷
-    reads "tcgen05.dealloc.cta_group::1.sync.aligned.b32 t, 64;" (Dealloc (named "t") 64) [] ∷
-    reads "tcgen05.relinquish_alloc_permit.cta_group::1.sync.aligned;" Relinquish [] ∷
-    reads "tcgen05.wait::ld.sync.aligned;" WaitLoad [] ∷
-    reads "tcgen05.wait::st.sync.aligned;" WaitStore [] ∷
-    reads "tcgen05.fence::before_thread_sync;" FenceBefore [] ∷
-    reads "tcgen05.fence::after_thread_sync;" FenceAfter [] ∷
-    reads "exit;" Exit [] ∷
+    ("mov.b32 x, 7;", (Mov32 (named "x") 7), []) ∷
+    ("mov.b64 x, 7;", (Mov64 (named "x") 7), []) ∷
+    ("tcgen05.alloc.cta_group::1.sync.aligned.b32 [t], 64;", (Alloc (named "t") 64), []) ∷
+    ("tcgen05.dealloc.cta_group::1.sync.aligned.b32 t, 64;", (Dealloc (named "t") 64), []) ∷
+    ("tcgen05.relinquish_alloc_permit.cta_group::1.sync.aligned;", Relinquish, []) ∷
+    ("tcgen05.wait::ld.sync.aligned;", WaitLoad, []) ∷
+    ("tcgen05.wait::st.sync.aligned;", WaitStore, []) ∷
+    ("tcgen05.fence::before_thread_sync;", FenceBefore, []) ∷
+    ("tcgen05.fence::after_thread_sync;", FenceAfter, []) ∷
+    ("exit;", Exit, []) ∷
     []
 
 -- Each SHAPE and each NUM, of ld and st. The registers stand in the order of the text.
@@ -172,72 +172,71 @@ stores shape num = Store (record { shape = shape; num = num; registers = 2; addr
 abbrev pub both : List Name
 both = named "r0" ∷ named "r1" ∷ []
 
-abbrev pub accesses : List Example
+abbrev pub accesses : List (String × Statement × List Name)
 accesses =
-    reads "tcgen05.ld.sync.aligned.32x32b.x1.b32 {r0, r1}, [t+3];" (loads S32x32 X1) both ∷
-    reads "tcgen05.ld.sync.aligned.16x64b.x2.b32 {r0, r1}, [t+3];" (loads S16x64 X2) both ∷
-    reads "tcgen05.ld.sync.aligned.16x128b.x4.b32 {r0, r1}, [t+3];" (loads S16x128 X4) both ∷
-    reads "tcgen05.ld.sync.aligned.16x256b.x8.b32 {r0, r1}, [t+3];" (loads S16x256 X8) both ∷
-    reads "tcgen05.ld.sync.aligned.32x32b.x16.b32 {r0, r1}, [t+3];" (loads S32x32 X16) both ∷
-    reads "tcgen05.ld.sync.aligned.16x64b.x32.b32 {r0, r1}, [t+3];" (loads S16x64 X32) both ∷
-    reads "tcgen05.ld.sync.aligned.16x128b.x64.b32 {r0, r1}, [t+3];" (loads S16x128 X64) both ∷
-    reads "tcgen05.ld.sync.aligned.16x256b.x128.b32 {r0, r1}, [t+3];" (loads S16x256 X128) both ∷
-    reads "tcgen05.st.sync.aligned.16x256b.x1.b32 [t+3], {r0, r1};" (stores S16x256 X1) both ∷
-    reads "tcgen05.st.sync.aligned.16x128b.x2.b32 [t+3], {r0, r1};" (stores S16x128 X2) both ∷
-    reads "tcgen05.st.sync.aligned.16x64b.x4.b32 [t+3], {r0, r1};" (stores S16x64 X4) both ∷
-    reads "tcgen05.st.sync.aligned.32x32b.x8.b32 [t+3], {r0, r1};" (stores S32x32 X8) both ∷
-    reads "tcgen05.st.sync.aligned.16x256b.x16.b32 [t+3], {r0, r1};" (stores S16x256 X16) both ∷
-    reads "tcgen05.st.sync.aligned.16x128b.x32.b32 [t+3], {r0, r1};" (stores S16x128 X32) both ∷
-    reads "tcgen05.st.sync.aligned.16x64b.x64.b32 [t+3], {r0, r1};" (stores S16x64 X64) both ∷
-    reads "tcgen05.st.sync.aligned.32x32b.x128.b32 [t+3], {r0, r1};" (stores S32x32 X128) both ∷
+    ("tcgen05.ld.sync.aligned.32x32b.x1.b32 {r0, r1}, [t+3];", (loads S32x32 X1), both) ∷
+    ("tcgen05.ld.sync.aligned.16x64b.x2.b32 {r0, r1}, [t+3];", (loads S16x64 X2), both) ∷
+    ("tcgen05.ld.sync.aligned.16x128b.x4.b32 {r0, r1}, [t+3];", (loads S16x128 X4), both) ∷
+    ("tcgen05.ld.sync.aligned.16x256b.x8.b32 {r0, r1}, [t+3];", (loads S16x256 X8), both) ∷
+    ("tcgen05.ld.sync.aligned.32x32b.x16.b32 {r0, r1}, [t+3];", (loads S32x32 X16), both) ∷
+    ("tcgen05.ld.sync.aligned.16x64b.x32.b32 {r0, r1}, [t+3];", (loads S16x64 X32), both) ∷
+    ("tcgen05.ld.sync.aligned.16x128b.x64.b32 {r0, r1}, [t+3];", (loads S16x128 X64), both) ∷
+    ("tcgen05.ld.sync.aligned.16x256b.x128.b32 {r0, r1}, [t+3];", (loads S16x256 X128), both) ∷
+    ("tcgen05.st.sync.aligned.16x256b.x1.b32 [t+3], {r0, r1};", (stores S16x256 X1), both) ∷
+    ("tcgen05.st.sync.aligned.16x128b.x2.b32 [t+3], {r0, r1};", (stores S16x128 X2), both) ∷
+    ("tcgen05.st.sync.aligned.16x64b.x4.b32 [t+3], {r0, r1};", (stores S16x64 X4), both) ∷
+    ("tcgen05.st.sync.aligned.32x32b.x8.b32 [t+3], {r0, r1};", (stores S32x32 X8), both) ∷
+    ("tcgen05.st.sync.aligned.16x256b.x16.b32 [t+3], {r0, r1};", (stores S16x256 X16), both) ∷
+    ("tcgen05.st.sync.aligned.16x128b.x32.b32 [t+3], {r0, r1};", (stores S16x128 X32), both) ∷
+    ("tcgen05.st.sync.aligned.16x64b.x64.b32 [t+3], {r0, r1};", (stores S16x64 X64), both) ∷
+    ("tcgen05.st.sync.aligned.32x32b.x128.b32 [t+3], {r0, r1};", (stores S32x32 X128), both) ∷
     []
 
 -- Each kind of mma, with .ws and .sp or not, a descriptor or an address.
 abbrev pub multiplies : Bool → Kind → Operand → Metadata → Statement
 multiplies ws kind a metadata = Multiply (record { ws = ws; kind = kind; d = offsetBy "d" 1; a = a; b = named "b"; metadata = metadata; idesc = named "i"; predicate = named "p" })
 
-abbrev pub mmas : List Example
+abbrev pub mmas : List (String × Statement × List Name)
 mmas =
-    reads "tcgen05.mma.cta_group::1.kind::f16 [d+1], a, b, i, p;" (multiplies false F16 (operand.Descriptor (named "a")) Dense) [] ∷
-    reads "tcgen05.mma.cta_group::1.kind::tf32 [d+1], [a+2], b, i, p;" (multiplies false Tf32 (operand.Address (offsetBy "a" 2)) Dense) [] ∷
-    reads "tcgen05.mma.ws.cta_group::1.kind::f8f6f4 [d+1], a, b, i, p;" (multiplies true F8f6f4 (operand.Descriptor (named "a")) Dense) [] ∷
-    reads "tcgen05.mma.sp.cta_group::1.kind::i8 [d+1], a, b, [m+3], i, p;" (multiplies false I8 (operand.Descriptor (named "a")) (Sparse (offsetBy "m" 3))) [] ∷
-    reads "tcgen05.mma.ws.sp.cta_group::1.kind::f16 [d+1], [a+2], b, [m+3], i, p;" (multiplies true F16 (operand.Address (offsetBy "a" 2)) (Sparse (offsetBy "m" 3))) [] ∷
+    ("tcgen05.mma.cta_group::1.kind::f16 [d+1], a, b, i, p;", (multiplies false F16 (operand.Descriptor (named "a")) Dense), []) ∷
+    ("tcgen05.mma.cta_group::1.kind::tf32 [d+1], [a+2], b, i, p;", (multiplies false Tf32 (operand.Address (offsetBy "a" 2)) Dense), []) ∷
+    ("tcgen05.mma.ws.cta_group::1.kind::f8f6f4 [d+1], a, b, i, p;", (multiplies true F8f6f4 (operand.Descriptor (named "a")) Dense), []) ∷
+    ("tcgen05.mma.sp.cta_group::1.kind::i8 [d+1], a, b, [m+3], i, p;", (multiplies false I8 (operand.Descriptor (named "a")) (Sparse (offsetBy "m" 3))), []) ∷
+    ("tcgen05.mma.ws.sp.cta_group::1.kind::f16 [d+1], [a+2], b, [m+3], i, p;", (multiplies true F16 (operand.Address (offsetBy "a" 2)) (Sparse (offsetBy "m" 3))), []) ∷
     []
 
 -- The place of 3 is that of the first token at which no form can go on, of 4 that of the first number too large.
-abbrev pub places : List Example
+abbrev pub places : List (String × Reading)
 places =
-    stops "mov.b32 x y" 10 ∷
-    stops "mov.b33 x, 1;" 0 ∷
-    stops "mov.b32 x, 4294967296, 1;" 21 ∷
-    over "mov.b32 x, 4294967296;" 11 ∷
-    stops "tcgen05.ld.sync.aligned.32x32b.x1.b32 {r0, 5}, [t];" 43 ∷
-    stops "exit" 4 ∷
-    stops "" 0 ∷
-    stops " exit;" 0 ∷
-    stops "exit; " 5 ∷
-    stops "exit; exit;" 5 ∷
-    stops "mov.b32 rrrrrrrrrrrrrrrrr, 1;" 8 ∷
-    stops "mov.b32 %, 1;" 8 ∷
-    stops "tcgen05.ld.sync.aligned.32x32b.x128.b32 {r,r,r,r,r,r,r,r,r,r,r,r,r,r,r,r,r,r,r,r,r,r,r,r,r,r,r,r,r,r,r,r,r,r,r,r,r,r,r,r,r,r,r,r,r,r,r,r,r,r,r,r,r,r,r,r,r,r,r,r,r,r,r,r,r,r,r,r,r,r,r,r,r,r,r,r,r,r,r,r,r,r,r,r,r,r,r,r,r,r,r,r,r,r,r,r,r,r,r,r,r,r,r,r,r,r,r,r,r,r,r,r,r,r,r,r,r,r,r,r,r,r,r,r,r,r,r,r,r}, [t];" 296 ∷
+    ("mov.b32 x y", NoForm 10) ∷
+    ("mov.b33 x, 1;", NoForm 0) ∷
+    ("mov.b32 x, 4294967296, 1;", NoForm 21) ∷
+    ("mov.b32 x, 4294967296;", TooLarge 11) ∷
+    ("tcgen05.ld.sync.aligned.32x32b.x1.b32 {r0, 5}, [t];", NoForm 43) ∷
+    ("exit", NoForm 4) ∷
+    ("", NoForm 0) ∷
+    (" exit;", NoForm 0) ∷
+    ("exit; ", NoForm 5) ∷
+    ("exit; exit;", NoForm 5) ∷
+    ("mov.b32 rrrrrrrrrrrrrrrrr, 1;", NoForm 8) ∷
+    ("mov.b32 %, 1;", NoForm 8) ∷
+    ("tcgen05.ld.sync.aligned.32x32b.x128.b32 {r,r,r,r,r,r,r,r,r,r,r,r,r,r,r,r,r,r,r,r,r,r,r,r,r,r,r,r,r,r,r,r,r,r,r,r,r,r,r,r,r,r,r,r,r,r,r,r,r,r,r,r,r,r,r,r,r,r,r,r,r,r,r,r,r,r,r,r,r,r,r,r,r,r,r,r,r,r,r,r,r,r,r,r,r,r,r,r,r,r,r,r,r,r,r,r,r,r,r,r,r,r,r,r,r,r,r,r,r,r,r,r,r,r,r,r,r,r,r,r,r,r,r,r,r,r,r,r,r}, [t];", NoForm 296) ∷
     []
 
 -- One space after the opcode and after each comma, decimals, no +0, no .shared::cta.
-abbrev pub canonicals : List Example
+abbrev pub canonicals : List (String × List ℕ)
 canonicals =
-    writes "mov.b64   %r1 ,0xFF ;" "mov.b64 %r1, 255;" ∷
-    writes "tcgen05.alloc.cta_group::1.sync.aligned.shared::cta.b32[t0],64;" "tcgen05.alloc.cta_group::1.sync.aligned.b32 [t0], 64;" ∷
-    writes "tcgen05.ld.sync.aligned.32x32b.x2.b32 {r0,r1},[ t1 + 0x200000 ];" "tcgen05.ld.sync.aligned.32x32b.x2.b32 {r0, r1}, [t1+2097152];" ∷
-    writes "tcgen05.st.sync.aligned.16x64b.x1.b32 [t+0],{r};" "tcgen05.st.sync.aligned.16x64b.x1.b32 [t], {r};" ∷
-    writes "tcgen05.mma.ws.sp.cta_group::1.kind::i8 [d+0x10],[a],b,[m+1],i,p ;" "tcgen05.mma.ws.sp.cta_group::1.kind::i8 [d+16], [a], b, [m+1], i, p;" ∷
-    writes "tcgen05.wait::ld.sync.aligned ;" "tcgen05.wait::ld.sync.aligned;" ∷
+    ("mov.b64   %r1 ,0xFF ;", bytes "mov.b64 %r1, 255;") ∷
+    ("tcgen05.alloc.cta_group::1.sync.aligned.shared::cta.b32[t0],64;", bytes "tcgen05.alloc.cta_group::1.sync.aligned.b32 [t0], 64;") ∷
+    ("tcgen05.ld.sync.aligned.32x32b.x2.b32 {r0,r1},[ t1 + 0x200000 ];", bytes "tcgen05.ld.sync.aligned.32x32b.x2.b32 {r0, r1}, [t1+2097152];") ∷
+    ("tcgen05.st.sync.aligned.16x64b.x1.b32 [t+0],{r};", bytes "tcgen05.st.sync.aligned.16x64b.x1.b32 [t], {r};") ∷
+    ("tcgen05.mma.ws.sp.cta_group::1.kind::i8 [d+0x10],[a],b,[m+1],i,p ;", bytes "tcgen05.mma.ws.sp.cta_group::1.kind::i8 [d+16], [a], b, [m+1], i, p;") ∷
+    ("tcgen05.wait::ld.sync.aligned ;", bytes "tcgen05.wait::ld.sync.aligned;") ∷
     []
 
--- ---- the claim: each example of each table holds
-abbrev pub tables : List (List Example)
-tables = spacing ∷ words ∷ numbers ∷ forms ∷ typed ∷ accesses ∷ mmas ∷ places ∷ canonicals ∷ []
-
-abbrev pub AllOf : List (List Example) → Type 0
-AllOf [] = Unit {0}
-AllOf (t ∷ l) = All t × AllOf l
+-- ---- the claim: each text of each table has what stands beside it
+pub record Examples : Type 0 where
+  pub reasons : Gives reasonFor (spacing ++ (words ++ (numbers ++ forms)))
+  pub statements : AllRead (typed ++ (accesses ++ mmas))
+  pub stops : Gives reading places
+  pub canonicals-are : Gives canonical canonicals

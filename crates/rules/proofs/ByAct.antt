@@ -31,7 +31,7 @@ accessRules s w a =
     rule 5 (not (cells.miscounted a))
     ∷ rule 6 (isLive (a .address .base) (s .live))
     ∷ rule 8 (laneOfWarp w a)
-    ∷ rule 14 (ends s (a .address) (cells.columnsOf (a .shape) (a .num)))
+    ∷ rule 14 (ends s (a .address) (cells.columnsFor (a .shape) (a .num)))
     ∷ []
 
 -- the rules that an act can break; the rules of listing are those of an mma's instruction descriptor

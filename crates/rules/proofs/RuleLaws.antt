@@ -187,7 +187,7 @@ namedIn s x = holds
 
 -- and that of reason 14
 abbrev insideIn : State → Act → Bool
-insideIn s x = holds (for (accessIn x) (λ a. ends s (a .address) (cells.columnsOf (a .shape) (a .num))) ∷ for (mmaIn x) (λ m. all (allEnd s m)) ∷ [])
+insideIn s x = holds (for (accessIn x) (λ a. ends s (a .address) (cells.columnsFor (a .shape) (a .num))) ∷ for (mmaIn x) (λ m. all (allEnd s m)) ∷ [])
 
 module _ (place : Placer) (s : State) (held w : ℕ) (t : Statement) (a : Accepted place s held w t) (n : Name) (k : ℕ) where
   -- a mov that is accepted names no live allocation, and has room
@@ -212,7 +212,7 @@ module _ (place : Placer) (s : State) (held w : ℕ) (t : Statement) (a : Accept
 module _ (place : Placer) (s : State) (held w : ℕ) (t : Statement) (a : Accepted place s held w t) where
   -- a ld or st a live allocation, the lane of its warp, and columns inside
   pub accesses-kept : (x : Access) → actOf t ≡ act.accesses x
-      → (isLive (x .address .base) (s .live) ≡ true) × (laneOfWarp w x ≡ true) × (ends s (x .address) (cells.columnsOf (x .shape) (x .num)) ≡ true)
+      → (isLive (x .address .base) (s .live) ≡ true) × (laneOfWarp w x ≡ true) × (ends s (x .address) (cells.columnsFor (x .shape) (x .num)) ≡ true)
   unfolding named warped inside
   accesses-kept x e = (
     subst (λ y. namedIn s y ≡ true) e (a .names),

@@ -15,7 +15,7 @@ unfolding every least s.isLive s.columnsOf s.without s.total s.covers s.isFree s
     cells.counted reasons.named reasons.roomed reasons.laneOfWarp reasons.warped reasons.sized reasons.permitted reasons.placed
     reasons.instructionOf reasons.reads reasons.mListed reasons.nListed reasons.typesListed reasons.inside reasons.cleared reasons.openRules
     reasons.closedRules reasons.rules answerAt answerBy closing stopBy reasonBy stateBy startsBy given effect requested released sum heldAfter
-    peakUpTo ones onesIn cells.registersFor cells.lanesOf cells.columnsOf cells.miscounted instruction.decoded shared.decoded
+    peakUpTo ones onesIn cells.registersFor cells.lanesFor cells.columnsFor cells.miscounted instruction.decoded shared.decoded
 worked =
     record {
       header = refl;

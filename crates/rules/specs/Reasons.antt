@@ -85,7 +85,7 @@ isWarp (some v) w = eqb v w
 
 -- lane 32w; for the shapes of 16 lanes 32w or 32w + 16
 unfoldable pub laneOfWarp : ℕ → Access → Bool
-laneOfWarp w a = eqb (laneOf (a .address)) (32 * w) || (eqb (cells.lanesOf (a .shape)) 16 && eqb (laneOf (a .address)) (32 * w + 16))
+laneOfWarp w a = eqb (laneOf (a .address)) (32 * w) || (eqb (cells.lanesFor (a .shape)) 16 && eqb (laneOf (a .address)) (32 * w + 16))
 
 unfoldable pub warped : State → ℕ → Statement → Bool
 warped s w t = holds (for (accessOf t) (laneOfWarp w) ∷ when (isBooking t) (isWarp (s .warp) w) ∷ [])
@@ -158,7 +158,7 @@ abbrev pub allEnd : State → Mma → List Bool
 allEnd s m = mmaEnds s (m .d) (instructionOf s m .descriptor .n) ∷ operandEnds s (m .a) ∷ metadataEnds s (m .metadata) ∷ []
 
 unfoldable pub inside : State → Statement → Bool
-inside s t = holds (for (accessOf t) (λ a. ends s (a .address) (cells.columnsOf (a .shape) (a .num))) ∷ for (mmaOf t) (λ m. all (allEnd s m)) ∷ [])
+inside s t = holds (for (accessOf t) (λ a. ends s (a .address) (cells.columnsFor (a .shape) (a .num))) ∷ for (mmaOf t) (λ m. all (allEnd s m)) ∷ [])
 
 -- ---- reason 15: exit with columns held: those asked for less those given back (that they are the live allocations' is `figures-exact`)
 unfoldable pub cleared : ℕ → Statement → Bool

@@ -196,23 +196,23 @@ lies-in x (g ∷ a) (h ∷ b) e p q r =
     at false false z p r ih = ih p q r
 
 -- 16 or 32 lanes
-lanes-most : (w lane : ℕ) (h : Shape) → w < 4 → eqb lane (32 * w) || (eqb (cells.lanesOf h) 16 && eqb lane (32 * w + 16)) ≡ true → lane + cells.lanesOf h ≤ 128
-unfolding cells.lanesOf
-lanes-most w lane h p e = at (or-cases (eqb lane (32 * w)) (eqb (cells.lanesOf h) 16 && eqb lane (32 * w + 16)) e)
+lanes-most : (w lane : ℕ) (h : Shape) → w < 4 → eqb lane (32 * w) || (eqb (cells.lanesFor h) 16 && eqb lane (32 * w + 16)) ≡ true → lane + cells.lanesFor h ≤ 128
+unfolding cells.lanesFor
+lanes-most w lane h p e = at (or-cases (eqb lane (32 * w)) (eqb (cells.lanesFor h) 16 && eqb lane (32 * w + 16)) e)
   where
-    most : (g : Shape) → cells.lanesOf g ≤ 32
+    most : (g : Shape) → cells.lanesFor g ≤ 32
     most S32x32 = omega arith
     most S16x64 = omega arith
     most S16x128 = omega arith
     most S16x256 = omega arith
 
-    at : (eqb lane (32 * w) ≡ true) ⊎ (eqb (cells.lanesOf h) 16 && eqb lane (32 * w + 16) ≡ true) → lane + cells.lanesOf h ≤ 128
+    at : (eqb lane (32 * w) ≡ true) ⊎ (eqb (cells.lanesFor h) 16 && eqb lane (32 * w + 16) ≡ true) → lane + cells.lanesFor h ≤ 128
     at (inl q) = omega (arith, eqb-true lane (32 * w) q, most h, p)
     at (inr q) =
         omega (
           arith,
-          eqb-true (cells.lanesOf h) 16 (and-l (eqb (cells.lanesOf h) 16) (eqb lane (32 * w + 16)) q),
-          eqb-true lane (32 * w + 16) (and-r (eqb (cells.lanesOf h) 16) (eqb lane (32 * w + 16)) q),
+          eqb-true (cells.lanesFor h) 16 (and-l (eqb (cells.lanesFor h) 16) (eqb lane (32 * w + 16)) q),
+          eqb-true lane (32 * w + 16) (and-r (eqb (cells.lanesFor h) 16) (eqb lane (32 * w + 16)) q),
           p,
         )
 
@@ -221,13 +221,13 @@ pub access-lies : (st : State) (w : ℕ) (a : Access) (b : List Holding)
     → Alike (st .live) b → w < 4
     → s.isLive (a .address .base) (st .live) ≡ true
     → reasons.laneOfWarp w a ≡ true
-    → reasons.ends st (a .address) (cells.columnsOf (a .shape) (a .num)) ≡ true
-    → has (lies (region (a .address) (cells.lanesOf (a .shape)) (cells.columnsOf (a .shape) (a .num)))) b ≡ true
+    → reasons.ends st (a .address) (cells.columnsFor (a .shape) (a .num)) ≡ true
+    → has (lies (region (a .address) (cells.lanesFor (a .shape)) (cells.columnsFor (a .shape) (a .num)))) b ≡ true
 unfolding reasons.laneOfWarp
 access-lies st w a b e p n l c =
-    lies-in (region (a .address) (cells.lanesOf (a .shape)) (cells.columnsOf (a .shape) (a .num))) (st .live) b e n
+    lies-in (region (a .address) (cells.lanesFor (a .shape)) (cells.columnsFor (a .shape) (a .num))) (st .live) b e n
     (lanes-most w (reasons.laneOf (a .address)) (a .shape) p l)
-    (leb-true (reasons.columnOf (a .address) + cells.columnsOf (a .shape) (a .num)) (s.columnsOf (a .address .base) (st .live)) c)
+    (leb-true (reasons.columnOf (a .address) + cells.columnsFor (a .shape) (a .num)) (s.columnsOf (a .address .base) (st .live)) c)
 
 -- what they say of an operand of an mma
 mma-lies : (st : State) (x : Address) (columns : ℕ) (b : List Holding)
@@ -320,7 +320,7 @@ able-is starts place st r held w t p q a g d = at (actOf t) refl
     at act.relinquishes e = refl
     at (act.accesses x) e =
         let k = accesses-kept place st held w t a x e in
-        one-lies (region (x .address) (cells.lanesOf (x .shape)) (cells.columnsOf (x .shape) (x .num))) (r .live) (access-lies st w x (r .live) (g .alike) p (k .0) (k .1) (k .2))
+        one-lies (region (x .address) (cells.lanesFor (x .shape)) (cells.columnsFor (x .shape) (x .num))) (r .live) (access-lies st w x (r .live) (g .alike) p (k .0) (k .1) (k .2))
     at (act.multiplies m) e =
         let k = multiplies-kept place st held w t a m e in
         rw (idesc-is st m (k .0) r g) (mma-all st m (k .0) (k .1) (k .2) r g)

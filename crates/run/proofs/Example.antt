@@ -46,7 +46,7 @@ unfolding t0 t1 t2 lines sheet count every least s.isLive s.columnsOf s.without 
     s.widthOf s.numberOf s.bind cells.counted reasons.named reasons.roomed reasons.laneOfWarp reasons.warped reasons.sized reasons.permitted
     reasons.placed reasons.reads reasons.mListed reasons.nListed reasons.typesListed reasons.inside reasons.cleared reasons.openRules
     reasons.closedRules reasons.rules answerAt answerBy closing stopBy reasonBy stateBy startsBy given effect requested released sum heldAfter
-    peakUpTo ones onesIn cells.registersFor cells.lanesOf cells.columnsOf cells.miscounted
+    peakUpTo ones onesIn cells.registersFor cells.lanesFor cells.columnsFor cells.miscounted
 passes = refl
 
 starts-are : startsOf sheet ≡ 0 ∷ 64 ∷ 0 ∷ []
@@ -54,10 +54,10 @@ unfolding t0 t1 t2 lines sheet every least s.isLive s.without s.covers s.isFree 
 starts-are = refl
 
 exits : run.outcome (0 ∷ 64 ∷ 0 ∷ []) (turnsOf sheet) 8 ≡ run.exited
-unfolding t0 t1 t2 lines sheet count every run.outcome run.finish run.after run.go run.able run.done run.startAt run.mayUse run.usable run.held run.within run.has run.hasName run.hasBoth run.without run.heldColumns run.bookedBy run.known run.allLie run.lies cells.lanesOf cells.columnsOf
+unfolding t0 t1 t2 lines sheet count every run.outcome run.finish run.after run.go run.able run.done run.startAt run.mayUse run.usable run.held run.within run.has run.hasName run.hasBoth run.without run.heldColumns run.bookedBy run.known run.allLie run.lies cells.lanesFor cells.columnsFor
 exits = refl
 
 -- under starts of which the third may not be used, it stops at line 5
 stops : run.outcome (0 ∷ 64 ∷ 64 ∷ []) (turnsOf sheet) 8 ≡ run.stoppedAt 5
-unfolding t0 t1 t2 lines sheet count every run.outcome run.finish run.after run.go run.able run.done run.startAt run.mayUse run.usable run.held run.within run.has run.hasName run.hasBoth run.without run.heldColumns run.bookedBy run.known run.allLie run.lies cells.lanesOf cells.columnsOf
+unfolding t0 t1 t2 lines sheet count every run.outcome run.finish run.after run.go run.able run.done run.startAt run.mayUse run.usable run.held run.within run.has run.hasName run.hasBoth run.without run.heldColumns run.bookedBy run.known run.allLie run.lies cells.lanesFor cells.columnsFor
 stops = refl

@@ -15,7 +15,7 @@ use Rattle.statement.specs.declared.Metadata.{Metadata}
 use Rattle.statement.specs.declared.Metadata.the-variants.{Dense, Sparse}
 use Rattle.statement.specs.Views as act
 use Rattle.statement.specs.Views.{Act, Turn, requestIn, releaseIn, accessIn, mmaIn, exitIn, for, when, holds, of}
-use Rattle.statement.specs.Cells.{lanesOf, columnsOf}
+use Rattle.statement.specs.Cells.{lanesFor, columnsFor}
 use Rattle.rules.specs.Counting.{count, every}
 
 -- ---- what it keeps
@@ -133,7 +133,7 @@ metadataRegions (Sparse a) = region a 128 2 ∷ []
 -- what a statement books by the numbers moved so far: a ld or st its own cells; an mma all 128 lanes, and N columns at d, 8 at a, 2 at the metadata
 unfoldable pub bookedBy : List Note → Act → List Region
 bookedBy v t =
-    of (accessIn t) (λ a. region (a .address) (lanesOf (a .shape)) (columnsOf (a .shape) (a .num)) ∷ [])
+    of (accessIn t) (λ a. region (a .address) (lanesFor (a .shape)) (columnsFor (a .shape) (a .num)) ∷ [])
     (of (mmaIn t) (λ m. region (m .d) 128 (nOf (orZero (numberOf (m .idesc) v))) ∷ (operandRegions (m .a) ++ metadataRegions (m .metadata))) [])
 
 -- the access lies below lane 128, and in the holding, which has its name

@@ -39,11 +39,11 @@ cells S16x256 = record { registers = 4; lanes = 16; columns = 8; largest = 32 }
 unfoldable pub registersFor : Shape → Num → ℕ
 registersFor shape num = cells shape .registers * times num
 
-unfoldable pub lanesOf : Shape → ℕ
-lanesOf shape = cells shape .lanes
+unfoldable pub lanesFor : Shape → ℕ
+lanesFor shape = cells shape .lanes
 
-unfoldable pub columnsOf : Shape → Num → ℕ
-columnsOf shape num = cells shape .columns * times num
+unfoldable pub columnsFor : Shape → Num → ℕ
+columnsFor shape num = cells shape .columns * times num
 
 -- reason 5: N over the shape's largest, or another count of registers
 unfoldable pub miscounted : Access → Bool

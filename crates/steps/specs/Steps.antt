@@ -39,6 +39,7 @@ arrays hi lo columns valueHi valueLo numbers widths =
 abbrev pub arraysNow : (hi lo columns valueHi valueLo numbers widths : RefT (List ℕ)) → Arrays
 arraysNow hi lo columns valueHi valueLo numbers widths = arrays (now hi) (now lo) (now columns) (now valueHi) (now valueLo) (now numbers) (now widths)
 
+-- an array at both ends of a call
 abbrev pub Lent : Type 0
 Lent = Both (RefT (List ℕ)) (RefT (List ℕ))
 

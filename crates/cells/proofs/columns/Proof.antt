@@ -1,7 +1,7 @@
 -- `cells::columns` meets its contract. The row's columns and N are small, so their product fits. Assumes nothing.
 use mathlib.Core.Path.{ap}
 use Rattle.cells.specs.declared.Row.{Row}
-use Rattle.statement.specs.Cells.{cells, columnsOf}
+use Rattle.statement.specs.Cells.{cells, columnsFor}
 use Rattle.cells.proofs.Laws.{columns-le, product}
 use borrow.Author.Needs.{needs}
 use Rattle.cells.proofs.columns.Statement.{statement}
@@ -22,7 +22,7 @@ mul-result c =
     }
 
 returns : tie.Need-returns
-unfolding columnsOf
+unfolding columnsFor
 returns c = rw (← (ap (λ (t : Row). t .columns) (c .before .before .row-of .ensures)), ← c .before .times-of .ensures)
 
 pub columns-spec : {M : Type 1} → statement M
