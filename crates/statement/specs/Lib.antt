@@ -4,3 +4,4 @@ pub mod Cells
 pub mod Opcodes
 pub mod Reading
 pub mod Canonical
+pub mod Positions

@@ -114,6 +114,16 @@ pub enum Reading {
     TooLarge(usize),
 }
 
+// What a column points at: the line's first byte, where its warp stands; the token at which reading stopped; the opcode; the name of an
+// operand, inside its bracket where it has one; an operand's first byte. Operands are counted from 0.
+pub enum Position {
+    Start,
+    Token,
+    Opcode,
+    Name(usize),
+    Operand(usize),
+}
+
 // The length written, or the reason that there is none.
 pub enum Written {
     Length(usize),

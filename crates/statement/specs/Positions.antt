@@ -1,0 +1,70 @@
+-- Where the parts of a statement stand in its text, and the column of each in its line. `OperandsPlaced` of crate grammar ties this to the spellings.
+-- Assumes nothing.
+use Prim.Native.Nat.{ℕ, zero, suc, _+_, _-_}
+use mathlib.Core.List.{List, [], _∷_}
+use mathlib.Core.Bool.{Bool, false, not, _&&_, _||_, cond}
+use lib.ListN.{length, drop}
+use lib.Dec.{eqb}
+use Rattle.tokens.specs.Text.{byte}
+use Rattle.tokens.specs.Bytes.{afterBlanks}
+use Rattle.statement.specs.declared.Reading.{Reading}
+use Rattle.statement.specs.declared.Reading.the-variants.{Got, NoForm, TooLarge}
+use Rattle.statement.specs.declared.Position.{Position}
+use Rattle.statement.specs.declared.Position.the-variants.{Start, Token, Opcode, Name, Operand}
+use Rattle.statement.specs.Reading.{opcodeLen, readOf}
+
+-- ---- operands in a text
+-- after a byte we are inside braces: an opening one was met, or we were and it closes none
+abbrev pub within : Bool → ℕ → Bool
+within inside x = eqb x (byte "{") || (inside && not (eqb x (byte "}")))
+
+-- what is left after the first comma outside of braces
+unfoldable pub afterComma : (inside : Bool) → List ℕ → List ℕ
+afterComma inside [] = []
+afterComma inside (x ∷ l) = cond (eqb x (byte ",") && not inside) l (afterComma (within inside x) l)
+
+-- after so many of them
+unfoldable pub afterCommas : ℕ → List ℕ → List ℕ
+afterCommas zero l = l
+afterCommas (suc n) l = afterCommas n (afterComma false l)
+
+-- a text from the first byte of operand i on: commas part the operands, spaces may stand before each
+unfoldable pub operandFrom : List ℕ → ℕ → List ℕ
+operandFrom text i = afterBlanks (afterCommas i (drop (opcodeLen text) text))
+
+-- the same from its name on, inside the bracket where it has one
+abbrev pub afterBracket : List ℕ → List ℕ
+afterBracket [] = []
+afterBracket (x ∷ l) = cond (eqb x (byte "[")) (afterBlanks l) (x ∷ l)
+
+unfoldable pub nameFrom : List ℕ → ℕ → List ℕ
+nameFrom text i = afterBracket (operandFrom text i)
+
+-- their places, from 0
+unfoldable pub operandPlace : List ℕ → ℕ → ℕ
+operandPlace text i = length text - length (operandFrom text i)
+
+unfoldable pub namePlace : List ℕ → ℕ → ℕ
+namePlace text i = length text - length (nameFrom text i)
+
+-- ---- columns
+-- where reading stopped; 0 for a text that reads
+abbrev pub stopIn : Reading → ℕ
+stopIn (Got t) = 0
+stopIn (NoForm at) = at
+stopIn (TooLarge at) = at
+
+-- a line has its warp in column 1, a tab in 2, and its statement from 3 on
+abbrev pub startColumn : ℕ
+startColumn = 1
+
+abbrev pub statementColumn : ℕ
+statementColumn = 3
+
+-- the column of a position in the line of a statement's text
+unfoldable pub columnOf : List ℕ → Position → ℕ
+columnOf text Start = startColumn
+columnOf text Token = statementColumn + stopIn (readOf text)
+columnOf text Opcode = statementColumn
+columnOf text (Name i) = statementColumn + namePlace text i
+columnOf text (Operand i) = statementColumn + operandPlace text i
