@@ -58,7 +58,7 @@ table =
     instruction Kind.F16 (dense Dtype.F32 Element.F16 Element.F16 128 64) 0x08100010 0
     ∷ instruction Kind.Tf32 (dense Dtype.F32 Element.Tf32 Element.Tf32 64 8) 0x04020910 0
     ∷ instruction Kind.I8 (dense Dtype.S32 Element.S8 Element.U8 128 48) 0x080C00A0 0
-    ∷ instruction Kind.I8 (dense Dtype.S32 Element.S8 Element.U8 128 40) 0x080A00A0 13
+    ∷ instruction Kind.I8 (dense Dtype.S32 Element.S8 Element.U8 128 40) 0x080A00A0 20
     ∷ shared (record { start = 0; leading = 256; stride = 128; base = 0; mode = 0; swizzle = 0 }) 0x0000400800100000
     ∷ address 262128 0
     ∷ address 262144 12

@@ -87,16 +87,16 @@ dtypes = (0, some Dtype.F16) ∷ (1, some Dtype.F32) ∷ (2, some Dtype.S32) ∷
 abbrev pub types : List (Row Kind (ℕ × ℕ × ℕ) ℕ)
 types =
     (Kind.F16, (0, 0, 0) ∷ (1, 0, 0) ∷ (1, 1, 1) ∷ [], 0)
-    ∷ (Kind.F16, (0, 1, 1) ∷ (1, 0, 1) ∷ (1, 1, 0) ∷ (0, 0, 1) ∷ (0, 1, 0) ∷ (2, 0, 0) ∷ (2, 1, 1) ∷ [], 13)
+    ∷ (Kind.F16, (0, 1, 1) ∷ (1, 0, 1) ∷ (1, 1, 0) ∷ (0, 0, 1) ∷ (0, 1, 0) ∷ (2, 0, 0) ∷ (2, 1, 1) ∷ [], 21)
     ∷ (Kind.F16, (3, 0, 0) ∷ (1, 2, 2) ∷ (1, 2, 0) ∷ (1, 0, 2) ∷ [], 12)
     ∷ (Kind.Tf32, (1, 2, 2) ∷ [], 0)
-    ∷ (Kind.Tf32, (0, 2, 2) ∷ (2, 2, 2) ∷ [], 13)
+    ∷ (Kind.Tf32, (0, 2, 2) ∷ (2, 2, 2) ∷ [], 21)
     ∷ (Kind.Tf32, (3, 2, 2) ∷ (1, 0, 2) ∷ (1, 2, 1) ∷ [], 12)
     ∷ (Kind.F8f6f4, (0, 0, 0) ∷ (0, 1, 3) ∷ (0, 4, 5) ∷ (1, 0, 0) ∷ (1, 1, 3) ∷ (1, 5, 4) ∷ [], 0)
-    ∷ (Kind.F8f6f4, (2, 0, 0) ∷ (2, 4, 5) ∷ [], 13)
+    ∷ (Kind.F8f6f4, (2, 0, 0) ∷ (2, 4, 5) ∷ [], 21)
     ∷ (Kind.F8f6f4, (3, 0, 0) ∷ (1, 2, 0) ∷ (1, 0, 2) ∷ (1, 6, 0) ∷ (1, 0, 7) ∷ [], 12)
     ∷ (Kind.I8, (2, 0, 0) ∷ (2, 0, 1) ∷ (2, 1, 0) ∷ (2, 1, 1) ∷ [], 0)
-    ∷ (Kind.I8, (0, 0, 0) ∷ (1, 1, 1) ∷ [], 13)
+    ∷ (Kind.I8, (0, 0, 0) ∷ (1, 1, 1) ∷ [], 21)
     ∷ (Kind.I8, (3, 0, 0) ∷ (2, 2, 0) ∷ (2, 0, 2) ∷ [], 12)
     ∷ []
 
@@ -113,21 +113,32 @@ ms =
 abbrev pub ns : List (Row (Kind × Bool) ℕ ℕ)
 ns =
     ((Kind.F16, false), 8 ∷ 16 ∷ 24 ∷ 40 ∷ 248 ∷ 256 ∷ [], 0)
-    ∷ ((Kind.F16, false), 0 ∷ 264 ∷ 504 ∷ [], 13)
+    ∷ ((Kind.F16, false), 0 ∷ 264 ∷ 504 ∷ [], 20)
     ∷ ((Kind.Tf32, false), 8 ∷ 40 ∷ 256 ∷ [], 0)
-    ∷ ((Kind.Tf32, false), 0 ∷ 264 ∷ [], 13)
+    ∷ ((Kind.Tf32, false), 0 ∷ 264 ∷ [], 20)
     ∷ ((Kind.F8f6f4, false), 8 ∷ 40 ∷ 256 ∷ [], 0)
-    ∷ ((Kind.F8f6f4, false), 0 ∷ 264 ∷ [], 13)
+    ∷ ((Kind.F8f6f4, false), 0 ∷ 264 ∷ [], 20)
     ∷ ((Kind.I8, false), 8 ∷ 16 ∷ 24 ∷ 32 ∷ 48 ∷ 64 ∷ 240 ∷ 256 ∷ [], 0)
-    ∷ ((Kind.I8, false), 0 ∷ 40 ∷ 56 ∷ 72 ∷ 248 ∷ 264 ∷ 272 ∷ [], 13)
+    ∷ ((Kind.I8, false), 0 ∷ 40 ∷ 56 ∷ 72 ∷ 248 ∷ 264 ∷ 272 ∷ [], 20)
     ∷ ((Kind.F16, true), 64 ∷ 128 ∷ 256 ∷ [], 0)
-    ∷ ((Kind.F16, true), 0 ∷ 8 ∷ 32 ∷ 56 ∷ 72 ∷ 192 ∷ 248 ∷ 264 ∷ [], 13)
+    ∷ ((Kind.F16, true), 0 ∷ 8 ∷ 32 ∷ 56 ∷ 72 ∷ 192 ∷ 248 ∷ 264 ∷ [], 20)
     ∷ ((Kind.Tf32, true), 64 ∷ 128 ∷ 256 ∷ [], 0)
-    ∷ ((Kind.Tf32, true), 8 ∷ 192 ∷ [], 13)
+    ∷ ((Kind.Tf32, true), 8 ∷ 192 ∷ [], 20)
     ∷ ((Kind.F8f6f4, true), 64 ∷ 128 ∷ 256 ∷ [], 0)
-    ∷ ((Kind.F8f6f4, true), 8 ∷ 192 ∷ [], 13)
+    ∷ ((Kind.F8f6f4, true), 8 ∷ 192 ∷ [], 20)
     ∷ ((Kind.I8, true), 64 ∷ 128 ∷ 256 ∷ [], 0)
-    ∷ ((Kind.I8, true), 8 ∷ 32 ∷ 48 ∷ 192 ∷ [], 13)
+    ∷ ((Kind.I8, true), 8 ∷ 32 ∷ 48 ∷ 192 ∷ [], 20)
+    ∷ []
+
+-- of several that are not listed M comes first, then N: dtype, M and N of kind f16 with two types f16
+abbrev pub several : List ((ℕ × ℕ × ℕ) × ℕ)
+several =
+    ((2, 256, 264), 13)
+    ∷ ((2, 256, 64), 13)
+    ∷ ((1, 256, 264), 13)
+    ∷ ((2, 128, 264), 20)
+    ∷ ((2, 128, 64), 21)
+    ∷ ((3, 256, 264), 12)
     ∷ []
 
 -- flags under a kind, `.ws` and `.sp`
@@ -279,6 +290,8 @@ pub record Worked : Type 0 where
   pub m-word : Right (λ ws m. ofWord Kind.F16 ws false (shaped Kind.F16 m 64)) ms
   pub n-fields : Right (λ o n. ofFields (o .0) (o .1) false (shaped (o .0) 64 n)) ns
   pub n-word : Right (λ o n. ofWord (o .0) (o .1) false (shaped (o .0) 64 n)) ns
+  pub several-fields : Gives (λ p. ofFields Kind.F16 false false (coded (p .0) 0 0 (p .1) (p .2))) several
+  pub several-word : Gives (λ p. ofWord Kind.F16 false false (coded (p .0) 0 0 (p .1) (p .2))) several
   pub flags-fields : Right (λ o x. ofFields (o .0) (o .1) (o .2) (flagged (o .0) x)) flags
   pub flags-word : Right (λ o x. ofWord (o .0) (o .1) (o .2) (flagged (o .0) x)) flags
   pub reads : Gives (λ w. I.values (I.fieldsRead (I.decoded (w .0) (w .1) (w .2) (w .3)) .fields)) words

@@ -10,13 +10,13 @@ use lib.ListN.{getD}
 use borrow.Author.Tests.{eqb-false}
 use Rattle.laws.specs.Tests.{all, isSome}
 use Rattle.laws.specs.Layout.{says, stands, ranges, pack}
-use Rattle.laws.specs.Rules.{firstBroken}
+use Rattle.laws.specs.Rules.{Rule, rule, firstBroken}
 use Rattle.laws.proofs.BoolLaws.{never, and-split, and-join, and-l, and-r}
 use Rattle.laws.proofs.TestLaws.{find-passes, never-all}
 use Rattle.laws.proofs.FormatLaws.{read-both, read-none}
 use Rattle.laws.proofs.LayoutLaws.{packed, unpacked}
 use Rattle.instruction.proofs.NamingLaws.{same}
-use Rattle.instruction.specs.Instruction.{layout, fields, values, fieldsIn, good, fieldsRead, named3, named, rules, keeps, dtypeOf, elementOf, ofKind, code, elements, isI8, zero, found, made, noDescriptor, noWord, decoded, encodedNumbers, mListed, nListed, typesListed, listing, fieldsReason, judged}
+use Rattle.instruction.specs.Instruction.{layout, fields, values, fieldsIn, good, fieldsRead, named3, named, rules, keeps, dtypeOf, elementOf, ofKind, code, elements, isI8, zero, found, made, noDescriptor, noWord, decoded, encodedNumbers, listing, fieldsReason, judged}
 use Rattle.instruction.specs.declared.Kind.{Kind}
 use Rattle.instruction.specs.Descriptor.{Dtype, Element, Instruction, InstructionRead}
 use Rattle.instruction.specs.declared.Fields.{Fields}
@@ -152,19 +152,23 @@ judged-read kind ws sp w f e = ap (judgedFields kind ws) e
 pub judged-refused : (kind : Kind) (ws sp : Bool) (w : ℕ) → decoded kind ws sp w ≡ noDescriptor → judged kind ws sp w ≡ record { reason = 12; n = 0 }
 judged-refused kind ws sp w e = ap (λ (a : InstructionRead). judgedFields kind ws (fieldsRead a)) e
 
+-- no rule has that number, nor is it 0
+abbrev NoneIs : ℕ → List Rule → Type 0
+NoneIs k [] = eqb 0 k ≡ false
+NoneIs k (rule number kept ∷ rs) = (eqb number k ≡ false) × NoneIs k rs
+
+none-is : (k : ℕ) (rs : List Rule) → NoneIs k rs → eqb (firstBroken rs) k ≡ false
+none-is k [] h = h
+none-is k (rule number true ∷ rs) h = none-is k rs (h .1)
+none-is k (rule number false ∷ rs) h = h .0
+
 -- no listing rule has the number of a word with no reading: the reason 12 says that there is none
-unlisted : (kind : Kind) (ws : Bool) (f : Fields) (a b c : Bool)
-    → mListed ws (f .m) ≡ a → nListed kind ws (f .n) ≡ b → typesListed kind (f .dtype) (f .atype) (f .btype) ≡ c
-    → eqb (firstBroken (listing kind ws f)) 12 ≡ false
-unlisted kind ws f false b c p q r = rw p
-unlisted kind ws f true false c p q r = rw (p, q)
-unlisted kind ws f true true false p q r = rw (p, q, r)
-unlisted kind ws f true true true p q r = rw (p, q, r)
+unlisted : (kind : Kind) (ws : Bool) (f : Fields) → eqb (firstBroken (listing kind ws f)) 12 ≡ false
+unlisted kind ws f = none-is 12 (listing kind ws f) (refl, (refl, (refl, refl)))
 
 by-reading : (kind : Kind) (ws : Bool) (f : Fields) (x : ℕ) (t : Bool) → eqb x 0 ≡ t → (eqb x 0 ≡ false → x ≡ 12)
     → eqb (cond (eqb x 0) (firstBroken (listing kind ws f)) x) 12 ≡ not (eqb x 0)
-by-reading kind ws f x true e h =
-    rw e (unlisted kind ws f (mListed ws (f .m)) (nListed kind ws (f .n)) (typesListed kind (f .dtype) (f .atype) (f .btype)) refl refl refl)
+by-reading kind ws f x true e h = rw e (unlisted kind ws f)
 by-reading kind ws f x false e h = rw (e, h e)
 
 pub judged-reads : (kind : Kind) (ws sp : Bool) (w : ℕ) → eqb (judged kind ws sp w .reason) 12 ≡ not (eqb (decoded kind ws sp w .reason) 0)

@@ -271,8 +271,8 @@ typesListed Kind.I8 d a b = eqb d (dtypeCode Dtype.S32)
 abbrev pub listing : Kind → Bool → Fields → List Rule
 listing kind ws f =
     rule 13 (mListed ws (f .m))
-    ∷ rule 13 (nListed kind ws (f .n))
-    ∷ rule 13 (typesListed kind (f .dtype) (f .atype) (f .btype))
+    ∷ rule 20 (nListed kind ws (f .n))
+    ∷ rule 21 (typesListed kind (f .dtype) (f .atype) (f .btype))
     ∷ []
 
 -- the reason of some numbers under an opcode: 12 if no word reads as them, else the first listing rule that they break

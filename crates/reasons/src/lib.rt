@@ -28,10 +28,6 @@ pub const SPACE: u32 = 11;
 pub const DESCRIPTOR: u32 = 12;
 // M is not listed
 pub const SHAPE_M: u32 = 13;
-// N is not listed
-pub const SHAPE_N: u32 = 13;
-// the types are not listed
-pub const TYPES: u32 = 13;
 // the lane of an mma is not 0, or columns go past the end of the allocation
 pub const CELLS: u32 = 14;
 // columns held at exit, a line after exit, or no exit
@@ -40,3 +36,7 @@ pub const EXIT: u32 = 15;
 pub const STARTS: u32 = 16;
 // the writer: too little room, or not such as reading gives
 pub const ROOM: u32 = 19;
+// N is not listed
+pub const SHAPE_N: u32 = 20;
+// the types are not listed
+pub const TYPES: u32 = 21;

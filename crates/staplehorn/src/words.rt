@@ -189,7 +189,7 @@ fn judge_word(kind: u32, ws: u32, sp: u32, word: u32) -> u32
     r.reason
 }
 
-// The reason of a word: 12 with no reading, 13 not listed, else 0.
+// The reason of a word: 12 with no reading; 13, 20 or 21 if M, N or the types are not listed; else 0.
 #[no_mangle]
 pub extern "C" fn staplehorn_instruction_judge(kind: u32, ws: u32, sp: u32, word: u32) -> u32
     ensures { λ r. ⌜ r ≡ judgedFor (opcodeOf kind ws sp) word ⌝ }
@@ -208,7 +208,7 @@ fn judge_fields(kind: u32, ws: u32, sp: u32, f: Fields) -> u32
     instruction::listed_fields(k, o.ws, o.sp, f)
 }
 
-// The reason of a descriptor's fields: 12 if no word reads as them, 13 if they are not listed, else 0.
+// The reason of a descriptor's fields: 12 if no word reads as them; 13, 20 or 21 if M, N or the types are not listed; else 0.
 #[no_mangle]
 pub extern "C" fn staplehorn_instruction_listed(
     kind: u32,
