@@ -5,7 +5,7 @@ use mathlib.Core.Path.{_≡_, refl, sym, ap, _∙_}
 use mathlib.Core.Bool.{Bool, true, not, _&&_, cond}
 use mathlib.Core.List.{List, [], _∷_, _++_}
 use lib.Dec.{eqb}
-use Rattle.laws.specs.Tests.{all, isSome}
+use Rattle.laws.specs.Tests.{isSome}
 use Rattle.laws.specs.Rules.{Rule, rule, firstBroken}
 use Rattle.tokens.specs.declared.Name.{Name}
 use Rattle.instruction.specs.Instruction.{listing}
@@ -18,7 +18,8 @@ use Rattle.statement.specs.Views as act
 use Rattle.statement.specs.Views.{Act, actOf}
 use Rattle.statement.specs.Cells as cells
 use Rattle.rules.specs.State.{State, Placer, isLive, isBound, columnsOf}
-use Rattle.rules.specs.Reasons.{openRules, named, roomed, warped, sized, permitted, placed, reads, mListed, nListed, typesListed, inside, cleared, roomFor, isWarp, laneOfWarp, ends, mmaNamed, mmaReads, fieldsOf, allEnd}
+use Rattle.rules.specs.Rows.{kept}
+use Rattle.rules.specs.Reasons.{openRows, openRules, named, roomed, laned, warped, sized, permitted, placed, reads, mListed, nListed, typesListed, inside, cleared, roomFor, isWarp, laneOfWarp, ends, mmaNamed, mmaReads, fieldsOf, allEnd}
 use Rattle.rules.proofs.RuleLaws.{none-kept, in-turn}
 
 -- a mov at either width
@@ -48,7 +49,7 @@ actRules place s held w (act.releases n k) = rule 6 (isLive n (s .live)) ∷ rul
 actRules place s held w act.relinquishes = rule 8 (isWarp (s .warp) w) ∷ []
 actRules place s held w (act.accesses a) = accessRules s w a
 actRules place s held w (act.multiplies m) =
-    rule 6 (all (mmaNamed s m)) ∷ rule 12 (all (mmaReads s m)) ∷ (listing (m .kind) (m .ws) (fieldsOf s m) ++ rule 14 (all (allEnd s m)) ∷ [])
+    rule 6 (kept (mmaNamed s m)) ∷ rule 12 (kept (mmaReads s m)) ∷ (listing (m .kind) (m .ws) (fieldsOf s m) ++ rule 14 (kept (allEnd s m)) ∷ [])
 actRules place s held w act.exits = rule 15 (eqb held 0) ∷ []
 actRules place s held w act.nothing = []
 
@@ -58,7 +59,7 @@ mmaOrder names words listing ends = cond names (cond words (cond (eqb listing 0)
 
 module _ (place : Placer) (s : State) (held w : ℕ) where
   by-act : (t : Statement) (a : Act) → actOf t ≡ a → firstBroken (openRules place s held w t) ≡ firstBroken (actRules place s held w a)
-  unfolding openRules cells.counted named roomed warped sized permitted placed reads mListed nListed typesListed inside cleared
+  unfolding openRules openRows cells.counted named roomed laned warped sized permitted placed reads mListed nListed typesListed inside cleared
   by-act t (act.binds n width v) e = rw e
   by-act t (act.requests n k) e = rw e
   by-act t (act.releases n k) e = rw e
@@ -77,8 +78,8 @@ module _ (place : Placer) (s : State) (held w : ℕ) where
 
   -- an mma's listing in turn: the number is that of the first rule of listing that is broken
   pub mma-listed : (m : Mma) → firstBroken (openRules place s held w (Multiply m))
-      ≡ mmaOrder (all (mmaNamed s m)) (all (mmaReads s m)) (firstBroken (listing (m .kind) (m .ws) (fieldsOf s m))) (all (allEnd s m))
+      ≡ mmaOrder (kept (mmaNamed s m)) (kept (mmaReads s m)) (firstBroken (listing (m .kind) (m .ws) (fieldsOf s m))) (kept (allEnd s m))
   mma-listed m =
       first-broken (Multiply m)
-      ∙ ap (λ n. cond (all (mmaNamed s m)) (cond (all (mmaReads s m)) n 12) 6)
-      (in-turn (listing (m .kind) (m .ws) (fieldsOf s m)) (rule 14 (all (allEnd s m)) ∷ []) refl)
+      ∙ ap (λ n. cond (kept (mmaNamed s m)) (cond (kept (mmaReads s m)) n 12) 6)
+      (in-turn (listing (m .kind) (m .ws) (fieldsOf s m)) (rule 14 (kept (allEnd s m)) ∷ []) refl)

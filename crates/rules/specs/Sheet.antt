@@ -169,9 +169,9 @@ unfoldable pub answerAt : Placing → Sheet → (room stop : ℕ) → Answer
 answerAt placing sheet room stop =
     cond (ltb stop (sheet .count))
     (answer (reasonBy placing (sheet .line) stop) (stop + 2) (sheet .column (suc stop) (positionBy placing (sheet .line) stop)) (heldAfter (sheet .line) stop)
-        (peakUpTo (sheet .line) stop))
+    (peakUpTo (sheet .line) stop))
     (closing (stateBy placing (sheet .line) (sheet .count) .exited) (length (startsBy placing (sheet .line) (sheet .count))) room (sheet .count + 1)
-        (sheet .column (sheet .count) Start) (heldAfter (sheet .line) (sheet .count)) (peakUpTo (sheet .line) (sheet .count)))
+    (sheet .column (sheet .count) Start) (heldAfter (sheet .line) (sheet .count)) (peakUpTo (sheet .line) (sheet .count)))
 
 -- the answer under a placing, with that many places lent; a wrong line 1 is refused at its start
 unfoldable pub answerBy : Placing → Sheet → ℕ → Answer
