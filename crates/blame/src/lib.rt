@@ -145,19 +145,13 @@ fn mma<'a>(
     ensures { λ r. ⌜ MmaBlamed (now (hi .entry)) (now (lo .entry)) (now (columns .entry)) (now («value_hi» .entry)) (now («value_lo» .entry)) (now (numbers .entry)) (now (widths .entry)) m reason r ⌝ }
 {
     if reason == reasons::NAME {
-        return Position::Name(unnamed(
-            hi, lo, columns, value_hi, value_lo, numbers, widths, m,
-        ));
+        return Position::Name(unnamed(hi, lo, columns, value_hi, value_lo, numbers, widths, m));
     }
     if reason == reasons::DESCRIPTOR {
-        return Position::Name(unread(
-            hi, lo, columns, value_hi, value_lo, numbers, widths, m,
-        ));
+        return Position::Name(unread(hi, lo, columns, value_hi, value_lo, numbers, widths, m));
     }
     if reason == reasons::CELLS {
-        return Position::Operand(past(
-            hi, lo, columns, value_hi, value_lo, numbers, widths, m,
-        ));
+        return Position::Operand(past(hi, lo, columns, value_hi, value_lo, numbers, widths, m));
     }
     Position::Name(idesc_at(m))
 }
@@ -216,7 +210,15 @@ pub fn position<'a>(
         Statement::Load(_) => access(reason, 1),
         Statement::Store(_) => access(reason, 0),
         Statement::Multiply(m) => mma(
-            hi, lo, columns, value_hi, value_lo, numbers, widths, m, reason,
+            hi,
+            lo,
+            columns,
+            value_hi,
+            value_lo,
+            numbers,
+            widths,
+            m,
+            reason,
         ),
         Statement::WaitLoad
         | Statement::WaitStore

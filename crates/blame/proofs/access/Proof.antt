@@ -1,15 +1,13 @@
+-- `blame::access` meets its contract: reason 6 decides. Assumes nothing.
+use borrow.Author.Tests.{eq-eqb, ne-eqb}
 use Rattle.blame.proofs.access.Statement.{statement}
 use Rattle.blame.proofs.access.Tie as tie
-use Rattle.blame.proofs.access.Reads as reads
-use Rattle.blame.proofs.access.Lts as lts
 
--- src/lib.rt:186:9
 returns : tie.Need-returns
-returns c = ?
+returns c = rw (eq-eqb _ _ (c .if1 .taken))
 
--- src/lib.rt:182:1
 returns-2 : tie.Need-returns-2
-returns-2 c = ?
+returns-2 c = rw (ne-eqb _ _ (c .if1 .left))
 
 pub access-spec : {M : Type 1} → statement M
 access-spec = tie.close (tie.spec returns returns-2)

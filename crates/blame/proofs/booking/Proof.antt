@@ -1,23 +1,19 @@
+-- `blame::booking` meets its contract: the reason decides. Assumes nothing.
+use borrow.Author.Tests.{eq-eqb, ne-eqb}
 use Rattle.blame.proofs.booking.Statement.{statement}
 use Rattle.blame.proofs.booking.Tie as tie
-use Rattle.blame.proofs.booking.Reads as reads
-use Rattle.blame.proofs.booking.Lts as lts
 
--- src/lib.rt:170:9
 returns : tie.Need-returns
-returns c = ?
+returns c = rw (eq-eqb _ _ (c .if1 .taken))
 
--- src/lib.rt:173:9
 returns-2 : tie.Need-returns-2
-returns-2 c = ?
+returns-2 c = rw (ne-eqb _ _ (c .before .if1 .left), eq-eqb _ _ (c .if2 .taken))
 
--- src/lib.rt:176:9
 returns-3 : tie.Need-returns-3
-returns-3 c = ?
+returns-3 c = rw (ne-eqb _ _ (c .before .before .if1 .left), ne-eqb _ _ (c .before .if2 .left), eq-eqb _ _ (c .if3 .taken))
 
--- src/lib.rt:166:1
 returns-4 : tie.Need-returns-4
-returns-4 c = ?
+returns-4 c = rw (ne-eqb _ _ (c .before .before .if1 .left), ne-eqb _ _ (c .before .if2 .left), ne-eqb _ _ (c .if3 .left))
 
 pub booking-spec : {M : Type 1} → statement M
 booking-spec = tie.close (tie.spec returns returns-2 returns-3 returns-4)

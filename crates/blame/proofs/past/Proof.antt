@@ -1,50 +1,52 @@
+-- `blame::past` meets its contract: N is that of idesc, and the addresses go in the order of the text. Assumes nothing.
+use mathlib.Core.Path.{sym, ap, _∙_}
+use borrow.Author.Tests.{not-true, not-false}
+use Rattle.rules.specs.Reasons.{mmaEnds}
+use Rattle.blame.proofs.BlameLaws.{n-is, ends-by, cells-at}
 use borrow.Author.Needs.{needs}
 use Rattle.blame.proofs.past.Statement.{statement}
 use Rattle.blame.proofs.past.Tie as tie
-use Rattle.blame.proofs.past.Reads as reads
-use Rattle.blame.proofs.past.Lts as lts
-use Rattle.bindings.proofs.lookup_in.Reads as lookup-in-reads
-use Rattle.checks.proofs.address_tested.Reads as address-tested-reads
-use Rattle.checks.proofs.is_sparse.Reads as is-sparse-reads
-use Rattle.checks.proofs.low.Reads as low-reads
-use Rattle.checks.proofs.operand_tested.Reads as operand-tested-reads
-use Rattle.instruction.proofs.judge_word.Reads as judge-word-reads
 
--- src/lib.rt:112:9
 lookup-in-requires : tie.Need-lookup-in-requires
 lookup-in-requires c κs = search needs
 
--- src/lib.rt:113:9
 low-requires : tie.Need-low-requires
 low-requires c κs = search needs
 
--- src/lib.rt:114:9
 is-sparse-requires : tie.Need-is-sparse-requires
 is-sparse-requires c κs = search needs
 
--- src/lib.rt:115:9
 judge-word-requires : tie.Need-judge-word-requires
 judge-word-requires c κs = search needs
 
--- src/lib.rt:116:9
 address-tested-requires : tie.Need-address-tested-requires
 address-tested-requires c κs = search needs
 
--- src/lib.rt:118:9
 returns : tie.Need-returns
-returns c = ?
+returns c s h u k =
+    let m = c .before .before .before .before .before .before .before .before .args .m in
+    let n = n-is s _ _ _ _ _ _ _ h m u _ (c .before .before .before .before .before .before .lookup-in .ensures) _ (c .before .before .before .before .before .low .ensures) _ (c .before .before .before .before .is-sparse .ensures) _ (c .before .before .before .judge-word .ensures) in
+    let d = sym (ap (mmaEnds s (m .d)) n) ∙ ends-by _ _ _ _ _ (c .before .before .address-tested .ensures s (h .slots)) (not-true _ (c .if1 .taken)) in
+    cells-at s m _ k (rw d)
 
--- src/lib.rt:120:9
 operand-tested-requires : tie.Need-operand-tested-requires
 operand-tested-requires c κs = search needs
 
--- src/lib.rt:96:1
 returns-2 : tie.Need-returns-2
-returns-2 c = ?
+returns-2 c s h u k =
+    let m = c .before .before .before .before .before .before .before .before .before .before .args .m in
+    let n = n-is s _ _ _ _ _ _ _ h m u _ (c .before .before .before .before .before .before .before .before .lookup-in .ensures) _ (c .before .before .before .before .before .before .before .low .ensures) _ (c .before .before .before .before .before .before .is-sparse .ensures) _ (c .before .before .before .before .before .judge-word .ensures) in
+    let d = sym (ap (mmaEnds s (m .d)) n) ∙ ends-by _ _ _ _ _ (c .before .before .before .before .address-tested .ensures s (h .slots)) (not-false _ (c .before .before .if1 .left)) in
+    let a = ends-by _ _ _ _ _ (c .before .operand-tested .ensures s h) (c .if2 .taken) in
+    cells-at s m _ k (rw (d, a))
 
--- src/lib.rt:96:1
 returns-3 : tie.Need-returns-3
-returns-3 c = ?
+returns-3 c s h u k =
+    let m = c .before .before .before .before .before .before .before .before .before .before .args .m in
+    let n = n-is s _ _ _ _ _ _ _ h m u _ (c .before .before .before .before .before .before .before .before .lookup-in .ensures) _ (c .before .before .before .before .before .before .before .low .ensures) _ (c .before .before .before .before .before .before .is-sparse .ensures) _ (c .before .before .before .before .before .judge-word .ensures) in
+    let d = sym (ap (mmaEnds s (m .d)) n) ∙ ends-by _ _ _ _ _ (c .before .before .before .before .address-tested .ensures s (h .slots)) (not-false _ (c .before .before .if1 .left)) in
+    let a = ends-by _ _ _ _ _ (c .before .operand-tested .ensures s h) (c .if2 .left) in
+    cells-at s m _ k (rw (d, a))
 
 pub past-spec : {M : Type 1} → statement M
 past-spec =
