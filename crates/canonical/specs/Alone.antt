@@ -1,5 +1,5 @@
 -- What is answered of a statement's text by itself. Assumes nothing.
-use Prim.Native.Nat.{ℕ}
+use Prim.Native.Nat.{ℕ, _+_}
 use mathlib.Core.Bool.{cond}
 use mathlib.Core.List.{List}
 use Rattle.tokens.specs.declared.Name.{Name}
@@ -11,16 +11,22 @@ use Rattle.statement.specs.declared.Written.the-variants as written
 use Rattle.statement.specs.Reading.{reasonOf}
 use Rattle.statement.specs.Cells.{counted}
 use Rattle.writer.specs.Outputs.{writtenOf, leftBy}
-
--- reason 5 of a statement, or 0
-abbrev pub countReason : Statement → ℕ
-countReason t = cond (counted t) 0 5
+use Rattle.canonical.specs.declared.Alone.{Alone}
 
 -- the reason of a text from what it reads as: 3 or 4, then 5
 abbrev pub aloneReason : Reading → ℕ
-aloneReason (reading.Got t) = countReason t
+aloneReason (reading.Got t) = cond (counted t) 0 5
 aloneReason (reading.NoForm at) = reasonOf (reading.NoForm at)
 aloneReason (reading.TooLarge at) = reasonOf (reading.TooLarge at)
+
+-- its column, from 1 at the first byte: that of the token at which reading stopped, or of the opcode; 0 where the reason is 0
+abbrev pub aloneColumn : Reading → ℕ
+aloneColumn (reading.Got t) = cond (counted t) 0 1
+aloneColumn (reading.NoForm at) = at + 1
+aloneColumn (reading.TooLarge at) = at + 1
+
+abbrev pub aloneOf : Reading → Alone
+aloneOf r = record { reason = aloneReason r; column = aloneColumn r }
 
 -- the answer to writing what a text reads as, with its registers' names, into a room of that length
 abbrev pub rewritten : ℕ → Reading → List Name → Written

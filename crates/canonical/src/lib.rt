@@ -1,4 +1,4 @@
-// A statement's text by itself: its reason, and its canonical text.
+// A statement's text by itself: its reason and column, and its canonical text.
 use statement::Reading;
 use statement::Statement;
 use statement::Written;
@@ -7,31 +7,56 @@ ghost use lib.ListN.{length};
 ghost use Rattle.statement.specs.Reading.{readOf, registersOf};
 ghost use Rattle.statement.specs.declared.Reading.{Reading};
 ghost use Rattle.writer.specs.Outputs.{writtenOf, leftBy};
-ghost use Rattle.canonical.specs.Alone.{countReason, aloneReason, rewritten, leftOf};
+ghost use Rattle.canonical.specs.Alone.{aloneOf, rewritten, leftOf};
 
-// 5 for a load or a store whose N or count of registers is wrong, else 0.
-fn count_reason(t: Statement) -> u32
-    ensures { λ r. ⌜ r ≡ countReason t ⌝ }
+// The reason of a text, and the column that it is found in, from 1; 0 and 0 for a good one.
+pub struct Alone {
+    pub reason: u32,
+    pub column: usize,
+}
+
+// Of a statement: 5 at the opcode for a load or a store whose N or count of registers is wrong.
+fn judge_count(t: Statement) -> Alone
+    ensures { λ r. ⌜ r ≡ aloneOf (Reading.Got t) ⌝ }
 {
     if cells::is_counted(t) {
-        reasons::PASSED
+        Alone {
+            reason: reasons::PASSED,
+            column: 0,
+        }
     } else {
-        reasons::REGISTERS
+        Alone {
+            reason: reasons::REGISTERS,
+            column: 1,
+        }
     }
 }
 
-// The reason of a text: 3 or 4 if it does not read, 5 for a wrong count, else 0.
-pub fn reason(text: &[u8]) -> u32
-    ensures { λ r. ⌜ r ≡ aloneReason (readOf (now (text .entry))) ⌝ }
+// Of a text: 3 or 4 where reading stopped, if it does not read.
+pub fn judge_text(text: &[u8]) -> Alone
+    ensures { λ r. ⌜ r ≡ aloneOf (readOf (now (text .entry))) ⌝ }
 {
     let t = reader::read(text);
-    let Reading::Got(s) = t else {
-        return reader::reason(t);
-    };
-    count_reason(s)
+    match t {
+        Reading::Got(s) => judge_count(s),
+        Reading::NoForm(at) => {
+            let column = at + 1;
+            Alone {
+                reason: reasons::FORM,
+                column,
+            }
+        }
+        Reading::TooLarge(at) => {
+            let column = at + 1;
+            Alone {
+                reason: reasons::NUMBER,
+                column,
+            }
+        }
+    }
 }
 
-// The same for a text that reads, with two arrays for its registers' names.
+// The canonical text of a text that reads, with two arrays for its registers' names.
 fn rewrite_in(
     text: &[u8],
     t: Statement,

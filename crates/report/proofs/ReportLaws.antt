@@ -68,9 +68,9 @@ put-whole z t w n e h k =
     let g : 0 + length w ≤ length z = omega arith in
     ap (take n) (e ∙ sets-eq w z 0 g) ∙ take-at w (drop (0 + length w) z) n (sym h)
 
-pub head-is : (r l h p : ℕ) → headText r l h p ≡ ((fieldText r tab ++ fieldText l tab) ++ fieldText h tab) ++ fieldText p lf
+pub head-is : (r l k h p : ℕ) → headText r l k h p ≡ (((fieldText r tab ++ fieldText l tab) ++ fieldText k tab) ++ fieldText h tab) ++ fieldText p lf
 unfolding headText numbersText fieldText
-head-is r l h p = simp append-assoc
+head-is r l k h p = simp append-assoc
 
 pub row-is : (n : Name) (s c : ℕ) → rowText n s c ≡ ((nameBytes n ++ tab ∷ []) ++ fieldText s tab) ++ fieldText c lf
 unfolding rowText numbersText fieldText
@@ -83,18 +83,19 @@ Put b t at e w n = (e ≡ at + length w) × (t ≡ sets b at w) × (e ≤ at + n
 length-put : (b t : List ℕ) (i : ℕ) (w : List ℕ) → t ≡ sets b i w → length t ≡ length b
 length-put b t i w e = ap length e ∙ length-sets b i w
 
--- the four fields of the first line, put one after another
-module _ (z t₁ t₂ t₃ t₄ : List ℕ) (a b c d r l h p : ℕ) (p₁ : Put z t₁ 0 a (fieldText r tab) fieldRoom) (p₂ : Put t₁ t₂ a b (fieldText l tab) fieldRoom) (p₃ : Put t₂ t₃ b c (fieldText h tab) fieldRoom) (p₄ : Put t₃ t₄ c d (fieldText p lf) fieldRoom) (e : length z ≡ lineRoom) where
-  pub head-fits : d ≤ length t₄
+-- the five fields of the first line, put one after another
+module _ (z t₁ t₂ t₃ t₄ t₅ : List ℕ) (a b c d n r l k h p : ℕ) (p₁ : Put z t₁ 0 a (fieldText r tab) fieldRoom) (p₂ : Put t₁ t₂ a b (fieldText l tab) fieldRoom) (p₃ : Put t₂ t₃ b c (fieldText k tab) fieldRoom) (p₄ : Put t₃ t₄ c d (fieldText h tab) fieldRoom) (p₅ : Put t₄ t₅ d n (fieldText p lf) fieldRoom) (e : length z ≡ lineRoom) where
+  pub head-fits : n ≤ length t₅
   head-fits =
-      omega (arith, p₁ .2, p₂ .2, p₃ .2, p₄ .2, length-put z t₁ 0 (fieldText r tab) (p₁ .1), length-put t₁ t₂ a (fieldText l tab) (p₂ .1), length-put t₂ t₃ b (fieldText h tab) (p₃ .1), length-put t₃ t₄ c (fieldText p lf) (p₄ .1))
+      omega (arith, p₁ .2, p₂ .2, p₃ .2, p₄ .2, p₅ .2, length-put z t₁ 0 (fieldText r tab) (p₁ .1), length-put t₁ t₂ a (fieldText l tab) (p₂ .1), length-put t₂ t₃ b (fieldText k tab) (p₃ .1), length-put t₃ t₄ c (fieldText h tab) (p₄ .1), length-put t₄ t₅ d (fieldText p lf) (p₅ .1))
 
-  pub head-put : take d t₄ ≡ headText r l h p
+  pub head-put : take n t₅ ≡ headText r l k h p
   head-put =
       let q₂ = put-more z t₁ t₂ (fieldText r tab) (fieldText l tab) a b (p₁ .1) (p₁ .0 ∙ zero-add (length (fieldText r tab))) (p₂ .1) (p₂ .0) in
-      let q₃ = put-more z t₂ t₃ (fieldText r tab ++ fieldText l tab) (fieldText h tab) b c (q₂ .0) (q₂ .1) (p₃ .1) (p₃ .0) in
-      let q₄ = put-more z t₃ t₄ ((fieldText r tab ++ fieldText l tab) ++ fieldText h tab) (fieldText p lf) c d (q₃ .0) (q₃ .1) (p₄ .1) (p₄ .0) in
-      put-whole z t₄ (((fieldText r tab ++ fieldText l tab) ++ fieldText h tab) ++ fieldText p lf) d (q₄ .0) (q₄ .1) (omega (arith, p₁ .2, p₂ .2, p₃ .2, p₄ .2)) ∙ sym (head-is r l h p)
+      let q₃ = put-more z t₂ t₃ (fieldText r tab ++ fieldText l tab) (fieldText k tab) b c (q₂ .0) (q₂ .1) (p₃ .1) (p₃ .0) in
+      let q₄ = put-more z t₃ t₄ ((fieldText r tab ++ fieldText l tab) ++ fieldText k tab) (fieldText h tab) c d (q₃ .0) (q₃ .1) (p₄ .1) (p₄ .0) in
+      let q₅ = put-more z t₄ t₅ (((fieldText r tab ++ fieldText l tab) ++ fieldText k tab) ++ fieldText h tab) (fieldText p lf) d n (q₄ .0) (q₄ .1) (p₅ .1) (p₅ .0) in
+      put-whole z t₅ ((((fieldText r tab ++ fieldText l tab) ++ fieldText k tab) ++ fieldText h tab) ++ fieldText p lf) n (q₅ .0) (q₅ .1) (omega (arith, p₁ .2, p₂ .2, p₃ .2, p₄ .2, p₅ .2)) ∙ sym (head-is r l k h p)
 
 -- a name, a tab and the two fields of a row
 module _ (z t₁ t₂ t₃ : List ℕ) (a b d : ℕ) (n : Name) (s c : ℕ) (p₁ : (a ≡ length (nameBytes n)) × (t₁ ≡ sets z 0 (nameBytes n)) × (a ≤ 16)) (p₂ : Put (set t₁ a tab) t₂ (a + 1) b (fieldText s tab) fieldRoom) (p₃ : Put t₂ t₃ b d (fieldText c lf) fieldRoom) (e : length z ≡ lineRoom) where

@@ -1,4 +1,4 @@
--- The printed report: a first line of four numbers, then a row for each alloc. Assumes nothing.
+-- The printed report: a first line of five numbers, then a row for each alloc. Assumes nothing.
 use mathlib.Core.Bool.{cond}
 use Prim.Native.Nat.{ℕ, _+_, _*_}
 use mathlib.Core.List.{List, [], _∷_, _++_}
@@ -16,9 +16,9 @@ numbersText [] = []
 numbersText (v ∷ []) = decimal v ++ lf ∷ []
 numbersText (v ∷ (w ∷ l)) = decimal v ++ tab ∷ numbersText (w ∷ l)
 
--- the first line: reason, line, columns held and peak
-unfoldable pub headText : ℕ → ℕ → ℕ → ℕ → List ℕ
-headText reason line held peak = numbersText (reason ∷ line ∷ held ∷ peak ∷ [])
+-- the first line: reason, line, column in it, columns held and peak
+unfoldable pub headText : ℕ → ℕ → ℕ → ℕ → ℕ → List ℕ
+headText reason line column held peak = numbersText (reason ∷ line ∷ column ∷ held ∷ peak ∷ [])
 
 -- the row of an alloc: its name, its start and its columns
 unfoldable pub rowText : Name → ℕ → ℕ → List ℕ
@@ -35,8 +35,8 @@ rowsText [] = []
 rowsText (a ∷ l) = rowText (a .name) (a .start) (a .columns) ++ rowsText l
 
 -- the whole report: the first line, and on a pass a row for each alloc in order
-unfoldable pub reportText : ℕ → ℕ → ℕ → ℕ → List Reported → List ℕ
-reportText reason line held peak allocs = headText reason line held peak ++ cond (eqb reason 0) (rowsText allocs) []
+unfoldable pub reportText : ℕ → ℕ → ℕ → ℕ → ℕ → List Reported → List ℕ
+reportText reason line column held peak allocs = headText reason line column held peak ++ cond (eqb reason 0) (rowsText allocs) []
 
 -- a buffer after a text was put from a place on: unchanged where there is no room for all of it
 unfoldable pub putText : List ℕ → ℕ → List ℕ → List ℕ

@@ -14,8 +14,8 @@ pub const ROOM: usize = 16 + 4095 * 25;
 // A number of 20 digits, and the byte after it.
 const FIELD: usize = 21;
 
-// The longest line has four of them.
-const LINE: usize = 4 * FIELD;
+// The longest line has five of them.
+const LINE: usize = 5 * FIELD;
 
 type Line = [u8; LINE];
 
@@ -58,15 +58,24 @@ fn name(text: &mut Line, n: Name) -> usize
 }
 
 // The first line of a report.
-pub fn head(room: &mut [u8], at: usize, reason: u64, line: u64, held: u64, peak: u64) -> usize
-    ensures next { λ r. ⌜ r ≡ putEnd (length (now (room .entry))) at (headText reason line held peak) ⌝ }
-    ensures places { λ r. ⌜ now (room .exit) ≡ putText (now (room .entry)) at (headText reason line held peak) ⌝ }
+pub fn head(
+    room: &mut [u8],
+    at: usize,
+    reason: u64,
+    line: u64,
+    column: u64,
+    held: u64,
+    peak: u64,
+) -> usize
+    ensures next { λ r. ⌜ r ≡ putEnd (length (now (room .entry))) at (headText reason line column held peak) ⌝ }
+    ensures places { λ r. ⌜ now (room .exit) ≡ putText (now (room .entry)) at (headText reason line column held peak) ⌝ }
 {
     let mut text = [0u8; LINE];
     let a = field(&mut text, 0, reason, b'\t');
     let b = field(&mut text, a, line, b'\t');
-    let c = field(&mut text, b, held, b'\t');
-    let n = field(&mut text, c, peak, b'\n');
+    let c = field(&mut text, b, column, b'\t');
+    let d = field(&mut text, c, held, b'\t');
+    let n = field(&mut text, d, peak, b'\n');
     put(room, at, &text[..n])
 }
 

@@ -3,15 +3,18 @@ use statement::Written;
 ghost use mathlib.Core.Path.{_≡_};
 ghost use lib.ListN.{length};
 ghost use Rattle.statement.specs.Reading.{readOf, registersOf};
-ghost use Rattle.canonical.specs.Alone.{aloneReason, rewritten, leftOf};
+ghost use Rattle.canonical.specs.Alone.{aloneReason, aloneColumn, rewritten, leftOf};
 ghost use Rattle.staplehorn.specs.Statements.{writtenReason, writtenLength};
 
-// The reason of a statement's text: 3, 4 or 5, else 0.
+// The reason of a statement's text: 3, 4 or 5, else 0; and the column that it is found in, from 1, or 0.
 #[no_mangle]
-pub extern "C" fn staplehorn_statement_reason(text: &[u8]) -> u32
-    ensures { λ r. ⌜ r ≡ aloneReason (readOf (now (text .entry))) ⌝ }
+pub extern "C" fn staplehorn_statement_reason(text: &[u8], column: &mut usize) -> u32
+    ensures reason { λ r. ⌜ r ≡ aloneReason (readOf (now (text .entry))) ⌝ }
+    ensures column { λ _. ⌜ now (column .exit) ≡ aloneColumn (readOf (now (text .entry))) ⌝ }
 {
-    canonical::reason(text)
+    let r = canonical::judge_text(text);
+    *column = r.column;
+    r.reason
 }
 
 fn reason_of(w: Written) -> u32

@@ -1,4 +1,4 @@
--- `report::head` meets its contract: the four fields put one after another are the first line, and what was put stands in the first places.
+-- `report::head` meets its contract: the five fields put one after another are the first line, and what was put stands in the first places.
 -- Assumes nothing.
 use mathlib.Core.Path.{refl, sym}
 use lib.Seq.{length-take-le}
@@ -19,15 +19,18 @@ field-requires-3 c κs = search needs
 field-requires-4 : tie.Need-field-requires-4
 field-requires-4 c κs = search needs
 
+field-requires-5 : tie.Need-field-requires-5
+field-requires-5 c κs = search needs
+
 array-share-prefix-text : tie.Need-array-share-prefix-text
 array-share-prefix-text c =
-    let a = c .before .before .before .before .before .before .before .before .before .before .args in
-    head-fits _ _ _ _ _ _ _ _ _ (a .reason) (a .line) (a .held) (a .peak) (c .before .before .before .before .before .before .before .field .ensures) (c .before .before .before .before .before .field2 .ensures) (c .before .before .before .field3 .ensures) (c .before .field4 .ensures) refl
+    let a = c .before .before .before .before .before .before .before .before .before .before .before .before .args in
+    head-fits _ _ _ _ _ _ _ _ _ _ _ (a .reason) (a .line) (a .column) (a .held) (a .peak) (c .before .before .before .before .before .before .before .before .before .field .ensures) (c .before .before .before .before .before .before .before .field2 .ensures) (c .before .before .before .before .before .field3 .ensures) (c .before .before .before .field4 .ensures) (c .before .field5 .ensures) refl
 
 slice-aggregate-put : tie.Need-slice-aggregate-put
 slice-aggregate-put c =
-    let a = c .before .before .before .before .before .before .before .before .before .before .before .args in
-    sym (length-take-le _ _ (head-fits _ _ _ _ _ _ _ _ _ (a .reason) (a .line) (a .held) (a .peak) (c .before .before .before .before .before .before .before .before .field .ensures) (c .before .before .before .before .before .before .field2 .ensures) (c .before .before .before .before .field3 .ensures) (c .before .before .field4 .ensures) refl))
+    let a = c .before .before .before .before .before .before .before .before .before .before .before .before .before .args in
+    sym (length-take-le _ _ (head-fits _ _ _ _ _ _ _ _ _ _ _ (a .reason) (a .line) (a .column) (a .held) (a .peak) (c .before .before .before .before .before .before .before .before .before .before .field .ensures) (c .before .before .before .before .before .before .before .before .field2 .ensures) (c .before .before .before .before .before .before .field3 .ensures) (c .before .before .before .before .field4 .ensures) (c .before .before .field5 .ensures) refl))
 
 put-requires : tie.Need-put-requires
 put-requires c κs = search needs
@@ -37,9 +40,9 @@ same-length c = search needs
 
 returns : tie.Need-returns
 returns c =
-    let a = c .before .before .before .before .before .before .before .before .before .before .before .before .before .before .args in
+    let a = c .before .before .before .before .before .before .before .before .before .before .before .before .before .before .before .before .args in
     let f = c .before .before .before .before .before in
-    let e = head-put _ _ _ _ _ _ _ _ _ (a .reason) (a .line) (a .held) (a .peak) (f .before .before .before .before .before .before .field .ensures) (f .before .before .before .before .field2 .ensures) (f .before .before .field3 .ensures) (f .field4 .ensures) refl in
+    let e = head-put _ _ _ _ _ _ _ _ _ _ _ (a .reason) (a .line) (a .column) (a .held) (a .peak) (f .before .before .before .before .before .before .before .before .field .ensures) (f .before .before .before .before .before .before .field2 .ensures) (f .before .before .before .before .field3 .ensures) (f .before .before .field4 .ensures) (f .field5 .ensures) refl in
     rw (← e) (c .before .before .put .ensures)
 
 pub head-spec : {M : Type 1} → statement M
@@ -50,6 +53,7 @@ head-spec =
     field-requires-2
     field-requires-3
     field-requires-4
+    field-requires-5
     array-share-prefix-text
     slice-aggregate-put
     put-requires
