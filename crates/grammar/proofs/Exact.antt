@@ -91,7 +91,7 @@ module _ (o : Opcode) (rest : List ℕ) (ends : runLen opcodeByte rest ≡ 0) wh
   opcode-found : recognise (take (opcodeLen (word o ++ rest)) (word o ++ rest)) ≡ Is o
   opcode-found = rw (opcode-len, take-append-seam (word o) rest) (recognised o)
 
-  opcode-rest : drop (opcodeLen (word o ++ rest)) (word o ++ rest) ≡ rest
+  pub opcode-rest : drop (opcodeLen (word o ++ rest)) (word o ++ rest) ≡ rest
   opcode-rest = rw opcode-len (drop-append-seam (word o) rest)
 
   pub whole-at : wholeC (word o ++ rest) ≡ operandsC o (start rest)

@@ -89,7 +89,7 @@ module _ (text front l : List ℕ) (parts : text ≡ front ++ l) where
   place-take : take (length text - length l) text ≡ front
   place-take = rw (place-is, parts) (take-append-seam front l)
 
-  place-drop : drop (length text - length l) text ≡ l
+  pub place-drop : drop (length text - length l) text ≡ l
   place-drop = rw (place-is, parts) (drop-append-seam front l)
 
 stops-at : (s : Bool) (text : List ℕ) (o : Opcode) (l : List ℕ) → take (opcodeLen text) text ≡ word o → Stop (tokenRow s o) (drop (opcodeLen text) text) l → Stops (fitsBy s) text (length text - length l) × (drop (length text - length l) text ≡ l)

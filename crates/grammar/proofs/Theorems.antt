@@ -17,6 +17,7 @@ use Rattle.grammar.proofs.Exact.{exact}
 use Rattle.grammar.proofs.Trip.{trip, writable, canonical}
 use Rattle.grammar.proofs.Places.{places, overs}
 use Rattle.grammar.proofs.OnePlace.{ones}
+use Rattle.grammar.proofs.Operands.{operands}
 
 names : (v w : List ℕ) → isName v ≡ true → isName w ≡ true → packed v ≡ packed w → v ≡ w
 names v w p q e = sym (name-back v p) ∙ ap nameBytes e ∙ name-back w q
@@ -33,4 +34,4 @@ nums X64 = refl
 nums X128 = refl
 
 pub theorems : Theorems
-theorems = record { exact = exact; trip = trip; writable = writable; canonical = canonical; three = places; long = read-long; four = overs; one = ones; names = names; nums = nums }
+theorems = record { exact = exact; trip = trip; writable = writable; canonical = canonical; three = places; long = read-long; four = overs; one = ones; operands = operands; names = names; nums = nums }

@@ -18,6 +18,7 @@ use Rattle.statement.specs.Forms.{numText, word, Whole}
 use Rattle.statement.specs.Cells.{times}
 use Rattle.statement.specs.Reading.{opcodeLen, readOf, reasonOf, registersOf}
 use Rattle.grammar.specs.Spells.{Spells, sized}
+use Rattle.grammar.specs.Operands.{OperandsPlaced}
 use Rattle.statement.specs.Canonical.{textOf, given}
 
 -- ---- reading is exact
@@ -111,6 +112,8 @@ pub record Theorems : Type 0 where
   pub long : (text : List ℕ) → 4096 < length text → readOf text ≡ NoForm 4096
   pub four : (text : List ℕ) (place : ℕ) → readOf text ≡ TooLarge place → Over text place
   pub one : (fits : Statement → Bool) (text : List ℕ) → One fits text
+  -- The places of operands and of their names, which columns are counted from, are those of the spelling, wherever spaces stand.
+  pub operands : (text : List ℕ) → OperandsPlaced text
   -- Names that are held as equal numbers have the same bytes: so two statements are equal exactly when forms, numbers and the bytes of names are.
   pub names : (v w : List ℕ) → isName v ≡ true → isName w ≡ true → packed v ≡ packed w → v ≡ w
   -- NUM is spelled as `.x` and the decimal of the N that it stands for.
