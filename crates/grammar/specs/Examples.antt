@@ -2,7 +2,7 @@
 -- canonical texts. Assumes nothing.
 use Prim.Native.Nat.{ℕ}
 use Prim.Native.String.{String}
-use mathlib.Core.List.{List, [], _∷_, _++_}
+use mathlib.Core.List.{List, [], _∷_, _++_, map}
 use mathlib.Core.Bool.{Bool, true, false}
 use lib.ListN.{drop}
 use Rattle.laws.specs.Worked.{Gives}
@@ -27,6 +27,7 @@ use Rattle.tokens.specs.Text.{bytes}
 use Rattle.statement.specs.Reading.{readOf, reasonOf, registersOf}
 use Rattle.statement.specs.Positions.{operandPlace, namePlace}
 use Rattle.statement.specs.Canonical.{textOf}
+use Rattle.grammar.specs.Spells.{spaces}
 use Rattle.grammar.specs.Claims.{Reads}
 
 -- the reason of a text, 0 if it reads
@@ -225,6 +226,23 @@ places =
     ("tcgen05.ld.sync.aligned.32x32b.x128.b32 {r,r,r,r,r,r,r,r,r,r,r,r,r,r,r,r,r,r,r,r,r,r,r,r,r,r,r,r,r,r,r,r,r,r,r,r,r,r,r,r,r,r,r,r,r,r,r,r,r,r,r,r,r,r,r,r,r,r,r,r,r,r,r,r,r,r,r,r,r,r,r,r,r,r,r,r,r,r,r,r,r,r,r,r,r,r,r,r,r,r,r,r,r,r,r,r,r,r,r,r,r,r,r,r,r,r,r,r,r,r,r,r,r,r,r,r,r,r,r,r,r,r,r,r,r,r,r,r,r}, [t];", NoForm 296) ∷
     []
 
+-- In a text of over 4,096 bytes it is that of the token too, or, where there is none, the end. Four texts with n spaces in them.
+abbrev pub spaced : ℕ → List (List ℕ)
+spaced n =
+    (bytes "exit" ++ (spaces n ++ bytes ";")) ∷
+    (bytes "exit" ++ (spaces n ++ bytes "x;")) ∷
+    (bytes "mov.b32 x y" ++ (spaces n ++ bytes ";")) ∷
+    (bytes "mov.b32 x, 4294967296" ++ (spaces n ++ bytes ";")) ∷
+    []
+
+abbrev pub lengths : List (ℕ × List Reading)
+lengths =
+    (4074, Got Exit ∷ NoForm 4078 ∷ NoForm 10 ∷ TooLarge 11 ∷ []) ∷
+    (4075, Got Exit ∷ NoForm 4079 ∷ NoForm 10 ∷ NoForm 4097 ∷ []) ∷
+    (4091, Got Exit ∷ NoForm 4095 ∷ NoForm 10 ∷ NoForm 4113 ∷ []) ∷
+    (4092, NoForm 4097 ∷ NoForm 4096 ∷ NoForm 10 ∷ NoForm 4114 ∷ []) ∷
+    []
+
 -- The place of an operand, and of its name, each with what stands from there on. Only the commas outside of braces part operands.
 abbrev pub placesOf : String × ℕ → ℕ × List ℕ × ℕ × List ℕ
 placesOf (text, i) = (operandPlace (bytes text) i, drop (operandPlace (bytes text) i) (bytes text), namePlace (bytes text) i, drop (namePlace (bytes text) i) (bytes text))
@@ -266,5 +284,6 @@ pub record Examples : Type 0 where
   pub reasons : Gives reasonFor (spacing ++ (words ++ (numbers ++ forms)))
   pub statements : AllRead (typed ++ (accesses ++ mmas))
   pub stops : Gives reading places
+  pub long : Gives (λ n. map readOf (spaced n)) lengths
   pub operands : Gives placesOf operandPlaces
   pub canonicals-are : Gives canonical canonicals
