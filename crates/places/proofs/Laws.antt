@@ -18,6 +18,7 @@ use Rattle.statement.specs.declared.Reading.{Reading}
 use Rattle.statement.specs.declared.Reading.the-variants.{NoForm}
 use Rattle.statement.specs.declared.Position.the-variants.{Token, Name, Operand}
 use Rattle.statement.specs.Reading.{opcodeLen, wholeC, answerOf, longestText, readOf}
+use Rattle.statement.proofs.Readings.{stop-le}
 use Rattle.statement.specs.Positions.{within, afterComma, afterCommas, operandFrom, afterBracket, nameFrom, operandPlace, namePlace, stopIn, statementColumn, columnOf}
 
 -- ---- commas
@@ -90,28 +91,13 @@ module _ (s : List ℕ) (index at p : ℕ) (is : p ≡ length s - length (drop a
 own-place : (s : List ℕ) (p : ℕ) → p ≤ length s → length s - length (drop p s) ≡ p
 own-place s p h = omega (arith, length-drop p s)
 
-answer-within : (text : List ℕ) (r : Rest) (t : Statement) (ok over : Bool) → r .ok ≡ ok → r .over ≡ over → stopIn (answerOf text r t) ≤ length text
-unfolding answerOf
-answer-within text r t true true p q = rw (p, q) (omega arith)
-answer-within text r t true false p q = rw (p, q) (omega arith)
-answer-within text r t false over p q = rw p (omega arith)
-
--- reading stops within the text, or at its end
-stop-within : (s : List ℕ) → stopIn (readOf s) ≤ length s
-unfolding readOf
-stop-within s = by (leb (length s) longestText) refl
-  where
-    by : (b : Bool) → leb (length s) longestText ≡ b → stopIn (cond b (answerOf s (wholeC s .next) (wholeC s .value .statement)) (NoForm longestText)) ≤ length s
-    by true e = answer-within s (wholeC s .next) (wholeC s .value .statement) (wholeC s .next .ok) (wholeC s .next .over) refl refl
-    by false e = omega (arith, leb-false (length s) longestText e)
-
 module _ (s : List ℕ) (p c : ℕ) (is : c ≡ statementColumn + (length s - length (drop p s))) where
   column-own : p ≤ length s → c ≡ statementColumn + p
   column-own h = is ∙ rw (own-place s p h)
 
   pub token-column : (r : Reading) → r ≡ readOf s → p ≡ stopIn r → c ≡ columnOf s Token
   unfolding columnOf
-  token-column r e h = column-own (rw (h, e) (stop-within s)) ∙ rw (h, e)
+  token-column r e h = column-own (rw (h, e) (stop-le s)) ∙ rw (h, e)
 
   pub name-column : (index : ℕ) → p ≡ namePlace s index → c ≡ columnOf s (Name index)
   unfolding columnOf namePlace

@@ -6,6 +6,7 @@ ghost use mathlib.Core.Bool.{false, cond};
 ghost use Prim.Native.Nat.{_+_, _-_};
 ghost use lib.ListN.{length, drop};
 ghost use Rattle.statement.specs.Reading.{opcodeLen};
+ghost use Rattle.statement.specs.declared.Position.the-variants.{Token};
 ghost use Rattle.statement.specs.Positions.{within, afterComma, afterCommas, operandFrom, afterBracket, nameFrom, operandPlace, namePlace, stopIn, statementColumn, columnOf};
 
 // Where the opcode ends.
@@ -124,13 +125,21 @@ fn column_at(s: &[u8], at: usize) -> usize
     if at < s.len() { 3 + at } else { 3 + s.len() }
 }
 
+// The column where reading stopped, of what a text was read as.
+pub fn stopped(s: &[u8], t: Reading) -> usize
+    requires { ⌜ t ≡ readOf (now s) ⌝ }
+    ensures { λ r. ⌜ r ≡ columnOf (now (s .entry)) Token ⌝ }
+{
+    column_at(s, stop_of(t))
+}
+
 // The column of a position in a statement's line.
 pub fn column(s: &[u8], p: Position) -> usize
     ensures { λ r. ⌜ r ≡ columnOf (now (s .entry)) p ⌝ }
 {
     match p {
         Position::Start => 1,
-        Position::Token => column_at(s, stop_of(reader::read(s))),
+        Position::Token => stopped(s, reader::read(s)),
         Position::Opcode => 3,
         Position::Name(i) => column_at(s, name(s, i)),
         Position::Operand(i) => column_at(s, operand(s, i)),

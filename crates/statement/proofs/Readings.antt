@@ -1,5 +1,5 @@
--- Answers of the reader that are no statement. Assumes nothing.
-use Prim.Native.Nat.{ℕ, _<_, _≤_}
+-- Answers of the reader, by the length of the text, and such as are no statement. Assumes nothing.
+use Prim.Native.Nat.{ℕ, _≤_, _<_}
 use native.Mathlib.Omega.{arith}
 use mathlib.Core.Path.{_≡_, refl, subst}
 use mathlib.Core.Bool.{Bool, true, false}
@@ -7,42 +7,54 @@ use mathlib.Core.List.{List, [], _∷_}
 use mathlib.Core.Logic.{inl, inr}
 use lib.ListN.{length}
 use lib.Dec.{leb}
-use borrow.Author.Tests.{lt-leb, leb-false}
+use borrow.Author.Tests.{le-leb, lt-leb, leb-true, leb-false}
 use denote.Enum.Declared.{tagOf}
 use types.Run.{OneOf}
 use Rattle.tokens.specs.Cursors.{Rest}
 use Rattle.statement.specs.declared.Statement.{Statement}
 use Rattle.statement.specs.declared.Reading.{Reading}
 use Rattle.statement.proofs.Reading.{the-type}
-use Rattle.statement.specs.declared.Reading.the-variants.{Got, NoForm}
-use Rattle.statement.specs.Reading.{readOf, answerOf, wholeC}
+use Rattle.statement.specs.declared.Reading.the-variants.{Got, NoForm, TooLarge}
+use Rattle.statement.specs.Reading.{answerOf, wholeC, formOf, overlong, readOf, reasonOf}
 use Rattle.statement.specs.Positions.{stopIn}
 
--- a text over 4,096 bytes has no form
-pub read-long : (text : List ℕ) → 4096 < length text → readOf text ≡ NoForm 4096
+-- a text of at most 4,096 bytes is read by its form, a longer one is too long
+pub read-short : (text : List ℕ) → length text ≤ 4096 → readOf text ≡ formOf text
+unfolding readOf
+read-short text h = rw (le-leb (length text) 4096 h)
+
+pub read-long : (text : List ℕ) → 4096 < length text → readOf text ≡ overlong (length text) (formOf text)
 unfolding readOf
 read-long text h = rw (lt-leb (length text) 4096 h)
 
--- reading stops within the text, or at its end
+-- whatever it reads as otherwise
+pub overlong-three : (end : ℕ) (r : Reading) → reasonOf (overlong end r) ≡ 3
+overlong-three end (Got t) = refl
+overlong-three end (NoForm at) = refl
+overlong-three end (TooLarge at) = refl
+
+-- ---- reading stops within the text, or at its end
 answer-stop : (text : List ℕ) (r : Rest) (t : Statement) (ok over : Bool) → r .ok ≡ ok → r .over ≡ over → stopIn (answerOf text r t) ≤ length text
 unfolding answerOf
 answer-stop text r t true true p q = rw (p, q) (omega arith)
 answer-stop text r t true false p q = rw (p, q) (omega arith)
 answer-stop text r t false over p q = rw p (omega arith)
 
-short-stop : (text : List ℕ) → leb (length text) 4096 ≡ true → stopIn (readOf text) ≤ length text
-unfolding readOf
-short-stop text e = rw e (answer-stop text (wholeC text .next) (wholeC text .value .statement) (wholeC text .next .ok) (wholeC text .next .over) refl refl)
+form-stop : (text : List ℕ) → stopIn (formOf text) ≤ length text
+unfolding formOf
+form-stop text = answer-stop text (wholeC text .next) (wholeC text .value .statement) (wholeC text .next .ok) (wholeC text .next .over) refl refl
 
-long-stop : (text : List ℕ) → 4096 < length text → stopIn (readOf text) ≤ length text
-long-stop text h = rw (read-long text h) (omega arith)
+long-stop : (end : ℕ) (r : Reading) → stopIn r ≤ end → stopIn (overlong end r) ≤ end
+long-stop end (Got t) h = omega arith
+long-stop end (NoForm at) h = h
+long-stop end (TooLarge at) h = omega arith
 
 pub stop-le : (text : List ℕ) → stopIn (readOf text) ≤ length text
 stop-le text = by-length (leb (length text) 4096) refl
   where
     by-length : (b : Bool) → leb (length text) 4096 ≡ b → stopIn (readOf text) ≤ length text
-    by-length true e = short-stop text e
-    by-length false e = long-stop text (leb-false (length text) 4096 e)
+    by-length true e = rw (read-short text (leb-true (length text) 4096 e)) (form-stop text)
+    by-length false e = rw (read-long text (leb-false (length text) 4096 e)) (long-stop (length text) (formOf text) (form-stop text))
 
 abbrev pub Unread : Reading → Type 0
 Unread r = (t : Statement) → r ≡ Got t → ⊥
