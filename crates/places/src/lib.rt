@@ -5,7 +5,7 @@ ghost use mathlib.Core.Path.{_≡_};
 ghost use mathlib.Core.Bool.{false, cond};
 ghost use Prim.Native.Nat.{_+_, _-_};
 ghost use lib.ListN.{length, drop};
-ghost use Rattle.statement.specs.Reading.{opcodeLen};
+ghost use Rattle.statement.specs.Reading.{opcodeLen, readOf};
 ghost use Rattle.statement.specs.declared.Position.the-variants.{Token};
 ghost use Rattle.statement.specs.Positions.{within, afterComma, afterCommas, operandFrom, afterBracket, nameFrom, operandPlace, namePlace, stopIn, statementColumn, columnOf};
 

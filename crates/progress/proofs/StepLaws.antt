@@ -7,7 +7,7 @@ use native.Mathlib.Omega.{arith}
 use lib.ListN.{length, take, drop}
 use borrow.Author.Tests.{lt-ltb}
 use Rattle.lines.specs.declared.Line as lines
-use Rattle.lines.specs.Sheet.{laid, contentSeen, lineAt}
+use Rattle.lines.specs.Sheet.{Content, laid, contentSeen, lineAt}
 use Rattle.lines.proofs.SheetLaws.{fault-seen, laid-seen, line-seen, line-inside, line-next}
 use Rattle.lines.proofs.SheetTheorems.{read-written, warp-below}
 use Rattle.laws.specs.Rules.{firstBroken}
@@ -15,15 +15,19 @@ use Rattle.statement.specs.declared.Statement.{Statement}
 use Rattle.statement.specs.declared.Reading.{Reading}
 use Rattle.statement.specs.declared.Reading.the-variants.{Got, NoForm, TooLarge}
 use Rattle.statement.specs.Reading.{readOf, reasonOf}
+use Rattle.statement.specs.declared.Position.{Position}
+use Rattle.statement.specs.declared.Position.the-variants.{Token}
+use Rattle.statement.specs.Positions.{columnOf}
 use Rattle.statement.proofs.Readings.{Unread}
 use Rattle.statement.specs.Views.{actOf}
 use Rattle.rules.specs.State.{State, lowest}
-use Rattle.rules.specs.Reasons.{rules}
-use Rattle.rules.specs.Sheet.{Line, badLayout, noForm, tooLarge, statement, lineRules, lineOf, effect, given, requested, released}
+use Rattle.rules.specs.Rows.{rulesOf, firstPosition}
+use Rattle.rules.specs.Reasons.{rows, rules}
+use Rattle.rules.specs.Sheet.{Line, badLayout, noForm, tooLarge, statement, lineRows, lineRules, lineOf, effect, given, requested, released}
 use Rattle.steps.specs.declared.Status.{Status}
 use Rattle.steps.specs.declared.Step.{Step}
 use Rattle.steps.specs.Steps.{Arrays, only, Gives, StatementDone, LineDone}
-use Rattle.progress.specs.Going.{seen, lineSeen}
+use Rattle.progress.specs.Going.{seen, lineSeen, columnIn, columnSeen}
 
 -- a line that is refused for a reason in any state
 only-done : (held : ℕ) (x : Line) (why : ℕ) → ((s : State) → firstBroken (lineRules lowest s held x) ≡ why) → (why ≡ 0 → ⊥)
@@ -51,9 +55,41 @@ unread-done held w (TooLarge at) h a status r e = refused-done held tooLarge 4 (
 
 -- a statement that was read, of a warp below 4
 read-done : (held w : ℕ) (t : Statement) (a : Arrays) (status : Status) (r : Step) (b : Arrays) → w < 4 → StatementDone held w t a status r b → LineDone held (statement w t) a status r b
+unfolding rules
 read-done held w t a status r b h d s k =
-    let q : firstBroken (lineRules lowest s held (statement w t)) ≡ firstBroken (rules lowest s held w t) = ap (λ (x : Bool). cond x (firstBroken (rules lowest s held w t)) 2) (lt-ltb w 4 h) in
+    let q : firstBroken (lineRules lowest s held (statement w t)) ≡ firstBroken (rules lowest s held w t) = ap (λ (x : Bool). cond x (firstBroken (rulesOf (rows lowest s held w t))) 2) (lt-ltb w 4 h) in
     subst (λ (n : ℕ). Gives n (effect lowest s w (actOf t)) (given lowest s (statement w t)) (requested (statement w t)) (released (statement w t)) a status r b) (sym q) (d s k)
+
+-- ---- where a refused line is refused
+-- a text that did not read is, where reading stopped
+unread-token : (s : State) (held w : ℕ) (reading : Reading) → Unread reading → firstPosition (lineRows lowest s held (lineOf w reading)) ≡ Token
+unread-token s held w (Got t) h = absurd (h t refl)
+unread-token s held w (NoForm at) h = refl
+unread-token s held w (TooLarge at) h = refl
+
+pub unread-column : (text : List ℕ) (reading : Reading) → reading ≡ readOf text → Unread reading → (r : ℕ) → r ≡ columnOf text Token
+    → (s : State) (held w : ℕ) → r ≡ columnOf text (firstPosition (lineRows lowest s held (lineOf w (readOf text))))
+unread-column text reading e h r f s held w =
+    f ∙ ap (columnOf text) (sym (unread-token s held w reading h) ∙ ap (λ (x : Reading). firstPosition (lineRows lowest s held (lineOf w x))) e)
+
+-- one that did, where its statement is, being of a warp below 4
+module _ (s : State) (held w : ℕ) (t : Statement) (h : w < 4) where
+  after-warp : (firstBroken (lineRules lowest s held (statement w t)) ≡ firstBroken (rules lowest s held w t))
+      × (firstPosition (lineRows lowest s held (statement w t)) ≡ firstPosition (rows lowest s held w t))
+  unfolding rules
+  after-warp = rw (lt-ltb w 4 h) (refl, refl)
+
+  pub read-column : (text : List ℕ) (reading : Reading) → reading ≡ readOf text → reading ≡ Got t → (reason : ℕ)
+      → reason ≡ firstBroken (lineRules lowest s held (lineOf w (readOf text)))
+      → (p : Position) → (reason ≡ firstBroken (rules lowest s held w t) → p ≡ firstPosition (rows lowest s held w t)) → (r : ℕ) → r ≡ columnOf text p
+      → r ≡ columnOf text (firstPosition (lineRows lowest s held (lineOf w (readOf text))))
+  read-column text reading e g reason n p b r f =
+      let z : lineOf w (readOf text) ≡ statement w t = ap (lineOf w) (sym e ∙ g) in
+      f
+      ∙ ap (columnOf text)
+      (b (n ∙ ap (λ (x : Line). firstBroken (lineRules lowest s held x)) z ∙ after-warp .0)
+      ∙ sym (after-warp .1)
+      ∙ sym (ap (λ (x : Line). firstPosition (lineRows lowest s held x)) z))
 
 module _ (s : List ℕ) (at held : ℕ) (l : lines.Line) (e : l ≡ lineAt s at) where
   abbrev text : List ℕ
@@ -67,6 +103,10 @@ module _ (s : List ℕ) (at held : ℕ) (l : lines.Line) (e : l ≡ lineAt s at)
   fault-done h a status r f =
       let q : badLayout ≡ lineSeen s at = ap seen (sym (fault-seen s l h) ∙ ap (contentSeen s) e) in
       subst (λ (x : Line). LineDone held x a status r a) q (refused-done held badLayout 2 (λ s. refl) (λ z. omega (arith, z)) a status r f)
+
+  -- it is refused at its start, whatever the position
+  pub fault-column : l .ok ≡ false → (p : Position) → 1 ≡ columnSeen s at p
+  fault-column h p = ap (λ (x : Content). columnIn x p) (sym (fault-seen s l h) ∙ ap (contentSeen s) e)
 
   module _ (h : l .ok ≡ true) where
     ok-there : lineAt s at .ok ≡ true
@@ -82,10 +122,17 @@ module _ (s : List ℕ) (at held : ℕ) (l : lines.Line) (e : l ≡ lineAt s at)
     line-is : (reading : Reading) → reading ≡ readOf text → lineOf (l .warp) reading ≡ lineSeen s at
     line-is reading f = ap (lineOf (l .warp)) f ∙ ap seen (sym content-is)
 
-    warp-small : l .warp < 4
+    pub warp-small : l .warp < 4
     warp-small =
         let w = read-written (drop at s) (l .warp) text (sym (line-seen s at) ∙ content-is) in
         omega (arith, w .names, warp-below (w .mark) (w .marks))
+
+    -- its column is that of its text
+    pub part-column : (state : State) (n : ℕ) (why : ℕ) (r : ℕ)
+        → (why ≡ firstBroken (lineRules lowest state n (lineOf (l .warp) (readOf text))) → r ≡ columnOf text (firstPosition (lineRows lowest state n (lineOf (l .warp) (readOf text)))))
+        → why ≡ firstBroken (lineRules lowest state n (lineSeen s at)) → r ≡ columnSeen s at (firstPosition (lineRows lowest state n (lineSeen s at)))
+    part-column state n why r =
+        subst (λ (x : Content). (why ≡ firstBroken (lineRules lowest state n (seen x)) → r ≡ columnIn x (firstPosition (lineRows lowest state n (seen x))))) (sym content-is)
 
     module _ (reading : Reading) (f : reading ≡ readOf text) where
       -- its statement did not read

@@ -6,9 +6,15 @@ use mathlib.Core.List.{List}
 use lib.Dec.{eqb}
 use lib.ListN.{length}
 use lib.Seq.{sets}
+use Rattle.laws.specs.Rules.{firstBroken}
+use Rattle.statement.specs.declared.Position.{Position}
 use Rattle.statement.specs.Reading.{readOf}
+use Rattle.statement.specs.Positions.{startColumn, columnOf}
 use Rattle.lines.specs.Sheet.{Content, fault, mostLines, laid, contentSeen, lineAt}
-use Rattle.rules.specs.Sheet.{Line, badLayout, lineOf, heldAfter, peakUpTo, ours, reasonBy, stateAfter, startsUpTo}
+use Rattle.rules.specs.State.{State, lowest}
+use Rattle.rules.specs.Rows.{firstPosition}
+use Rattle.rules.specs.Sheet.{Line, badLayout, lineOf, lineRows, lineRules, heldAfter, peakUpTo, ours, reasonBy, positionBy, stateAfter, startsUpTo}
+use Rattle.checks.specs.Tables.{Tables}
 use Rattle.steps.specs.declared.Step.{Step}
 use Rattle.steps.specs.Steps.{Arrays, Kept}
 use Rattle.progress.specs.declared.Progress.{Progress}
@@ -22,6 +28,27 @@ seen (laid warp text) = lineOf warp (readOf text)
 -- the line that starts at a place
 abbrev pub lineSeen : List ℕ → ℕ → Line
 lineSeen s at = seen (contentSeen s (lineAt s at))
+
+-- the column of a position in a line; one whose layout is wrong has its start alone
+abbrev pub columnIn : Content → Position → ℕ
+columnIn fault p = startColumn
+columnIn (laid warp text) p = columnOf text p
+
+abbrev pub columnSeen : List ℕ → ℕ → Position → ℕ
+columnSeen s at = columnIn (contentSeen s (lineAt s at))
+
+-- ---- where a refused line is refused, in every state that the tables lent hold, whatever is held
+-- in the line of a text, of any warp
+abbrev pub TextBlamed : List ℕ → (hi lo columns valueHi valueLo numbers widths : List ℕ) → (reason : ℕ) → ℕ → Type 0
+TextBlamed text hi lo columns valueHi valueLo numbers widths reason r =
+    (s : State) (held w : ℕ) → Tables hi lo columns valueHi valueLo numbers widths s → w < 4 → 0 < reason
+    → reason ≡ firstBroken (lineRules lowest s held (lineOf w (readOf text))) → r ≡ columnOf text (firstPosition (lineRows lowest s held (lineOf w (readOf text))))
+
+-- in the line that starts at a place of a sheet
+abbrev pub LineBlamed : List ℕ → ℕ → (hi lo columns valueHi valueLo numbers widths : List ℕ) → (reason : ℕ) → ℕ → Type 0
+LineBlamed sheet at hi lo columns valueHi valueLo numbers widths reason r =
+    (s : State) (held : ℕ) → Tables hi lo columns valueHi valueLo numbers widths s → 0 < reason
+    → reason ≡ firstBroken (lineRules lowest s held (lineSeen sheet at)) → r ≡ columnSeen sheet at (firstPosition (lineRows lowest s held (lineSeen sheet at)))
 
 -- after line 1: no warp is fixed, nothing is relinquished, and nothing was asked for
 abbrev pub opening : Progress
@@ -70,15 +97,16 @@ pub record Small (p : Progress) (r : Step) : Type 0 where
   pub held : p .held + r .asked < 2 ^ 32
   pub returned : r .returned ≤ p .held + r .asked
 
--- what the line after k lines gives
-pub record Next (lines : ℕ → Line) (k : ℕ) (first given : List ℕ) (a : Arrays) (p : Progress) (r : Advanced) (nextGiven : List ℕ) (next : Arrays) : Type 0 where
+-- what the line after k lines gives, by the columns of its positions
+pub record Next (lines : ℕ → Line) (k : ℕ) (column : Position → ℕ) (first given : List ℕ) (a : Arrays) (p : Progress) (r : Advanced) (nextGiven : List ℕ) (next : Arrays) : Type 0 where
   pub reasons : r .reason ≡ reasonBy ours lines k
   -- accepted: one line more is done
   pub goes-on : r .reason ≡ 0 → Going lines (suc k) first nextGiven next (r .progress)
-  -- refused: nothing changes but the line's number
+  -- refused: it has the column of its position, and nothing changes but the line's number
+  pub points : (r .reason ≡ 0 → ⊥) → r .column ≡ column (positionBy ours lines k)
   pub stops : (r .reason ≡ 0 → ⊥) → (r .progress ≡ passedBy p) × ((nextGiven ≡ given) × (next ≡ a))
 
 -- that, of the line x wherever it comes next
-abbrev pub Went : Line → List ℕ → Arrays → Progress → Advanced → List ℕ → Arrays → Type 0
-Went x given a p r nextGiven next =
-    (lines : ℕ → Line) (k : ℕ) (first : List ℕ) → Going lines k first given a p → lines k ≡ x → Next lines k first given a p r nextGiven next
+abbrev pub Went : Line → (column : Position → ℕ) → List ℕ → Arrays → Progress → Advanced → List ℕ → Arrays → Type 0
+Went x column given a p r nextGiven next =
+    (lines : ℕ → Line) (k : ℕ) (first : List ℕ) → Going lines k first given a p → lines k ≡ x → Next lines k column first given a p r nextGiven next

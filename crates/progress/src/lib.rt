@@ -9,7 +9,7 @@ ghost use lib.Dec.{eqb};
 ghost use lib.ListN.{length, set};
 ghost use Rattle.lines.specs.Sheet.{mostLines, lineAt};
 ghost use Rattle.steps.specs.Steps.{arraysNow, arraysIn, arraysOut, only, Sized, LineDone};
-ghost use Rattle.progress.specs.Going.{opening, lineSeen, passedBy, countedOf, Small, Ready, Went};
+ghost use Rattle.progress.specs.Going.{opening, lineSeen, columnSeen, TextBlamed, LineBlamed, passedBy, countedOf, Small, Ready, Went};
 
 // What is known after some accepted lines, beside the arrays and the starts: what is kept, the requests, the columns held and
 // the most that were, and how many lines there are.
@@ -21,10 +21,11 @@ pub struct Progress {
     pub line: usize,
 }
 
-// One line more: its reason, or 0, and where the next line starts.
+// One line more: its reason, or 0, the column of a line that is refused, and where the next line starts.
 pub struct Advanced {
     pub progress: Progress,
     pub reason: u32,
+    pub column: usize,
     pub next: usize,
 }
 
@@ -182,6 +183,72 @@ fn passed_by(p: Progress) -> Progress
     }
 }
 
+// Where a text is refused for a reason: where reading stopped, or what the reason of its statement points at.
+fn text_column<'a>(
+    text: &[u8],
+    hi: &'a [u64; 16],
+    lo: &'a [u64; 16],
+    columns: &'a [u16; 16],
+    value_hi: &'a [u64; 128],
+    value_lo: &'a [u64; 128],
+    numbers: &'a [u64; 128],
+    widths: &'a [u8; 128],
+    reason: u32,
+) -> usize
+    ensures { λ r. ⌜ TextBlamed (now (text .entry)) (now (hi .entry)) (now (lo .entry)) (now (columns .entry)) (now («value_hi» .entry)) (now («value_lo» .entry)) (now (numbers .entry)) (now (widths .entry)) reason r ⌝ }
+{
+    let reading = reader::read(text);
+    let Reading::Got(t) = reading else {
+        return places::stopped(text, reading);
+    };
+    let p = blame::position(
+        hi,
+        lo,
+        columns,
+        value_hi,
+        value_lo,
+        numbers,
+        widths,
+        t,
+        reason,
+    );
+    places::column(text, p)
+}
+
+// Where the line that starts at a place is refused for a reason.
+fn line_column<'a>(
+    sheet: &[u8],
+    at: usize,
+    hi: &'a [u64; 16],
+    lo: &'a [u64; 16],
+    columns: &'a [u16; 16],
+    value_hi: &'a [u64; 128],
+    value_lo: &'a [u64; 128],
+    numbers: &'a [u64; 128],
+    widths: &'a [u8; 128],
+    reason: u32,
+) -> usize
+    ensures { λ r. ⌜ LineBlamed (now (sheet .entry)) at (now (hi .entry)) (now (lo .entry)) (now (columns .entry)) (now («value_hi» .entry)) (now («value_lo» .entry)) (now (numbers .entry)) (now (widths .entry)) reason r ⌝ }
+{
+    let line = lines::line_at(sheet, at);
+    if !line.ok {
+        return 1;
+    }
+    let start = line.start;
+    let end = line.end;
+    text_column(
+        &sheet[start..end],
+        hi,
+        lo,
+        columns,
+        value_hi,
+        value_lo,
+        numbers,
+        widths,
+        reason,
+    )
+}
+
 // The line that starts at a place: judged and booked, its start put, and counted. A refused line changes its number alone.
 pub fn advance(
     sheet: &[u8],
@@ -197,7 +264,7 @@ pub fn advance(
     p: Progress,
 ) -> Advanced
     requires { ⌜ Ready (lineSeen (now sheet) at) (now given) (arraysNow hi lo columns «value_hi» «value_lo» numbers widths) p ⌝ }
-    ensures went { λ r. ⌜ Went (lineSeen (now (sheet .entry)) at) (now (given .entry)) (arraysIn hi lo columns «value_hi» «value_lo» numbers widths) p r (now (given .exit))
+    ensures went { λ r. ⌜ Went (lineSeen (now (sheet .entry)) at) (columnSeen (now (sheet .entry)) at) (now (given .entry)) (arraysIn hi lo columns «value_hi» «value_lo» numbers widths) p r (now (given .exit))
         (arraysOut hi lo columns «value_hi» «value_lo» numbers widths) ⌝ }
     ensures next { λ r. ⌜ r .next ≡ lineAt (now (sheet .entry)) at .next ⌝ }
 {
@@ -218,10 +285,23 @@ pub fn advance(
     let step = done.step;
     let reason = step.reason;
     if reason != reasons::PASSED {
+        let column = line_column(
+            sheet,
+            at,
+            hi,
+            lo,
+            columns,
+            value_hi,
+            value_lo,
+            numbers,
+            widths,
+            reason,
+        );
         let progress = passed_by(p);
         return Advanced {
             progress,
             reason,
+            column,
             next: done.next,
         };
     }
@@ -230,6 +310,7 @@ pub fn advance(
     Advanced {
         progress,
         reason: reasons::PASSED,
+        column: 0,
         next: done.next,
     }
 }
