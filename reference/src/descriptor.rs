@@ -5,8 +5,12 @@
 pub const BAD_REQUEST: u32 = 9;
 /// A word without a reading, or fields that cannot be encoded.
 pub const NO_READING: u32 = 12;
-/// A word that reads, but whose shape or types are not in the lists.
+/// A word that reads, but whose M is not in the lists.
 pub const NOT_LISTED: u32 = 13;
+/// Its M is, but its N is not.
+pub const N_NOT_LISTED: u32 = 20;
+/// Its M and N are, but its types are not.
+pub const TYPES_NOT_LISTED: u32 = 21;
 
 /// The kinds of mma, in the order in which the rules list them.
 #[derive(Clone, Copy, PartialEq, Eq, Debug)]
@@ -252,16 +256,18 @@ pub fn listing(kind: Kind, ws: bool, _sp: bool, d: &Instruction) -> u32 {
     }
 }
 
-/// 0 when shape and types are listed, else 13.
+/// 0 when shape and types are listed, else 13 for M, 20 for N, 21 for types.
 pub fn listed(kind: Kind, ws: bool, sp: bool, d: &Instruction) -> u32 {
-    if listing(kind, ws, sp, d) == 0 {
-        0
-    } else {
-        NOT_LISTED
+    match listing(kind, ws, sp, d) {
+        0 => 0,
+        1 => NOT_LISTED,
+        2 => N_NOT_LISTED,
+        _ => TYPES_NOT_LISTED,
     }
 }
 
-/// 12 when the word has no reading, 13 when it reads but is not listed, else 0.
+/// 12 when the word has no reading; 13, 20 or 21 when it reads but is not
+/// listed; else 0.
 pub fn judge_word(kind: Kind, ws: bool, sp: bool, word: u32) -> u32 {
     match decode_instruction(kind, ws, sp, word) {
         Ok(d) => listed(kind, ws, sp, &d),

@@ -3,7 +3,8 @@
 //! Lines are written in a short hand. `|` stands for the tab behind the warp
 //! field, and `@` opens a short opcode: `@alloc`, `@dealloc`, `@relinquish`,
 //! `@ld(32x32b.x1)`, `@st(16x64b.x2)`, `@wait::ld`, `@mma.ws.sp(f16)`. `{#5}` is a
-//! list of five names.
+//! list of five names. A `^` stands before the byte that a refusal points at and is
+//! itself no byte of the sheet.
 
 use crate::sheet::HEADER;
 
@@ -16,8 +17,8 @@ pub struct Entry {
     pub sheet: Vec<u8>,
     /// How long a list is lent.
     pub places: usize,
-    /// Reason, line, held, peak.
-    pub answer: [u32; 4],
+    /// Reason, line, column, held, peak.
+    pub answer: [u32; 5],
     /// What the front of the list holds afterwards. The rest is untouched.
     pub starts: Vec<u16>,
 }
@@ -55,25 +56,50 @@ struct Entries {
 }
 
 impl Entries {
-    /// A refused sheet: the lines behind a good first one.
+    /// A refused sheet: the lines behind a good first one, with reason, line, held
+    /// and peak. The column is that of the `^`, or one that goes by the reason.
     fn refused<S: AsRef<str>>(&mut self, name: &str, lines: &[S], answer: [u32; 4]) {
-        self.raw(name, sheet(lines), answer, &[]);
+        let [reason, line, held, peak] = answer;
+        let marked = lines.get((line as usize).wrapping_sub(2)).and_then(|line| long(line.as_ref()).find('^'));
+        let column = marked.map_or_else(|| plain_column(reason), |place| place as u32 + 1);
+        self.add(name, sheet(&unmarked(lines)), PLACES, [reason, line, column, held, peak], &[]);
     }
 
     /// A passed sheet with its peak and starts.
     fn passed<S: AsRef<str>>(&mut self, name: &str, lines: &[S], peak: u32, starts: &[u16]) {
         let last = lines.len() as u32 + 1;
-        self.raw(name, sheet(lines), [0, last, 0, peak], starts);
+        self.raw(name, sheet(&unmarked(lines)), [0, last, 0, peak], starts);
     }
 
+    /// For reasons whose column goes by the reason alone.
     fn raw(&mut self, name: &str, sheet: Vec<u8>, answer: [u32; 4], starts: &[u16]) {
         self.lent(name, sheet, PLACES, answer, starts);
     }
 
     fn lent(&mut self, name: &str, sheet: Vec<u8>, places: usize, answer: [u32; 4], starts: &[u16]) {
+        let [reason, line, held, peak] = answer;
+        self.add(name, sheet, places, [reason, line, plain_column(reason), held, peak], starts);
+    }
+
+    fn add(&mut self, name: &str, sheet: Vec<u8>, places: usize, answer: [u32; 5], starts: &[u16]) {
         let starts = starts.to_vec();
         self.list.push(Entry { name: name.into(), sheet, places, answer, starts });
     }
+}
+
+/// The column where it goes by the reason alone.
+fn plain_column(reason: u32) -> u32 {
+    match reason {
+        0 | 1 => 0,
+        2 | 15 | 16 => 1,
+        5 | 10 | 11 => 3,
+        _ => panic!("reason {reason} needs a mark"),
+    }
+}
+
+/// The lines without the `^`.
+fn unmarked<S: AsRef<str>>(lines: &[S]) -> Vec<String> {
+    lines.iter().map(|line| line.as_ref().replace('^', "")).collect()
 }
 
 /// A sheet with a good first line and an LF behind each line.
@@ -190,7 +216,7 @@ fn worked_examples(e: &mut Entries) {
     e.passed("fragments-filled", &all, 512, &starts);
     let inside = ["0|@alloc [t], 64;", "0|@ld(32x32b.x64) {#64}, [t];", "0|@dealloc t, 64;", "0|exit;"];
     e.passed("access-fills-holding", &inside, 64, &[0]);
-    let outside = ["0|@alloc [t], 64;", "0|@ld(32x32b.x64) {#64}, [t+1];"];
+    let outside = ["0|@alloc [t], 64;", "0|@ld(32x32b.x64) {#64}, ^[t+1];"];
     e.refused("access-one-past", &outside, [14, 3, 64, 64]);
     e.refused::<&str>("header-alone", &[], [15, 1, 0, 0]);
     e.passed("header-and-exit", &["0|exit;"], 0, &[]);
@@ -199,24 +225,24 @@ fn worked_examples(e: &mut Entries) {
 fn slips(e: &mut Entries) {
     // an address is not cut down to the memory
     let whole = "0|@alloc [t], 512;";
-    e.refused("column-512-not-masked", &[whole, "0|@ld(32x32b.x1) {r}, [t+512];"], [14, 3, 512, 512]);
-    e.refused("column-65535-not-masked", &[whole, "0|@ld(32x32b.x1) {r}, [t+65535];"], [14, 3, 512, 512]);
-    e.refused("lane-128-not-masked", &[whole, "0|@ld(32x32b.x1) {r}, [t+8388608];"], [8, 3, 512, 512]);
-    e.refused("lane-65535-not-masked", &[whole, "0|@ld(32x32b.x1) {r}, [t+0xffff0000];"], [8, 3, 512, 512]);
-    e.refused("lane-65535-mma", &with_mma("@mma(f16)", "[t+0xffff0000], a, b, i, p"), [14, 6, 512, 512]);
+    e.refused("column-512-not-masked", &[whole, "0|@ld(32x32b.x1) {r}, ^[t+512];"], [14, 3, 512, 512]);
+    e.refused("column-65535-not-masked", &[whole, "0|@ld(32x32b.x1) {r}, ^[t+65535];"], [14, 3, 512, 512]);
+    e.refused("lane-128-not-masked", &[whole, "0|@ld(32x32b.x1) {r}, ^[t+8388608];"], [8, 3, 512, 512]);
+    e.refused("lane-65535-not-masked", &[whole, "0|@ld(32x32b.x1) {r}, ^[t+0xffff0000];"], [8, 3, 512, 512]);
+    e.refused("lane-65535-mma", &with_mma("@mma(f16)", "^[t+0xffff0000], a, b, i, p"), [14, 6, 512, 512]);
     // an offset of 2 is column 2, not lane 2
     let small = ["0|@alloc [t], 32;", "0|@ld(32x32b.x1) {r}, [t+2];", "0|@dealloc t, 32;", "0|exit;"];
     e.passed("offset-2-is-a-column", &small, 32, &[0]);
-    let second = ["0|@alloc [t], 32;", "2|@ld(32x32b.x1) {r}, [t+2];"];
+    let second = ["0|@alloc [t], 32;", "2|@ld(32x32b.x1) {r}, ^[t+2];"];
     e.refused("offset-2-is-no-lane", &second, [8, 3, 32, 32]);
-    let lane_two = ["0|@alloc [t], 32;", "0|@ld(32x32b.x1) {r}, [t+131072];"];
+    let lane_two = ["0|@alloc [t], 32;", "0|@ld(32x32b.x1) {r}, ^[t+131072];"];
     e.refused("lane-2-is-no-warps", &lane_two, [8, 3, 32, 32]);
     // decimals with a zero in front
-    e.refused("alloc-064", &["0|@alloc [t], 064;"], [3, 2, 0, 0]);
-    e.refused("dealloc-064", &["0|@alloc [t], 64;", "0|@dealloc t, 064;"], [3, 3, 64, 64]);
+    e.refused("alloc-064", &["0|@alloc [t], ^064;"], [3, 2, 0, 0]);
+    e.refused("dealloc-064", &["0|@alloc [t], 64;", "0|@dealloc t, ^064;"], [3, 3, 64, 64]);
     // a part is not given back
-    e.refused("dealloc-part", &["0|@alloc [t], 64;", "0|@dealloc t, 32;"], [9, 3, 64, 64]);
-    e.refused("dealloc-more", &["0|@alloc [t], 64;", "0|@dealloc t, 128;"], [9, 3, 64, 64]);
+    e.refused("dealloc-part", &["0|@alloc [t], 64;", "0|@dealloc t, ^32;"], [9, 3, 64, 64]);
+    e.refused("dealloc-more", &["0|@alloc [t], 64;", "0|@dealloc t, ^128;"], [9, 3, 64, 64]);
     // one holding is left behind
     let mut lines: Vec<String> = (0..4).map(|i| format!("0|@alloc [t{i}], 128;")).collect();
     lines.extend((0..3).map(|i| format!("0|@dealloc t{i}, 128;")));
@@ -248,7 +274,7 @@ fn sheet_limits(e: &mut Entries) {
     e.passed("line-2048", &[&long_exit(2_048)], 0, &[]);
     e.refused("line-2049", &[&long_exit(2_049)], [2, 2, 0, 0]);
     e.refused("line-2049-after-alloc", &["0|@alloc [t], 32;", &long_exit(2_049)], [2, 3, 32, 32]);
-    let longest = format!("0|mov.b32 x, {};", "9".repeat(2_048 - "0|mov.b32 x, ;".len()));
+    let longest = format!("0|mov.b32 x, ^{};", "9".repeat(2_048 - "0|mov.b32 x, ;".len()));
     e.refused("line-2048-of-digits", &[&longest], [4, 2, 0, 0]);
     let longer = format!("0|mov.b32 x, {};", "9".repeat(2_049 - "0|mov.b32 x, ;".len()));
     e.refused("line-2049-of-digits", &[&longer], [2, 2, 0, 0]);
@@ -301,7 +327,7 @@ fn layout(e: &mut Entries) {
         e.refused(name, &[line], [2, 2, 0, 0]);
         e.refused(&format!("{name}-after-alloc"), &["0|@alloc [t], 32;", line], [2, 3, 32, 32]);
     }
-    e.refused("layout-byte-126", &["0|exit~;"], [3, 2, 0, 0]);
+    e.refused("layout-byte-126", &["0|exit^~;"], [3, 2, 0, 0]);
     let mut high = sheet::<&str>(&[]);
     high.extend_from_slice(b"0\texit\xa0;\n");
     e.raw("layout-byte-160", high, [2, 2, 0, 0], &[]);
@@ -321,8 +347,8 @@ fn layout(e: &mut Entries) {
         e.raw(name, before, [2, 3, 32, 32], &[]);
     }
     e.refused("empty-line-after-exit", &["0|exit;", ""], [2, 3, 0, 0]);
-    e.refused("empty-statement", &["0|"], [3, 2, 0, 0]);
-    e.refused("spaces-for-statement", &["0|   "], [3, 2, 0, 0]);
+    e.refused("empty-statement", &["0|^"], [3, 2, 0, 0]);
+    e.refused("spaces-for-statement", &["0|^   "], [3, 2, 0, 0]);
 }
 
 fn tokens(e: &mut Entries) {
@@ -339,28 +365,28 @@ fn tokens(e: &mut Entries) {
     e.passed("spaces-at-each-token", &["0|@alloc [t], 32;", spaced, "0|@dealloc t, 32;", "0|exit ;"], 32, &[0]);
     e.passed("exit-and-spaces", &["0|exit     ;"], 0, &[]);
     let mut three = |name: &str, line: &str| e.refused(name, &[line], [3, 2, 0, 0]);
-    three("opcode-runs-into-name", "0|mov.b32_x,1;");
-    three("space-before-opcode", "0| exit;");
-    three("space-after-end", "0|exit; ");
-    three("upper-case-opcode", "0|EXIT;");
-    three("name-of-17", "0|mov.b32 abcdefghijklmnopq, 1;");
-    three("name-of-17-percent", "0|mov.b32 %bcdefghijklmnopq, 1;");
-    three("name-two-percents", "0|mov.b32 %%, 1;");
-    three("name-line-percent", "0|mov.b32 _%, 1;");
-    three("name-inner-percent", "0|mov.b32 a%, 1;");
-    three("name-line-alone", "0|mov.b32 _, 1;");
-    three("name-dollar-alone", "0|mov.b32 $, 1;");
-    three("name-percent-alone", "0|mov.b32 %, 1;");
-    three("name-digit-first", "0|mov.b32 1x, 1;");
-    three("number-and-letters", "0|mov.b32 x, 64abc;");
-    three("two-statements", "0|exit; exit;");
-    three("two-ends", "0|exit;;");
-    three("no-end", "0|exit");
-    three("comment", "0|exit; // end");
-    three("guard", "0|@p exit;");
-    three("label", "0|l: exit;");
-    three("missing-comma", "0|mov.b32 x 1;");
-    three("comma-too-many", "0|mov.b32 x,, 1;");
+    three("opcode-runs-into-name", "0|^mov.b32_x,1;");
+    three("space-before-opcode", "0|^ exit;");
+    three("space-after-end", "0|exit;^ ");
+    three("upper-case-opcode", "0|^EXIT;");
+    three("name-of-17", "0|mov.b32 ^abcdefghijklmnopq, 1;");
+    three("name-of-17-percent", "0|mov.b32 ^%bcdefghijklmnopq, 1;");
+    three("name-two-percents", "0|mov.b32 ^%%, 1;");
+    three("name-line-percent", "0|mov.b32 ^_%, 1;");
+    three("name-inner-percent", "0|mov.b32 a^%, 1;");
+    three("name-line-alone", "0|mov.b32 ^_, 1;");
+    three("name-dollar-alone", "0|mov.b32 ^$, 1;");
+    three("name-percent-alone", "0|mov.b32 ^%, 1;");
+    three("name-digit-first", "0|mov.b32 ^1x, 1;");
+    three("number-and-letters", "0|mov.b32 x, ^64abc;");
+    three("two-statements", "0|exit;^ exit;");
+    three("two-ends", "0|exit;^;");
+    three("no-end", "0|exit^");
+    three("comment", "0|exit;^ // end");
+    three("guard", "0|^@p exit;");
+    three("label", "0|^l: exit;");
+    three("missing-comma", "0|mov.b32 x ^1;");
+    three("comma-too-many", "0|mov.b32 x,^, 1;");
 }
 
 fn numbers(e: &mut Entries) {
@@ -373,67 +399,67 @@ fn numbers(e: &mut Entries) {
     reads("hex-with-zeros", "0|mov.b32 x, 0X00fF;");
     reads("hex-with-900-zeros", &format!("0|mov.b32 x, 0x{}1;", "0".repeat(900)));
     let mut four = |name: &str, line: &str| e.refused(name, &[line], [4, 2, 0, 0]);
-    four("mov32-over", "0|mov.b32 x, 4294967296;");
-    four("mov32-over-hex", "0|mov.b32 x, 0x100000000;");
-    four("mov64-over", "0|mov.b64 x, 18446744073709551616;");
-    four("mov64-over-hex", "0|mov.b64 x, 0x10000000000000000;");
-    four("number-of-900-nines", &format!("0|mov.b64 x, {};", "9".repeat(900)));
-    four("alloc-over", "0|@alloc [t], 4294967296;");
-    four("dealloc-over", "0|@dealloc t, 4294967296;");
-    four("offset-over", "0|@ld(32x32b.x1) {r}, [t+4294967296];");
-    four("offset-over-mma", "0|@mma(f16) [t+4294967296], a, b, i, p;");
-    four("offset-over-2-to-64", "0|@st(32x32b.x1) [t+18446744073709551616], {r};");
+    four("mov32-over", "0|mov.b32 x, ^4294967296;");
+    four("mov32-over-hex", "0|mov.b32 x, ^0x100000000;");
+    four("mov64-over", "0|mov.b64 x, ^18446744073709551616;");
+    four("mov64-over-hex", "0|mov.b64 x, ^0x10000000000000000;");
+    four("number-of-900-nines", &format!("0|mov.b64 x, ^{};", "9".repeat(900)));
+    four("alloc-over", "0|@alloc [t], ^4294967296;");
+    four("dealloc-over", "0|@dealloc t, ^4294967296;");
+    four("offset-over", "0|@ld(32x32b.x1) {r}, [t+^4294967296];");
+    four("offset-over-mma", "0|@mma(f16) [t+^4294967296], a, b, i, p;");
+    four("offset-over-2-to-64", "0|@st(32x32b.x1) [t+^18446744073709551616], {r};");
     let mut three = |name: &str, line: &str| e.refused(name, &[line], [3, 2, 0, 0]);
-    three("over-without-end", "0|mov.b32 x, 4294967296");
-    three("over-with-two-ends", "0|mov.b32 x, 4294967296;;");
-    three("number-064", "0|mov.b32 x, 064;");
-    three("number-00", "0|mov.b32 x, 00;");
-    three("number-01", "0|mov.b32 x, 01;");
-    three("number-0x", "0|mov.b32 x, 0x;");
-    three("number-0x1g", "0|mov.b32 x, 0x1g;");
-    three("number-64U", "0|mov.b32 x, 64U;");
-    three("number-0b1", "0|mov.b32 x, 0b1;");
-    three("number-minus", "0|mov.b32 x, -1;");
-    three("number-plus", "0|mov.b32 x, +1;");
-    e.refused("alloc-largest-number", &["0|@alloc [t], 4294967295;"], [9, 2, 0, 0]);
+    three("over-without-end", "0|mov.b32 x, 4294967296^");
+    three("over-with-two-ends", "0|mov.b32 x, 4294967296;^;");
+    three("number-064", "0|mov.b32 x, ^064;");
+    three("number-00", "0|mov.b32 x, ^00;");
+    three("number-01", "0|mov.b32 x, ^01;");
+    three("number-0x", "0|mov.b32 x, ^0x;");
+    three("number-0x1g", "0|mov.b32 x, ^0x1g;");
+    three("number-64U", "0|mov.b32 x, ^64U;");
+    three("number-0b1", "0|mov.b32 x, ^0b1;");
+    three("number-minus", "0|mov.b32 x, ^-1;");
+    three("number-plus", "0|mov.b32 x, ^+1;");
+    e.refused("alloc-largest-number", &["0|@alloc [t], ^4294967295;"], [9, 2, 0, 0]);
     e.passed("alloc-hex", &["0|@alloc [t], 0x40;", "0|@dealloc t, 0X040;", "0|exit;"], 64, &[0]);
 }
 
 fn forms(e: &mut Entries) {
     let mut three = |name: &str, line: &str| e.refused(name, &[line], [3, 2, 0, 0]);
-    three("alloc-with-offset", "0|@alloc [t+0], 32;");
-    three("alloc-without-brackets", "0|@alloc t, 32;");
-    three("dealloc-with-brackets", "0|@dealloc [t], 32;");
-    three("num-3", "0|@ld(32x32b.x3) {#3}, [t];");
-    three("num-256", "0|@ld(32x32b.x256) {#128}, [t];");
-    three("num-01", "0|@ld(32x32b.x01) {r}, [t];");
-    three("num-over", "0|@ld(32x32b.x99999999999) {r}, [t];");
-    three("num-0", "0|@ld(32x32b.x0) {r}, [t];");
-    three("shape-16x32bx2", "0|@ld(16x32bx2.x1) {r}, [t];");
-    three("shape-32x64b", "0|@ld(32x64b.x1) {r}, [t];");
-    three("pack", "0|tcgen05.ld.sync.aligned.32x32b.x1.pack::16b.b32 {r}, [t];");
-    three("sp-before-ws", "0|@mma.sp.ws(f16) [t], a, b, [m], i, p;");
-    three("ws-twice", "0|@mma.ws.ws(f16) [t], a, b, i, p;");
-    three("shared-cta-misplaced", "0|tcgen05.alloc.cta_group::1.shared::cta.sync.aligned.b32 [t], 32;");
-    three("shared-cta-twice", "0|tcgen05.alloc.cta_group::1.sync.aligned.shared::cta.shared::cta.b32 [t], 32;");
-    three("shared-cta-in-dealloc", "0|tcgen05.dealloc.cta_group::1.sync.aligned.shared::cta.b32 t, 32;");
-    three("cta-group-2", "0|tcgen05.alloc.cta_group::2.sync.aligned.b32 [t], 32;");
-    three("kind-mxf4", "0|@mma(mxf4) [t], a, b, i, p;");
-    three("cp", "0|tcgen05.cp.cta_group::1.128x256b [t], s;");
-    three("shift", "0|tcgen05.shift.cta_group::1.down [t];");
-    three("commit", "0|tcgen05.commit.cta_group::1.mbarrier::arrive::one.b64 [m];");
-    three("branch", "0|bra l;");
-    three("mma-sp-without-meta", "0|@mma.sp(f16) [t], a, b, i, p;");
-    three("mma-dense-with-meta", "0|@mma(f16) [t], a, b, [m], i, p;");
-    three("mma-b-address", "0|@mma(f16) [t], a, [b], i, p;");
-    three("mma-without-predicate", "0|@mma(f16) [t], a, b, i;");
-    three("ld-operands-turned", "0|@ld(32x32b.x1) [t], {r};");
-    three("st-operands-turned", "0|@st(32x32b.x1) {r}, [t];");
-    three("exit-with-operand", "0|exit x;");
-    three("list-of-none", "0|@ld(32x32b.x1) {}, [t];");
-    three("list-of-129", "0|@ld(32x32b.x128) {#129}, [t];");
-    three("list-name-of-17", "0|@ld(32x32b.x1) {rrrrrrrrrrrrrrrrr}, [t];");
-    three("mov-b16", "0|mov.b16 x, 1;");
+    three("alloc-with-offset", "0|@alloc [t^+0], 32;");
+    three("alloc-without-brackets", "0|@alloc ^t, 32;");
+    three("dealloc-with-brackets", "0|@dealloc ^[t], 32;");
+    three("num-3", "0|^@ld(32x32b.x3) {#3}, [t];");
+    three("num-256", "0|^@ld(32x32b.x256) {#128}, [t];");
+    three("num-01", "0|^@ld(32x32b.x01) {r}, [t];");
+    three("num-over", "0|^@ld(32x32b.x99999999999) {r}, [t];");
+    three("num-0", "0|^@ld(32x32b.x0) {r}, [t];");
+    three("shape-16x32bx2", "0|^@ld(16x32bx2.x1) {r}, [t];");
+    three("shape-32x64b", "0|^@ld(32x64b.x1) {r}, [t];");
+    three("pack", "0|^tcgen05.ld.sync.aligned.32x32b.x1.pack::16b.b32 {r}, [t];");
+    three("sp-before-ws", "0|^@mma.sp.ws(f16) [t], a, b, [m], i, p;");
+    three("ws-twice", "0|^@mma.ws.ws(f16) [t], a, b, i, p;");
+    three("shared-cta-misplaced", "0|^tcgen05.alloc.cta_group::1.shared::cta.sync.aligned.b32 [t], 32;");
+    three("shared-cta-twice", "0|^tcgen05.alloc.cta_group::1.sync.aligned.shared::cta.shared::cta.b32 [t], 32;");
+    three("shared-cta-in-dealloc", "0|^tcgen05.dealloc.cta_group::1.sync.aligned.shared::cta.b32 t, 32;");
+    three("cta-group-2", "0|^tcgen05.alloc.cta_group::2.sync.aligned.b32 [t], 32;");
+    three("kind-mxf4", "0|^@mma(mxf4) [t], a, b, i, p;");
+    three("cp", "0|^tcgen05.cp.cta_group::1.128x256b [t], s;");
+    three("shift", "0|^tcgen05.shift.cta_group::1.down [t];");
+    three("commit", "0|^tcgen05.commit.cta_group::1.mbarrier::arrive::one.b64 [m];");
+    three("branch", "0|^bra l;");
+    three("mma-sp-without-meta", "0|@mma.sp(f16) [t], a, b, ^i, p;");
+    three("mma-dense-with-meta", "0|@mma(f16) [t], a, b, ^[m], i, p;");
+    three("mma-b-address", "0|@mma(f16) [t], a, ^[b], i, p;");
+    three("mma-without-predicate", "0|@mma(f16) [t], a, b, i^;");
+    three("ld-operands-turned", "0|@ld(32x32b.x1) ^[t], {r};");
+    three("st-operands-turned", "0|@st(32x32b.x1) ^{r}, [t];");
+    three("exit-with-operand", "0|exit ^x;");
+    three("list-of-none", "0|@ld(32x32b.x1) {^}, [t];");
+    three("list-of-129", &long("0|@ld(32x32b.x128) {#129}, [t];").replace(", r128", "^, r128"));
+    three("list-name-of-17", "0|@ld(32x32b.x1) {^rrrrrrrrrrrrrrrrr}, [t];");
+    three("mov-b16", "0|^mov.b16 x, 1;");
     e.passed(
         "shared-cta",
         &["0|tcgen05.alloc.cta_group::1.sync.aligned.shared::cta.b32 [t], 32;", "0|@dealloc t, 32;", "0|exit;"],
@@ -473,23 +499,23 @@ fn register_lists(e: &mut Entries) {
 
 fn names_bound(e: &mut Entries) {
     let a32 = "0|@alloc [t], 32;";
-    e.refused("alloc-live-name", &[a32, a32], [6, 3, 32, 32]);
-    e.refused("alloc-value-name", &["0|mov.b32 t, 1;", a32], [6, 3, 0, 0]);
-    e.refused("mov-live-name", &[a32, "0|mov.b64 t, 1;"], [6, 3, 32, 32]);
-    e.refused("dealloc-unbound", &["0|@dealloc t, 32;"], [6, 2, 0, 0]);
-    e.refused("dealloc-twice", &[a32, "0|@dealloc t, 32;", "0|@dealloc t, 32;"], [6, 4, 0, 32]);
-    e.refused("dealloc-value", &["0|mov.b32 t, 1;", "0|@dealloc t, 32;"], [6, 3, 0, 0]);
-    e.refused("names-by-case", &[a32, "0|@dealloc T, 32;"], [6, 3, 32, 32]);
-    e.refused("name-prefix", &["0|@alloc [tt], 32;", "0|@dealloc t, 32;"], [6, 3, 32, 32]);
-    e.refused("names-of-16", &["0|@alloc [abcdefghijklmnop], 32;", "0|@dealloc abcdefghijklmnoq, 32;"], [6, 3, 32, 32]);
-    e.refused("ld-names-of-16", &["0|@alloc [abcdefghijklmnop], 32;", "0|@ld(32x32b.x1) {r}, [abcdefghijklmnoq];"], [6, 3, 32, 32]);
-    e.refused("ld-unbound", &["0|@ld(32x32b.x1) {r}, [t];"], [6, 2, 0, 0]);
-    e.refused("st-value", &["0|mov.b64 t, 1;", "0|@st(32x32b.x1) [t], {r};"], [6, 3, 0, 0]);
-    e.refused("ld-freed", &[a32, "0|@dealloc t, 32;", "0|@ld(32x32b.x1) {r}, [t];"], [6, 4, 0, 32]);
+    e.refused("alloc-live-name", &[a32, "0|@alloc [^t], 32;"], [6, 3, 32, 32]);
+    e.refused("alloc-value-name", &["0|mov.b32 t, 1;", "0|@alloc [^t], 32;"], [6, 3, 0, 0]);
+    e.refused("mov-live-name", &[a32, "0|mov.b64 ^t, 1;"], [6, 3, 32, 32]);
+    e.refused("dealloc-unbound", &["0|@dealloc ^t, 32;"], [6, 2, 0, 0]);
+    e.refused("dealloc-twice", &[a32, "0|@dealloc t, 32;", "0|@dealloc ^t, 32;"], [6, 4, 0, 32]);
+    e.refused("dealloc-value", &["0|mov.b32 t, 1;", "0|@dealloc ^t, 32;"], [6, 3, 0, 0]);
+    e.refused("names-by-case", &[a32, "0|@dealloc ^T, 32;"], [6, 3, 32, 32]);
+    e.refused("name-prefix", &["0|@alloc [tt], 32;", "0|@dealloc ^t, 32;"], [6, 3, 32, 32]);
+    e.refused("names-of-16", &["0|@alloc [abcdefghijklmnop], 32;", "0|@dealloc ^abcdefghijklmnoq, 32;"], [6, 3, 32, 32]);
+    e.refused("ld-names-of-16", &["0|@alloc [abcdefghijklmnop], 32;", "0|@ld(32x32b.x1) {r}, [^abcdefghijklmnoq];"], [6, 3, 32, 32]);
+    e.refused("ld-unbound", &["0|@ld(32x32b.x1) {r}, [^t];"], [6, 2, 0, 0]);
+    e.refused("st-value", &["0|mov.b64 t, 1;", "0|@st(32x32b.x1) [^t], {r};"], [6, 3, 0, 0]);
+    e.refused("ld-freed", &[a32, "0|@dealloc t, 32;", "0|@ld(32x32b.x1) {r}, [^t];"], [6, 4, 0, 32]);
     let reuse = [a32, "0|@dealloc t, 32;", "0|@alloc [t], 64;", "0|@dealloc t, 64;", "0|exit;"];
     e.passed("name-used-again", &reuse, 64, &[0, 0]);
     e.passed("mov-freed-name", &[a32, "0|@dealloc t, 32;", "0|mov.b32 t, 1;", "0|exit;"], 32, &[0]);
-    e.refused("value-name-stays", &[a32, "0|@dealloc t, 32;", "0|mov.b32 t, 1;", a32], [6, 5, 0, 32]);
+    e.refused("value-name-stays", &[a32, "0|@dealloc t, 32;", "0|mov.b32 t, 1;", "0|@alloc [^t], 32;"], [6, 5, 0, 32]);
     e.passed("registers-not-looked-up", &[a32, "0|@ld(32x32b.x2) {t, t}, [t];", "0|@dealloc t, 32;", "0|exit;"], 32, &[0]);
 }
 
@@ -502,14 +528,15 @@ fn value_table(e: &mut Entries) {
     lines.pop();
     lines.extend(["0|mov.b64 v127, 1;", "0|mov.b32 v0, 1;", "0|exit;"]);
     e.passed("values-128-bound-again", &lines, 0, &[]);
-    let over = bind(129);
+    let mut over = bind(128);
+    over.push("0|mov.b32 ^v128, 128;".into());
     e.refused("values-129", &over, [7, 130, 0, 0]);
     let mut taken = vec!["0|@alloc [t], 32;"];
     taken.extend(borrowed(&full));
-    taken.push("0|mov.b32 t, 1;");
+    taken.push("0|mov.b32 ^t, 1;");
     e.refused("values-full-and-live-name", &taken, [6, 131, 32, 32]);
     taken.pop();
-    taken.push("0|mov.b32 u, 1;");
+    taken.push("0|mov.b32 ^u, 1;");
     e.refused("values-full-and-new-name", &taken, [7, 131, 32, 32]);
     taken.pop();
     taken.extend(["0|@alloc [u], 64;", "0|@dealloc t, 32;", "0|@dealloc u, 64;", "0|exit;"]);
@@ -518,25 +545,25 @@ fn value_table(e: &mut Entries) {
 
 fn warps(e: &mut Entries) {
     let a32 = "0|@alloc [t], 32;";
-    e.refused("alloc-by-second-warp", &[a32, "1|@alloc [u], 32;"], [8, 3, 32, 32]);
-    e.refused("dealloc-by-second-warp", &[a32, "1|@dealloc t, 32;"], [8, 3, 32, 32]);
-    e.refused("relinquish-by-second-warp", &[a32, "3|@relinquish;"], [8, 3, 32, 32]);
-    e.refused("warp-stays-fixed", &[a32, "0|@dealloc t, 32;", "1|@alloc [t], 32;"], [8, 4, 0, 32]);
+    e.refused("alloc-by-second-warp", &[a32, "^1|@alloc [u], 32;"], [8, 3, 32, 32]);
+    e.refused("dealloc-by-second-warp", &[a32, "^1|@dealloc t, 32;"], [8, 3, 32, 32]);
+    e.refused("relinquish-by-second-warp", &[a32, "^3|@relinquish;"], [8, 3, 32, 32]);
+    e.refused("warp-stays-fixed", &[a32, "0|@dealloc t, 32;", "^1|@alloc [t], 32;"], [8, 4, 0, 32]);
     e.passed(
         "star-is-warp-0",
         &["*|@alloc [t], 32;", "0|@ld(32x32b.x1) {r}, [t];", "*|@ld(32x32b.x1) {r}, [t];", "0|@dealloc t, 32;", "*|exit;"],
         32,
         &[0],
     );
-    e.refused("star-is-not-warp-1", &["1|@alloc [t], 32;", "*|@dealloc t, 32;"], [8, 3, 32, 32]);
+    e.refused("star-is-not-warp-1", &["1|@alloc [t], 32;", "^*|@dealloc t, 32;"], [8, 3, 32, 32]);
     e.passed("warp-3-books", &["3|@alloc [t], 32;", "3|@relinquish;", "3|@dealloc t, 32;", "1|exit;"], 32, &[0]);
-    e.refused("relinquish-fixes-the-warp", &["2|@relinquish;", "1|@alloc [t], 32;"], [8, 3, 0, 0]);
+    e.refused("relinquish-fixes-the-warp", &["2|@relinquish;", "^1|@alloc [t], 32;"], [8, 3, 0, 0]);
     e.refused("relinquish-then-alloc", &["2|@relinquish;", "2|@alloc [t], 32;"], [10, 3, 0, 0]);
-    e.refused("relinquish-twice-by-two", &["2|@relinquish;", "1|@relinquish;", "0|exit;"], [8, 3, 0, 0]);
+    e.refused("relinquish-twice-by-two", &["2|@relinquish;", "^1|@relinquish;", "0|exit;"], [8, 3, 0, 0]);
     e.passed("relinquish-twice", &["2|@relinquish;", "2|@relinquish;", "0|exit;"], 0, &[]);
     e.passed("dealloc-after-relinquish", &[a32, "0|@relinquish;", "0|@dealloc t, 32;", "0|exit;"], 32, &[0]);
     e.refused("alloc-after-relinquish", &[a32, "0|@relinquish;", "0|@alloc [u], 32;"], [10, 4, 32, 32]);
-    e.refused("refused-alloc-fixes-nothing", &["1|@alloc [t], 33;"], [9, 2, 0, 0]);
+    e.refused("refused-alloc-fixes-nothing", &["1|@alloc [t], ^33;"], [9, 2, 0, 0]);
     e.passed(
         "others-by-any-warp",
         &[a32, "1|mov.b32 x, 1;", "2|@wait::ld;", "3|@fence::before_thread_sync;", "0|@dealloc t, 32;", "2|exit;"],
@@ -551,10 +578,10 @@ fn requests(e: &mut Entries) {
         e.passed(&format!("request-{columns}"), &lines, columns, &[0]);
     }
     for columns in [0u32, 1, 16, 31, 33, 48, 63, 65, 96, 192, 384, 511, 513, 544, 1_024, 65_536 + 32, 1 << 31] {
-        e.refused(&format!("request-{columns}"), &[&format!("0|@alloc [t], {columns};")], [9, 2, 0, 0]);
+        e.refused(&format!("request-{columns}"), &[&format!("0|@alloc [t], ^{columns};")], [9, 2, 0, 0]);
     }
     for columns in [0, 33, 64, 1_024, u32::MAX] {
-        let lines = ["0|@alloc [t], 32;".into(), format!("0|@dealloc t, {columns};")];
+        let lines = ["0|@alloc [t], 32;".into(), format!("0|@dealloc t, ^{columns};")];
         e.refused(&format!("dealloc-32-as-{columns}"), &lines, [9, 3, 32, 32]);
     }
 }
@@ -605,19 +632,19 @@ fn placing(e: &mut Entries) {
 fn accesses(e: &mut Entries) {
     let a32 = "0|@alloc [t], 32;";
     // a holding of 32 and one behind it
-    let next = [a32, "0|@alloc [u], 32;", "0|@ld(32x32b.x1) {r}, [t+32];"];
+    let next = [a32, "0|@alloc [u], 32;", "0|@ld(32x32b.x1) {r}, ^[t+32];"];
     e.refused("not-into-the-next-holding", &next, [14, 4, 64, 64]);
     let last = [a32, "0|@ld(32x32b.x1) {r}, [t+31];", "0|@dealloc t, 32;", "0|exit;"];
     e.passed("last-column", &last, 32, &[0]);
     // a holding that does not start at 0
     let second = [a32, "0|@alloc [u], 64;", "0|@ld(32x32b.x64) {#64}, [u];", "0|@dealloc t, 32;", "0|@dealloc u, 64;", "0|exit;"];
     e.passed("columns-from-the-holdings-start", &second, 96, &[0, 32]);
-    e.refused("column-from-the-holdings-start-over", &[a32, "0|@alloc [u], 64;", "0|@ld(32x32b.x64) {#64}, [u+32];"], [14, 4, 96, 96]);
+    e.refused("column-from-the-holdings-start-over", &[a32, "0|@alloc [u], 64;", "0|@ld(32x32b.x64) {#64}, ^[u+32];"], [14, 4, 96, 96]);
     for (shape, registers) in [("32x32b", 1), ("16x64b", 1), ("16x128b", 2), ("16x256b", 4)] {
         for warp in 0..4u32 {
             for lane in [0, 1, 15, 16, 17, 32, 48, 64, 80, 96, 111, 112, 113, 127, 128] {
                 let good = lane == 32 * warp || shape != "32x32b" && lane == 32 * warp + 16;
-                let access = format!("{warp}|@ld({shape}.x1) {{#{registers}}}, [t+{}];", lane * 65_536);
+                let access = format!("{warp}|@ld({shape}.x1) {{#{registers}}}, ^[t+{}];", lane * 65_536);
                 let name = format!("lane-{lane}-of-{shape}-by-{warp}");
                 if good {
                     e.passed(&name, &[a32, &access, "0|@dealloc t, 32;", "0|exit;"], 32, &[0]);
@@ -629,7 +656,7 @@ fn accesses(e: &mut Entries) {
     }
     for (shape, num, registers, columns) in [("32x32b", 8, 8, 8), ("16x64b", 8, 8, 16), ("16x128b", 4, 8, 16), ("16x256b", 2, 8, 16)] {
         for (column, good) in [(32 - columns, true), (33 - columns, false)] {
-            let access = format!("0|@st({shape}.x{num}) [t+{column}], {{#{registers}}};");
+            let access = format!("0|@st({shape}.x{num}) ^[t+{column}], {{#{registers}}};");
             let name = format!("columns-of-{shape}-at-{column}");
             if good {
                 e.passed(&name, &[a32, &access, "0|@dealloc t, 32;", "0|exit;"], 32, &[0]);
@@ -638,7 +665,7 @@ fn accesses(e: &mut Entries) {
             }
         }
     }
-    e.refused("lane-before-columns", &[a32, "1|@ld(32x32b.x1) {r}, [t+99];"], [8, 3, 32, 32]);
+    e.refused("lane-before-columns", &[a32, "1|@ld(32x32b.x1) {r}, ^[t+99];"], [8, 3, 32, 32]);
 }
 
 /// A shared memory descriptor that reads.
@@ -669,7 +696,7 @@ fn with_mma(opcode: &str, operands: &str) -> Vec<String> {
 
 /// The same with an instruction descriptor and plain operands.
 fn with_idesc(opcode: &str, i: u32) -> Vec<String> {
-    let operands = if opcode.contains(".sp") { "[t], a, b, [t+256], i, p" } else { "[t], a, b, i, p" };
+    let operands = if opcode.contains(".sp") { "[t], a, b, [t+256], ^i, p" } else { "[t], a, b, ^i, p" };
     with_words(opcode, operands, SHARED, SHARED, i)
 }
 
@@ -693,29 +720,30 @@ fn mma_names(e: &mut Entries) {
     e.mma_passes("mma-a-is-b", with_mma("@mma(f16)", "[t], b, b, i, p"));
     e.mma_passes("mma-predicate-not-looked-up", with_mma("@mma(f16)", "[t], a, b, i, t"));
     let mut six = |name: &str, operands: &str| e.mma_refused(name, with_mma("@mma(f16)", operands), 6);
-    six("mma-d-unbound", "[u], a, b, i, p");
-    six("mma-d-value", "[a], a, b, i, p");
-    six("mma-a-unbound", "[t], x, b, i, p");
-    six("mma-a-holding", "[t], t, b, i, p");
-    six("mma-a-narrow", "[t], i, b, i, p");
-    six("mma-a-address-unbound", "[t], [u], b, i, p");
-    six("mma-a-address-value", "[t], [a], b, i, p");
-    six("mma-b-unbound", "[t], a, x, i, p");
-    six("mma-b-holding", "[t], a, t, i, p");
-    six("mma-b-narrow", "[t], a, i, i, p");
-    six("mma-idesc-unbound", "[t], a, b, x, p");
-    six("mma-idesc-wide", "[t], a, b, a, p");
-    six("mma-idesc-holding", "[t], a, b, t, p");
+    six("mma-d-unbound", "[^u], a, b, i, p");
+    six("mma-d-value", "[^a], a, b, i, p");
+    six("mma-a-unbound", "[t], ^x, b, i, p");
+    six("mma-a-holding", "[t], ^t, b, i, p");
+    six("mma-a-narrow", "[t], ^i, b, i, p");
+    six("mma-a-address-unbound", "[t], [^u], b, i, p");
+    six("mma-a-address-value", "[t], [^a], b, i, p");
+    six("mma-b-unbound", "[t], a, ^x, i, p");
+    six("mma-b-holding", "[t], a, ^t, i, p");
+    six("mma-b-narrow", "[t], a, ^i, i, p");
+    six("mma-idesc-unbound", "[t], a, b, ^x, p");
+    six("mma-idesc-wide", "[t], a, b, ^a, p");
+    six("mma-idesc-holding", "[t], a, b, ^t, p");
     let mut sparse = |name: &str, operands: &str| {
         e.mma_refused(name, with_words("@mma.sp(f16)", operands, SHARED, SHARED, DENSE | 4), 6);
     };
-    sparse("mma-meta-unbound", "[t], a, b, [m], i, p");
-    sparse("mma-meta-value", "[t], a, b, [a], i, p");
+    sparse("mma-meta-unbound", "[t], a, b, [^m], i, p");
+    sparse("mma-meta-value", "[t], a, b, [^a], i, p");
     // rebinding at the other width
-    let mut again = with_mma("@mma(f16)", "[t], a, b, i, p");
+    let mut again = with_mma("@mma(f16)", "[t], a, ^b, i, p");
     again.insert(4, "0|mov.b32 b, 1;".into());
     e.refused("mma-b-bound-again-narrow", &again, [6, 7, 512, 512]);
-    again[4] = format!("0|mov.b64 i, {DENSE};");
+    let mut again = with_mma("@mma(f16)", "[t], a, b, ^i, p");
+    again.insert(4, format!("0|mov.b64 i, {DENSE};"));
     e.refused("mma-idesc-bound-again-wide", &again, [6, 7, 512, 512]);
     // the last value counts
     again[4] = "0|mov.b32 i, 0;".into();
@@ -727,18 +755,19 @@ fn mma_descriptors(e: &mut Entries) {
     let unused = ["0|mov.b64 b, 0;", "0|mov.b32 i, 0xffffffff;", "0|exit;"];
     e.passed("words-not-used", &unused, 0, &[]);
     let plain = "[t], a, b, i, p";
-    let mut shared = |name: &str, a: u64, b: u64| e.mma_refused(name, with_words("@mma(f16)", plain, a, b, DENSE), 12);
-    shared("shared-b-zero", SHARED, 0);
-    shared("shared-a-zero", 0, SHARED);
-    shared("shared-bit-14", SHARED | 1 << 14, SHARED);
-    shared("shared-bit-30", SHARED, SHARED | 1 << 30);
-    shared("shared-fixed-3", SHARED | 1 << 47, SHARED);
-    shared("shared-bit-53", SHARED, SHARED | 1 << 53);
-    shared("shared-bit-60", SHARED | 1 << 60, SHARED);
-    shared("shared-base-without-swizzle", SHARED, SHARED | 1 << 49);
-    shared("shared-swizzle-3", SHARED | 3 << 61, SHARED);
-    shared("shared-swizzle-5", SHARED | 5 << 61, SHARED);
-    shared("shared-swizzle-7", SHARED, SHARED | 7 << 61);
+    let mut bad_a = |name: &str, a: u64| e.mma_refused(name, with_words("@mma(f16)", "[t], ^a, b, i, p", a, SHARED, DENSE), 12);
+    bad_a("shared-a-zero", 0);
+    bad_a("shared-bit-14", SHARED | 1 << 14);
+    bad_a("shared-fixed-3", SHARED | 1 << 47);
+    bad_a("shared-bit-60", SHARED | 1 << 60);
+    bad_a("shared-swizzle-3", SHARED | 3 << 61);
+    bad_a("shared-swizzle-5", SHARED | 5 << 61);
+    let mut bad_b = |name: &str, b: u64| e.mma_refused(name, with_words("@mma(f16)", "[t], a, ^b, i, p", SHARED, b, DENSE), 12);
+    bad_b("shared-b-zero", 0);
+    bad_b("shared-bit-30", SHARED | 1 << 30);
+    bad_b("shared-bit-53", SHARED | 1 << 53);
+    bad_b("shared-base-without-swizzle", SHARED | 1 << 49);
+    bad_b("shared-swizzle-7", SHARED | 7 << 61);
     for swizzle in [1, 2, 4, 6] {
         let word = SHARED | swizzle << 61 | 7 << 49 | 1 << 52 | 0x3fff;
         e.mma_passes(&format!("shared-swizzle-{swizzle}"), with_words("@mma(f16)", plain, word, SHARED, DENSE));
@@ -782,23 +811,25 @@ fn mma_shapes(e: &mut Entries) {
     good("shape-ws-128-256", "@mma.ws(i8)", idesc(2, 0, 1, 256, 128));
     good("shape-ws-sp-256", "@mma.ws.sp(f16)", idesc(1, 0, 0, 256, 128) | 4);
     let mut thirteen = |name: &str, opcode: &str, i: u32| e.mma_refused(name, with_idesc(opcode, i), 13);
-    thirteen("shape-i8-40", "@mma(i8)", 0x080a_00a0);
-    thirteen("shape-i8-56", "@mma(i8)", idesc(2, 0, 0, 56, 128));
-    thirteen("shape-n-0", "@mma(f16)", idesc(1, 0, 0, 0, 128));
-    thirteen("shape-n-264", "@mma(f16)", idesc(1, 0, 0, 264, 128));
-    thirteen("shape-n-504", "@mma(f16)", idesc(1, 0, 0, 504, 128));
     thirteen("shape-m-0", "@mma(f16)", idesc(1, 0, 0, 64, 0));
     thirteen("shape-m-32", "@mma(f16)", idesc(1, 0, 0, 64, 32));
     thirteen("shape-m-256", "@mma(f16)", idesc(1, 0, 0, 64, 256));
-    thirteen("shape-ws-n-48", "@mma.ws(i8)", idesc(2, 0, 0, 48, 128));
-    thirteen("shape-ws-n-32", "@mma.ws(f16)", idesc(1, 0, 0, 32, 128));
     thirteen("shape-ws-m-16", "@mma.ws(f16)", idesc(1, 0, 0, 64, 16));
-    thirteen("types-differ-f16", "@mma(f16)", idesc(1, 0, 1, 64, 128));
-    thirteen("types-f16-from-bf16", "@mma(f16)", idesc(0, 1, 1, 64, 128));
-    thirteen("types-s32-f16", "@mma(f16)", idesc(2, 0, 0, 64, 128));
-    thirteen("types-f16-tf32", "@mma(tf32)", idesc(0, 2, 2, 64, 128));
-    thirteen("types-s32-f8f6f4", "@mma(f8f6f4)", idesc(2, 0, 0, 64, 128));
-    thirteen("types-f32-i8", "@mma(i8)", idesc(1, 0, 0, 64, 128));
+    let mut twenty = |name: &str, opcode: &str, i: u32| e.mma_refused(name, with_idesc(opcode, i), 20);
+    twenty("shape-i8-40", "@mma(i8)", 0x080a_00a0);
+    twenty("shape-i8-56", "@mma(i8)", idesc(2, 0, 0, 56, 128));
+    twenty("shape-n-0", "@mma(f16)", idesc(1, 0, 0, 0, 128));
+    twenty("shape-n-264", "@mma(f16)", idesc(1, 0, 0, 264, 128));
+    twenty("shape-n-504", "@mma(f16)", idesc(1, 0, 0, 504, 128));
+    twenty("shape-ws-n-48", "@mma.ws(i8)", idesc(2, 0, 0, 48, 128));
+    twenty("shape-ws-n-32", "@mma.ws(f16)", idesc(1, 0, 0, 32, 128));
+    let mut types = |name: &str, opcode: &str, i: u32| e.mma_refused(name, with_idesc(opcode, i), 21);
+    types("types-differ-f16", "@mma(f16)", idesc(1, 0, 1, 64, 128));
+    types("types-f16-from-bf16", "@mma(f16)", idesc(0, 1, 1, 64, 128));
+    types("types-s32-f16", "@mma(f16)", idesc(2, 0, 0, 64, 128));
+    types("types-f16-tf32", "@mma(tf32)", idesc(0, 2, 2, 64, 128));
+    types("types-s32-f8f6f4", "@mma(f8f6f4)", idesc(2, 0, 0, 64, 128));
+    types("types-f32-i8", "@mma(i8)", idesc(1, 0, 0, 64, 128));
 }
 
 fn mma_cells(e: &mut Entries) {
@@ -811,15 +842,15 @@ fn mma_cells(e: &mut Entries) {
     e.mma_passes("mma-a-to-the-end", words("@mma(f16)", "[t], [t+504], b, i, p"));
     e.mma_passes("mma-meta-to-the-end", words("@mma.sp(f16)", "[t], a, b, [t+510], i, p"));
     let mut outside = |name: &str, opcode: &str, operands: &str| e.mma_refused(name, words(opcode, operands), 14);
-    outside("mma-d-one-past", "@mma(f16)", "[t+449], a, b, i, p");
-    outside("mma-a-one-past", "@mma(f16)", "[t], [t+505], b, i, p");
-    outside("mma-meta-one-past", "@mma.sp(f16)", "[t], a, b, [t+511], i, p");
-    outside("mma-d-lane-1", "@mma(f16)", "[t+65536], a, b, i, p");
-    outside("mma-d-lane-32", "@mma(f16)", "[t+2097152], a, b, i, p");
-    outside("mma-a-lane-16", "@mma(f16)", "[t], [t+1048576], b, i, p");
-    outside("mma-meta-lane-64", "@mma.sp(f16)", "[t], a, b, [t+4194304], i, p");
+    outside("mma-d-one-past", "@mma(f16)", "^[t+449], a, b, i, p");
+    outside("mma-a-one-past", "@mma(f16)", "[t], ^[t+505], b, i, p");
+    outside("mma-meta-one-past", "@mma.sp(f16)", "[t], a, b, ^[t+511], i, p");
+    outside("mma-d-lane-1", "@mma(f16)", "^[t+65536], a, b, i, p");
+    outside("mma-d-lane-32", "@mma(f16)", "^[t+2097152], a, b, i, p");
+    outside("mma-a-lane-16", "@mma(f16)", "[t], ^[t+1048576], b, i, p");
+    outside("mma-meta-lane-64", "@mma.sp(f16)", "[t], a, b, ^[t+4194304], i, p");
     // a holding shorter than N
-    let mut short = with_mma("@mma(f16)", "[t], a, b, i, p");
+    let mut short = with_mma("@mma(f16)", "^[t], a, b, i, p");
     short[0] = "0|@alloc [t], 32;".into();
     e.refused("mma-d-holding-too-short", &short, [14, 6, 32, 32]);
 }
@@ -836,16 +867,16 @@ fn exits(e: &mut Entries) {
     e.refused("alloc-after-exit", &["0|exit;", a32], [15, 3, 0, 0]);
     e.refused("exit-twice", &[a32, d32, "0|exit;", "0|exit;"], [15, 5, 0, 32]);
     e.refused("layout-after-exit", &["0|exit;", "9|exit;"], [2, 3, 0, 0]);
-    e.refused("no-form-after-exit", &["0|exit;", "0|nothing;"], [3, 3, 0, 0]);
-    e.refused("number-after-exit", &["0|exit;", "0|mov.b32 x, 4294967296;"], [4, 3, 0, 0]);
+    e.refused("no-form-after-exit", &["0|exit;", "0|^nothing;"], [3, 3, 0, 0]);
+    e.refused("number-after-exit", &["0|exit;", "0|mov.b32 x, ^4294967296;"], [4, 3, 0, 0]);
     e.refused("registers-after-exit", &["0|exit;", "0|@ld(32x32b.x2) {r}, [t];"], [5, 3, 0, 0]);
     e.refused("unbound-after-exit", &["0|exit;", "0|@ld(32x32b.x1) {r}, [t];"], [15, 3, 0, 0]);
     e.refused("request-after-exit", &["0|exit;", "0|@alloc [t], 33;"], [15, 3, 0, 0]);
     e.refused("first-line-after-exit-counts", &["0|exit;", "0|exit;", "9|exit;"], [15, 3, 0, 0]);
-    e.refused("earlier-line-first", &["0|@dealloc t, 32;", "9|exit;"], [6, 2, 0, 0]);
-    e.refused("no-exit-and-bad-last-line", &[a32, "0|@dealloc t, 64;"], [9, 3, 32, 32]);
+    e.refused("earlier-line-first", &["0|@dealloc ^t, 32;", "9|exit;"], [6, 2, 0, 0]);
+    e.refused("no-exit-and-bad-last-line", &[a32, "0|@dealloc t, ^64;"], [9, 3, 32, 32]);
     // the peak is over the accepted lines only
-    e.refused("peak-of-accepted-lines", &[a32, d32, "0|@alloc [t], 1024;"], [9, 4, 0, 32]);
+    e.refused("peak-of-accepted-lines", &[a32, d32, "0|@alloc [t], ^1024;"], [9, 4, 0, 32]);
 }
 
 fn lent_list(e: &mut Entries) {
@@ -883,31 +914,35 @@ fn order(e: &mut Entries) {
     };
     both("order-2-before-3", &["9|nothing;"], 2, 0);
     both("order-2-before-4", &["0|mov.b32 x, 4294967296\x7f;"], 2, 0);
-    both("order-3-before-5", &["0|@ld(32x32b.x2) {r}, [t]"], 3, 0);
-    both("order-4-before-5", &["0|@ld(32x32b.x2) {r}, [t+4294967296];"], 4, 0);
+    both("order-3-before-5", &["0|@ld(32x32b.x2) {r}, [t]^"], 3, 0);
+    both("order-4-before-5", &["0|@ld(32x32b.x2) {r}, [t+^4294967296];"], 4, 0);
     both("order-5-before-8", &[a32, "1|@ld(32x32b.x2) {r}, [t];"], 5, 32);
-    both("order-6-before-8-alloc", &[a32, "1|@alloc [t], 32;"], 6, 32);
-    both("order-6-before-9-alloc", &[a32, "0|@alloc [t], 33;"], 6, 32);
-    both("order-6-before-8-dealloc", &[a32, "1|@dealloc u, 32;"], 6, 32);
-    both("order-6-before-8-access", &[a32, "0|@ld(32x32b.x1) {r}, [u+65536];"], 6, 32);
-    both("order-8-before-9-alloc", &[a32, "1|@alloc [u], 33;"], 8, 32);
-    both("order-8-before-9-dealloc", &[a32, "1|@dealloc t, 64;"], 8, 32);
-    both("order-8-before-10", &[a32, "0|@relinquish;", "1|@alloc [u], 32;"], 8, 32);
-    both("order-9-before-10", &[a32, "0|@relinquish;", "0|@alloc [u], 33;"], 9, 32);
-    both("order-9-before-11", &["0|@alloc [t], 512;", "0|@alloc [u], 1024;"], 9, 512);
+    both("order-6-before-8-alloc", &[a32, "1|@alloc [^t], 32;"], 6, 32);
+    both("order-6-before-9-alloc", &[a32, "0|@alloc [^t], 33;"], 6, 32);
+    both("order-6-before-8-dealloc", &[a32, "1|@dealloc ^u, 32;"], 6, 32);
+    both("order-6-before-8-access", &[a32, "0|@ld(32x32b.x1) {r}, [^u+65536];"], 6, 32);
+    both("order-8-before-9-alloc", &[a32, "^1|@alloc [u], 33;"], 8, 32);
+    both("order-8-before-9-dealloc", &[a32, "^1|@dealloc t, 64;"], 8, 32);
+    both("order-8-before-10", &[a32, "0|@relinquish;", "^1|@alloc [u], 32;"], 8, 32);
+    both("order-9-before-10", &[a32, "0|@relinquish;", "0|@alloc [u], ^33;"], 9, 32);
+    both("order-9-before-11", &["0|@alloc [t], 512;", "0|@alloc [u], ^1024;"], 9, 512);
     both("order-10-before-11", &["0|@alloc [t], 512;", "0|@relinquish;", "0|@alloc [u], 32;"], 10, 512);
-    both("order-6-before-11", &["0|@alloc [t], 512;", "0|@alloc [t], 32;"], 6, 512);
-    both("order-6-before-10", &[a32, "0|@relinquish;", a32], 6, 32);
+    both("order-6-before-11", &["0|@alloc [t], 512;", "0|@alloc [^t], 32;"], 6, 512);
+    both("order-6-before-10", &[a32, "0|@relinquish;", "0|@alloc [^t], 32;"], 6, 32);
     let bad = 0xffff_ffff;
     let mut mma = |name: &str, operands: &str, a: u64, b: u64, i: u32, reason: u32| {
         e.mma_refused(name, with_words("@mma(f16)", operands, a, b, i), reason);
     };
-    mma("order-6-before-12", "[t], a, x, i, p", 0, SHARED, bad, 6);
-    mma("order-6-before-14", "[t+65536], a, b, x, p", SHARED, SHARED, DENSE, 6);
-    mma("order-12-before-13-b", "[t], a, b, i, p", SHARED, 0, idesc(1, 0, 0, 0, 0), 12);
-    mma("order-12-before-13-a", "[t], a, b, i, p", 0, SHARED, idesc(1, 0, 0, 0, 0), 12);
-    mma("order-12-before-14", "[t+65536], a, b, i, p", SHARED, SHARED, bad, 12);
-    mma("order-12-before-14-b", "[t+449], a, b, i, p", SHARED, 0, DENSE, 12);
-    mma("order-13-before-14", "[t+65536], a, b, i, p", SHARED, SHARED, idesc(1, 0, 0, 40, 32), 13);
-    mma("order-13-before-14-a", "[t], [t+505], b, i, p", SHARED, SHARED, idesc(1, 0, 0, 504, 128), 13);
+    mma("order-6-before-12", "[t], a, ^x, i, p", 0, SHARED, bad, 6);
+    mma("order-6-before-14", "[t+65536], a, b, ^x, p", SHARED, SHARED, DENSE, 6);
+    mma("order-12-before-13-b", "[t], a, ^b, i, p", SHARED, 0, idesc(1, 0, 0, 0, 0), 12);
+    mma("order-12-before-13-a", "[t], ^a, b, i, p", 0, SHARED, idesc(1, 0, 0, 0, 0), 12);
+    mma("order-12-before-14", "[t+65536], a, b, ^i, p", SHARED, SHARED, bad, 12);
+    mma("order-12-before-14-b", "[t+449], a, ^b, i, p", SHARED, 0, DENSE, 12);
+    mma("order-13-before-14", "[t+65536], a, b, ^i, p", SHARED, SHARED, idesc(1, 0, 0, 40, 32), 13);
+    mma("order-13-before-20", "[t], a, b, ^i, p", SHARED, SHARED, idesc(1, 0, 0, 504, 16), 13);
+    mma("order-13-before-20-and-21", "[t], a, b, ^i, p", SHARED, SHARED, idesc(2, 0, 1, 0, 0), 13);
+    mma("order-20-before-21", "[t], a, b, ^i, p", SHARED, SHARED, idesc(2, 0, 1, 0, 128), 20);
+    mma("order-20-before-14", "[t], [t+505], b, ^i, p", SHARED, SHARED, idesc(1, 0, 0, 504, 128), 20);
+    mma("order-21-before-14", "[t+65536], a, b, ^i, p", SHARED, SHARED, idesc(2, 0, 0, 64, 128), 21);
 }

@@ -1,29 +1,49 @@
 //! Reading one statement.
 //!
-//! Inside this file `None` means that no form matches. A number that is too
-//! large does not stop the reading: it is noted and answered at the end, so that
-//! a fault of form anywhere in the text comes before it.
+//! Inside this file `None` means that no form matches; the cursor then stands at
+//! the token, or strange byte, where none can go on, or at the end of the text. A
+//! number that is too large does not stop the reading: it is noted and answered
+//! at the end, so that a fault of form anywhere in the text comes before it.
 
 use crate::descriptor::Kind;
 use crate::name::{is_name_byte, is_proper, Name};
-use crate::statement::{registers, Address, Operand, Shape, Statement};
+use crate::statement::{registers, Address, Operand, Part, Shape, Statement, Verdict};
 use crate::statement::{LONGEST_LIST, LONGEST_STATEMENT, NO_FORM, NUMBER_TOO_LARGE};
 
 /// Reads one statement. `Err(3)` when no form matches, else `Err(4)` when a
 /// number is too large.
 pub fn read(text: &[u8]) -> Result<Statement, u32> {
+    match read_placed(text) {
+        Ok((statement, _)) => Ok(statement),
+        Err(verdict) => Err(verdict.reason),
+    }
+}
+
+/// Reads one statement, and where its operands stand. The column of a refusal
+/// counts from 1 at the first byte of the text.
+pub fn read_placed(text: &[u8]) -> Result<(Statement, Vec<Part>), Verdict> {
+    let mut cursor = Cursor { text, at: 0, parts: Vec::new(), too_large: None };
+    let Some(statement) = read_form(&mut cursor) else {
+        return Err(Verdict { reason: NO_FORM, column: cursor.at + 1, operand: None });
+    };
     if text.len() > LONGEST_STATEMENT {
-        return Err(NO_FORM);
+        return Err(Verdict { reason: NO_FORM, column: text.len() + 1, operand: None });
     }
-    let end = text.iter().position(|&byte| !is_opcode_byte(byte)).unwrap_or(text.len());
-    let opcode = read_opcode(&text[..end]).ok_or(NO_FORM)?;
-    let mut cursor = Cursor { text, at: end, too_large: false };
-    let statement = read_operands(&mut cursor, opcode).ok_or(NO_FORM)?;
-    cursor.end().ok_or(NO_FORM)?;
-    if cursor.too_large {
-        return Err(NUMBER_TOO_LARGE);
+    if let Some(operand) = cursor.too_large {
+        let column = cursor.parts[operand].number + 1;
+        return Err(Verdict { reason: NUMBER_TOO_LARGE, column, operand: Some(operand) });
     }
-    Ok(statement)
+    Ok((statement, cursor.parts))
+}
+
+/// The whole text, whatever its length and the size of its numbers.
+fn read_form(c: &mut Cursor) -> Option<Statement> {
+    let end = c.text.iter().position(|&byte| !is_opcode_byte(byte)).unwrap_or(c.text.len());
+    let opcode = read_opcode(&c.text[..end])?;
+    c.at = end;
+    let statement = read_operands(c, opcode)?;
+    c.end()?;
+    Some(statement)
 }
 
 fn is_opcode_byte(byte: u8) -> bool {
@@ -130,53 +150,57 @@ fn read_flag<'a>(tail: &'a [u8], flag: &[u8]) -> (bool, &'a [u8]) {
 fn read_operands(c: &mut Cursor, opcode: Opcode) -> Option<Statement> {
     match opcode {
         Opcode::Mov { wide } => {
+            c.part()?;
             let name = c.name()?;
-            c.mark(b',')?;
+            c.part()?;
             let value = if wide { c.number64()? } else { u64::from(c.number32()?) };
             Some(Statement::Mov { wide, name, value })
         }
         Opcode::Alloc => {
-            c.mark(b'[')?;
-            let name = c.name()?;
+            c.part()?;
+            let name = c.bracketed_name()?;
             c.mark(b']')?;
-            c.mark(b',')?;
+            c.part()?;
             let columns = c.number32()?;
             Some(Statement::Alloc { name, columns })
         }
         Opcode::Dealloc => {
+            c.part()?;
             let name = c.name()?;
-            c.mark(b',')?;
+            c.part()?;
             let columns = c.number32()?;
             Some(Statement::Dealloc { name, columns })
         }
         Opcode::Ld { shape, num } => {
+            c.part()?;
             let registers = c.list(registers(shape, num))?;
-            c.mark(b',')?;
+            c.part()?;
             let address = c.address()?;
             Some(Statement::Ld { shape, num, address, registers })
         }
         Opcode::St { shape, num } => {
+            c.part()?;
             let address = c.address()?;
-            c.mark(b',')?;
+            c.part()?;
             let registers = c.list(registers(shape, num))?;
             Some(Statement::St { shape, num, address, registers })
         }
         Opcode::Mma { ws, sp, kind } => {
+            c.part()?;
             let d = c.address()?;
-            c.mark(b',')?;
+            c.part()?;
             let a = c.operand()?;
-            c.mark(b',')?;
+            c.part()?;
             let b = c.name()?;
-            c.mark(b',')?;
             let meta = if sp {
-                let meta = c.address()?;
-                c.mark(b',')?;
-                Some(meta)
+                c.part()?;
+                Some(c.address()?)
             } else {
                 None
             };
+            c.part()?;
             let idesc = c.name()?;
-            c.mark(b',')?;
+            c.part()?;
             let predicate = c.name()?;
             Some(Statement::Mma { ws, sp, kind, d, a, b, meta, idesc, predicate })
         }
@@ -189,12 +213,14 @@ fn read_operands(c: &mut Cursor, opcode: Opcode) -> Option<Statement> {
     }
 }
 
-/// A place in the text behind the opcode.
+/// A place in the text, and what was noted on the way there.
 struct Cursor<'a> {
     text: &'a [u8],
     at: usize,
-    /// Has a number been over its limit?
-    too_large: bool,
+    /// The operands so far, the one that is being read last.
+    parts: Vec<Part>,
+    /// The first operand with a number over its limit.
+    too_large: Option<usize>,
 }
 
 impl<'a> Cursor<'a> {
@@ -204,6 +230,16 @@ impl<'a> Cursor<'a> {
             self.at += 1;
         }
         self.text.get(self.at).copied()
+    }
+
+    /// Goes to the next operand, past the comma before it if it is not the first.
+    fn part(&mut self) -> Option<()> {
+        if !self.parts.is_empty() {
+            self.mark(b',')?;
+        }
+        self.peek();
+        self.parts.push(Part { start: self.at, name: self.at, number: self.at });
+        Some(())
     }
 
     /// Takes one punctuation mark.
@@ -245,36 +281,49 @@ impl<'a> Cursor<'a> {
         if is_proper(word) {
             Name::new(word)
         } else {
+            self.at -= word.len();
             None
         }
     }
 
-    fn number64(&mut self) -> Option<u64> {
-        let value = number_value(self.word())?;
-        match u64::try_from(value) {
-            Ok(value) => Some(value),
-            Err(_) => {
-                self.too_large = true;
-                Some(0)
-            }
+    /// A number up to the limit; for one over it, which is noted, 0.
+    fn number(&mut self, limit: u64) -> Option<u64> {
+        let word = self.word();
+        let start = self.at - word.len();
+        let Some(value) = number_value(word) else {
+            self.at = start;
+            return None;
+        };
+        let operand = self.parts.len() - 1;
+        self.parts[operand].number = start;
+        if value > u128::from(limit) {
+            self.too_large.get_or_insert(operand);
+            return Some(0);
         }
+        Some(value as u64)
+    }
+
+    fn number64(&mut self) -> Option<u64> {
+        self.number(u64::MAX)
     }
 
     fn number32(&mut self) -> Option<u32> {
-        let value = number_value(self.word())?;
-        match u32::try_from(value) {
-            Ok(value) => Some(value),
-            Err(_) => {
-                self.too_large = true;
-                Some(0)
-            }
-        }
+        let value = self.number(u64::from(u32::MAX))?;
+        Some(value as u32)
+    }
+
+    /// `[`, and the name behind it, which is noted.
+    fn bracketed_name(&mut self) -> Option<Name> {
+        self.mark(b'[')?;
+        self.peek();
+        let operand = self.parts.len() - 1;
+        self.parts[operand].name = self.at;
+        self.name()
     }
 
     /// `[name]` or `[name+number]`
     fn address(&mut self) -> Option<Address> {
-        self.mark(b'[')?;
-        let name = self.name()?;
+        let name = self.bracketed_name()?;
         let offset = if self.mark(b'+').is_some() { self.number32()? } else { 0 };
         self.mark(b']')?;
         Some(Address { name, offset })
@@ -293,11 +342,8 @@ impl<'a> Cursor<'a> {
         self.mark(b'{')?;
         let mut names = Vec::with_capacity(LONGEST_LIST.min(expected as usize));
         loop {
-            if names.len() == LONGEST_LIST {
-                return None;
-            }
             names.push(self.name()?);
-            if self.mark(b',').is_none() {
+            if names.len() == LONGEST_LIST || self.mark(b',').is_none() {
                 self.mark(b'}')?;
                 return Some(names);
             }

@@ -4,13 +4,13 @@ use crate::judge::{judge, PASSED};
 use crate::sheet::{steps, MOST_LINES};
 use crate::statement::Statement;
 
-/// The four numbers of the answer in one line; for a passed sheet, then a line
+/// The five numbers of the answer in one line; for a passed sheet, then a line
 /// for each alloc with its name, start and columns.
 pub fn report(sheet: &[u8]) -> Vec<u8> {
     let mut starts = [0; MOST_LINES];
     let answer = judge(sheet, &mut starts);
     let mut text = Vec::new();
-    put_numbers(&mut text, &[answer.reason, answer.line as u32, answer.held, answer.peak]);
+    put_numbers(&mut text, &[answer.reason, answer.line as u32, answer.column as u32, answer.held, answer.peak]);
     if answer.reason == PASSED {
         put_holdings(&mut text, sheet, &starts);
     }

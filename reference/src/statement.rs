@@ -2,7 +2,7 @@
 
 pub use crate::descriptor::Kind;
 pub use crate::name::Name;
-pub use crate::reader::read;
+pub use crate::reader::{read, read_placed};
 pub use crate::writer::write;
 
 /// No form matches the text.
@@ -44,6 +44,25 @@ pub struct Address {
 pub enum Operand {
     Descriptor(Name),
     Address(Address),
+}
+
+/// Where an operand stands in the text of its statement, counted from 0: its
+/// first byte, its name, its number. A part that it has not is put at its first
+/// byte.
+#[derive(Clone, Copy, PartialEq, Eq, Debug)]
+pub struct Part {
+    pub start: usize,
+    pub name: usize,
+    pub number: usize,
+}
+
+/// A reason, the column it points at, and the operand, counted from 0, if it is
+/// one of an operand.
+#[derive(Clone, Copy, PartialEq, Eq, Debug)]
+pub struct Verdict {
+    pub reason: u32,
+    pub column: usize,
+    pub operand: Option<usize>,
 }
 
 #[derive(Clone, PartialEq, Eq, Debug)]
@@ -170,6 +189,19 @@ pub fn registers_reason(s: &Statement) -> u32 {
         BAD_REGISTERS
     } else {
         0
+    }
+}
+
+/// The verdict on a text read alone: 3, 4, 5 or 0. The column counts from 1 at
+/// its first byte and is 0 with 0.
+pub fn judge_alone(text: &[u8]) -> Verdict {
+    let statement = match read_placed(text) {
+        Ok((statement, _)) => statement,
+        Err(verdict) => return verdict,
+    };
+    match registers_reason(&statement) {
+        0 => Verdict { reason: 0, column: 0, operand: None },
+        reason => Verdict { reason, column: 1, operand: None },
     }
 }
 

@@ -59,7 +59,7 @@ fn entry_i8() {
     both_ways(Kind::I8, false, false, plain(S32, 1, 0, 128, 48), 0x080C00A0);
     assert_eq!(judge_word(Kind::I8, false, false, 0x080C00A0), 0);
     both_ways(Kind::I8, false, false, plain(S32, 1, 0, 128, 40), 0x080A00A0);
-    assert_eq!(judge_word(Kind::I8, false, false, 0x080A00A0), 13);
+    assert_eq!(judge_word(Kind::I8, false, false, 0x080A00A0), 20);
     assert_eq!(listing(Kind::I8, false, false, &plain(S32, 1, 0, 128, 40)), 2);
 }
 
@@ -169,7 +169,7 @@ fn reading_dtype() {
         };
         let word = encode_instruction(kind, ws, sp, &base).unwrap();
         for dtype in 0..3 {
-            let want = if listed_codes.contains(&dtype) { 0 } else { 13 };
+            let want = if listed_codes.contains(&dtype) { 0 } else { 21 };
             assert_eq!(judge_word(kind, ws, sp, word | dtype << 4), want, "{kind:?} {dtype}");
         }
         assert_eq!(judge_word(kind, ws, sp, word | 3 << 4), 12);
@@ -183,14 +183,14 @@ fn reading_types_of_kind_f16() {
         let word = encode_instruction(Kind::F16, false, false, &d).unwrap();
         judge_word(Kind::F16, false, false, word)
     };
-    assert_eq!(judge(1, 0, 1), 13);
-    assert_eq!(judge(1, 1, 0), 13);
-    assert_eq!(judge(0, 1, 1), 13);
-    assert_eq!(judge(0, 0, 1), 13);
+    assert_eq!(judge(1, 0, 1), 21);
+    assert_eq!(judge(1, 1, 0), 21);
+    assert_eq!(judge(0, 1, 1), 21);
+    assert_eq!(judge(0, 0, 1), 21);
     assert_eq!(judge(0, 0, 0), 0);
     assert_eq!(judge(1, 0, 0), 0);
     assert_eq!(judge(1, 1, 1), 0);
-    assert_eq!(judge(2, 0, 0), 13);
+    assert_eq!(judge(2, 0, 0), 21);
 }
 
 #[test]
@@ -221,7 +221,7 @@ fn reading_ws() {
         }
     }
     let i8_48 = plain(S32, 1, 0, 128, 48);
-    assert_eq!(listed(Kind::I8, true, false, &i8_48), 13);
+    assert_eq!(listed(Kind::I8, true, false, &i8_48), 20);
     let sparse_256 = Instruction { sparse: 1, ..plain(F32, 0, 0, 128, 256) };
     let word = encode_instruction(Kind::F16, true, true, &sparse_256).unwrap();
     assert_eq!(judge_word(Kind::F16, true, true, word), 0);
@@ -249,9 +249,23 @@ fn listing_order_and_lists() {
             assert_eq!(listing(kind, ws, sp, &plain(dtype, 0, 0, 128, n)), want);
         }
         // Everything wrong: M is named; M right: N; both right: types.
-        assert_eq!(listing(kind, ws, sp, &plain(3, 0, 1, 16, 4)), 1);
-        assert_eq!(listing(kind, ws, sp, &plain(3, 0, 1, 64, 4)), 2);
-        assert_eq!(listing(kind, ws, sp, &plain(3, 0, 1, 64, 64)), 3);
+        for (m, n, place, reason) in [(16, 4, 1, 13), (64, 4, 2, 20), (64, 64, 3, 21)] {
+            let d = plain(3, 0, 1, m, n);
+            assert_eq!(listing(kind, ws, sp, &d), place);
+            assert_eq!(listed(kind, ws, sp, &d), reason);
+        }
+    }
+}
+
+#[test]
+fn the_list_of_n_does_not_go_by_m() {
+    for (kind, ws, sp) in opcodes() {
+        let dtype = if kind == Kind::I8 { 2 } else { 1 };
+        for n in (0..=504).step_by(8) {
+            let at = |m| listed(kind, ws, sp, &plain(dtype, 0, 0, m, n));
+            assert_eq!(at(64), at(128));
+            assert_eq!(at(32), if ws { at(64) } else { 13 });
+        }
     }
 }
 

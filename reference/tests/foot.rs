@@ -17,7 +17,7 @@ fn foot(sheet: &[u8]) -> (String, Option<i32>) {
 fn a_pass_prints_every_holding() {
     let entries = all();
     let whole = entries.iter().find(|entry| entry.name == "given-whole").unwrap();
-    let want = "0\t9\t0\t96\nt0\t0\t64\nt1\t64\t32\nt2\t0\t32\n";
+    let want = "0\t9\t0\t0\t96\nt0\t0\t64\nt1\t64\t32\nt2\t0\t32\n";
     assert_eq!(foot(&whole.sheet), (want.into(), Some(0)));
 }
 
@@ -32,26 +32,26 @@ fn a_name_is_printed_for_each_of_its_allocs() {
         "0|@dealloc t, 64;",
         "0|exit;",
     ]);
-    assert_eq!(foot(&twice), ("0\t8\t0\t96\nt\t0\t32\nu\t32\t32\nt\t64\t64\n".into(), Some(0)));
+    assert_eq!(foot(&twice), ("0\t8\t0\t0\t96\nt\t0\t32\nu\t32\t32\nt\t64\t64\n".into(), Some(0)));
 }
 
 #[test]
 fn a_pass_without_allocs_prints_one_line() {
-    assert_eq!(foot(&sheet(&["0|exit;"])), ("0\t2\t0\t0\n".into(), Some(0)));
+    assert_eq!(foot(&sheet(&["0|exit;"])), ("0\t2\t0\t0\t0\n".into(), Some(0)));
 }
 
 #[test]
 fn a_refusal_prints_one_line() {
     let held = sheet(&["0|@alloc [t], 32;", "0|exit;"]);
-    assert_eq!(foot(&held), ("15\t3\t32\t32\n".into(), Some(1)));
-    assert_eq!(foot(b""), ("2\t1\t0\t0\n".into(), Some(1)));
+    assert_eq!(foot(&held), ("15\t3\t1\t32\t32\n".into(), Some(1)));
+    assert_eq!(foot(b""), ("2\t1\t1\t0\t0\n".into(), Some(1)));
 }
 
 #[test]
 fn too_many_bytes_are_seen() {
-    assert_eq!(foot(&vec![b'\n'; 70_000]), ("1\t0\t0\t0\n".into(), Some(1)));
-    assert_eq!(foot(&vec![b'x'; 65_537]), ("1\t0\t0\t0\n".into(), Some(1)));
-    assert_eq!(foot(&vec![b'x'; 65_536]), ("2\t1\t0\t0\n".into(), Some(1)));
+    assert_eq!(foot(&vec![b'\n'; 70_000]), ("1\t0\t0\t0\t0\n".into(), Some(1)));
+    assert_eq!(foot(&vec![b'x'; 65_537]), ("1\t0\t0\t0\t0\n".into(), Some(1)));
+    assert_eq!(foot(&vec![b'x'; 65_536]), ("2\t1\t1\t0\t0\n".into(), Some(1)));
 }
 
 #[test]
@@ -64,5 +64,5 @@ fn the_list_is_always_long_enough() {
     let (text, status) = foot(&sheet(&lines));
     assert_eq!(status, Some(0));
     assert_eq!(text.lines().count(), 601);
-    assert!(text.starts_with("0\t1202\t0\t32\nt\t0\t32\n"));
+    assert!(text.starts_with("0\t1202\t0\t0\t32\nt\t0\t32\n"));
 }

@@ -10,8 +10,8 @@ use staplehorn_reference::report::report;
 const UNTOUCHED: u16 = 0xa5a5;
 
 fn answer_of(entry: &Entry) -> Answer {
-    let [reason, line, held, peak] = entry.answer;
-    Answer { reason, line: line as usize, held, peak }
+    let [reason, line, column, held, peak] = entry.answer;
+    Answer { reason, line: line as usize, column: column as usize, held, peak }
 }
 
 #[test]
@@ -36,9 +36,9 @@ fn every_entry_has_its_report() {
         let text = String::from_utf8(report(&entry.sheet)).unwrap();
         let first = text.lines().next().unwrap();
         // the program lends a list that is long enough for every sheet
-        let reason = if entry.answer[0] == 16 { 0 } else { entry.answer[0] };
-        let [_, line, held, peak] = entry.answer;
-        assert_eq!(first, format!("{reason}\t{line}\t{held}\t{peak}"), "{}", entry.name);
+        let [reason, line, column, held, peak] = entry.answer;
+        let (reason, column) = if reason == 16 { (0, 0) } else { (reason, column) };
+        assert_eq!(first, format!("{reason}\t{line}\t{column}\t{held}\t{peak}"), "{}", entry.name);
         assert!(text.ends_with('\n'), "{}", entry.name);
         if entry.answer[0] != 16 {
             assert_eq!(text.lines().count(), 1 + entry.starts.len(), "{}", entry.name);
@@ -59,7 +59,7 @@ fn names_of_entries_are_file_names_and_differ() {
 #[test]
 fn every_reason_has_entries() {
     let entries = all();
-    for reason in 0..=16 {
+    for reason in (0..=16).chain([20, 21]) {
         let count = entries.iter().filter(|entry| entry.answer[0] == reason).count();
         assert!(count >= 2, "reason {reason} has {count}");
     }
@@ -69,6 +69,6 @@ fn every_reason_has_entries() {
 fn report_of_the_sheet_given_whole() {
     let entries = all();
     let whole = entries.iter().find(|entry| entry.name == "given-whole").unwrap();
-    let want = "0\t9\t0\t96\nt0\t0\t64\nt1\t64\t32\nt2\t0\t32\n";
+    let want = "0\t9\t0\t0\t96\nt0\t0\t64\nt1\t64\t32\nt2\t0\t32\n";
     assert_eq!(String::from_utf8(report(&whole.sheet)).unwrap(), want);
 }
