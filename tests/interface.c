@@ -172,5 +172,5 @@ int main(void) {
     columns();
     sheets();
     printf("%d answers right, %d wrong\n", right, wrong);
-    return wrong != 0 || right < 63;
+    return wrong != 0 || right < 100;
 }
