@@ -1,4 +1,4 @@
-/* judge [FILE]: the answer for a sheet, from standard input or a file: reason, line, columns held, peak; on a pass the
+/* judge [FILE]: the answer for a sheet, from standard input or a file: reason, line, column, columns held, peak; on a pass the
    start of each alloc. Exit status: 0 passed, 1 refused, 2 could not run. */
 #include <inttypes.h>
 #include <stdio.h>
@@ -22,8 +22,9 @@ int main(int argc, char **argv) {
     }
     uint32_t answer[STAPLEHORN_ANSWER_FIELDS];
     uint32_t reason = staplehorn_judge(sheet, length, starts, STAPLEHORN_MOST_ALLOCS, answer);
-    printf("reason %" PRIu32 ", line %" PRIu32 ", held %" PRIu32 ", peak %" PRIu32 "\n", answer[STAPLEHORN_REASON],
-           answer[STAPLEHORN_LINE], answer[STAPLEHORN_HELD], answer[STAPLEHORN_PEAK]);
+    printf("reason %" PRIu32 ", line %" PRIu32 ", column %" PRIu32 ", held %" PRIu32 ", peak %" PRIu32 "\n",
+           answer[STAPLEHORN_REASON], answer[STAPLEHORN_LINE], answer[STAPLEHORN_COLUMN], answer[STAPLEHORN_HELD],
+           answer[STAPLEHORN_PEAK]);
     for (uint32_t i = 0; i < answer[STAPLEHORN_STARTS]; ++i) printf("start %" PRIu16 "\n", starts[i]);
     if (reason != STAPLEHORN_REASON_PASSED) printf("%s\n", staplehorn_reason_text(reason));
     return reason != STAPLEHORN_REASON_PASSED;

@@ -10,7 +10,7 @@
 
 uint32_t reference_judge(const uint8_t *sheet, size_t length, uint16_t *starts, size_t places, uint32_t *answer);
 size_t reference_report(const uint8_t *sheet, size_t length, uint8_t *room, size_t places);
-uint32_t reference_statement(const uint8_t *text, size_t length, uint8_t *room, size_t places, size_t *written);
+uint32_t reference_statement(const uint8_t *text, size_t length, uint8_t *room, size_t places, size_t *written, size_t *column);
 
 enum { MARK = 0xA5 };
 
@@ -51,15 +51,16 @@ static void try_report(const uint8_t *sheet, size_t length) {
 
 static void try_statement(const uint8_t *text, size_t length, size_t places) {
     uint8_t *ours = marked(places), *theirs = marked(places);
-    size_t *size = marked(sizeof(size_t)), want;
-    uint32_t reason = reference_statement(text, length, theirs, places, &want);
-    must(staplehorn_statement_reason(text, length) == reason, "reason of a statement");
+    size_t *size = marked(sizeof(size_t)), *column = marked(sizeof(size_t)), want, place;
+    uint32_t reason = reference_statement(text, length, theirs, places, &want, &place);
+    must(staplehorn_statement_reason(text, length, column) == reason, "reason of a statement");
+    must(*column == place, "column of a statement");
     uint32_t written = reason == 3 || reason == 4 ? reason : want == 0 ? 19 : 0;
     must(staplehorn_statement_canonical(text, length, ours, places, size) == written, "reason of the writing");
     must(*size == want, "length of a statement");
     must(memcmp(ours, theirs, want) == 0, "canonical text");
     for (size_t i = want; i < places; ++i) must(ours[i] == MARK, "room past the text");
-    free(ours), free(theirs), free(size);
+    free(ours), free(theirs), free(size), free(column);
 }
 
 void try_bytes(const uint8_t *bytes, size_t length) {

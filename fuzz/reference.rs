@@ -4,14 +4,14 @@ use staplehorn_reference::{judge, report, sheet, statement};
 use std::slice;
 
 /// # Safety
-/// Each pointer is valid for its length, and the answer for five numbers.
+/// Each pointer is valid for its length, and the answer for six numbers.
 #[no_mangle]
 pub unsafe extern "C" fn reference_judge(sheet: *const u8, length: usize, starts: *mut u16, places: usize, answer: *mut u32) -> u32 {
     let (sheet, starts) = unsafe { (slice::from_raw_parts(sheet, length), slice::from_raw_parts_mut(starts, places)) };
     let a = judge::judge(sheet, starts);
     let count = if a.reason == 0 { allocs(sheet) } else { 0 };
-    let answer = unsafe { slice::from_raw_parts_mut(answer, 5) };
-    answer.copy_from_slice(&[a.reason, a.line as u32, a.held, a.peak, count]);
+    let answer = unsafe { slice::from_raw_parts_mut(answer, 6) };
+    answer.copy_from_slice(&[a.reason, a.line as u32, a.column as u32, a.held, a.peak, count]);
     a.reason
 }
 
@@ -34,17 +34,25 @@ pub unsafe extern "C" fn reference_report(sheet: *const u8, length: usize, room:
     text.len()
 }
 
-/// The reason of a statement's text by itself, 3, 4, 5 or 0; a text that reads is written in its canonical form, and its
-/// length goes to `*written`.
+/// The reason of a statement's text by itself, 3, 4, 5 or 0; its column goes to `*column`. A text that reads is written in its
+/// canonical form, and its length goes to `*written`.
 ///
 /// # Safety
 /// Each pointer is valid for its length.
 #[no_mangle]
-pub unsafe extern "C" fn reference_statement(text: *const u8, length: usize, room: *mut u8, places: usize, written: *mut usize) -> u32 {
+pub unsafe extern "C" fn reference_statement(
+    text: *const u8,
+    length: usize,
+    room: *mut u8,
+    places: usize,
+    written: *mut usize,
+    column: *mut usize,
+) -> u32 {
     let (text, room) = unsafe { (slice::from_raw_parts(text, length), slice::from_raw_parts_mut(room, places)) };
-    unsafe { *written = statement::canonical(text, room).unwrap_or(0) };
-    match statement::read(text) {
-        Ok(s) => statement::registers_reason(&s),
-        Err(reason) => reason,
+    let alone = statement::judge_alone(text);
+    unsafe {
+        *written = statement::canonical(text, room).unwrap_or(0);
+        *column = alone.column;
     }
+    alone.reason
 }

@@ -11,7 +11,8 @@
  * Versions: within one major number (and, while that is 0, one minor number) functions, numbers of reasons and fields keep their
  * meaning and their places; functions, reasons and rules may be added, and a program must bear a reason that it does not know.
  * A sheet that passes may be refused by a later minor version, and the other way round, where the rules of the hardware are
- * known better: docs/CHANGES.md says so each time. The shared library's soname changes with what would break a caller.
+ * known better: docs/CHANGES.md says so each time. The shared library's soname has the major number and, while that is 0, the minor
+ * number: a program runs with the library that it was built for, or not at all.
  *
  * An opcode is three numbers: kind 0 f16, 1 tf32, 2 f8f6f4, 3 i8; ws and sp, 0 or 1, say whether `.ws` and `.sp`
  * stand. Any other number is refused with 12.
@@ -27,8 +28,8 @@ extern "C" {
 #endif
 
 /* The version of this header, and the same as major * 10,000 + minor * 100 + patch. */
-#define STAPLEHORN_VERSION "0.2.0"
-#define STAPLEHORN_VERSION_NUMBER 200
+#define STAPLEHORN_VERSION "0.3.0"
+#define STAPLEHORN_VERSION_NUMBER 300
 
 /* Bytes of stack that are enough for any call. */
 #define STAPLEHORN_STACK 32768
@@ -51,13 +52,13 @@ enum staplehorn_reason {
     STAPLEHORN_REASON_RELINQUISHED = 10,
     STAPLEHORN_REASON_SPACE = 11,
     STAPLEHORN_REASON_DESCRIPTOR = 12,
-    STAPLEHORN_REASON_SHAPE_M = 13, /* one number for the three today */
-    STAPLEHORN_REASON_SHAPE_N = 13,
-    STAPLEHORN_REASON_TYPES = 13,
+    STAPLEHORN_REASON_SHAPE_M = 13,
     STAPLEHORN_REASON_CELLS = 14,
     STAPLEHORN_REASON_EXIT = 15,
     STAPLEHORN_REASON_STARTS = 16,
-    STAPLEHORN_REASON_ROOM = 19
+    STAPLEHORN_REASON_ROOM = 19,
+    STAPLEHORN_REASON_SHAPE_N = 20, /* 20 and 21 are asked directly after 13 */
+    STAPLEHORN_REASON_TYPES = 21
 };
 
 /* A sentence for a reason, without a full stop; never null. */
@@ -76,21 +77,27 @@ static inline const char *staplehorn_reason_text(uint32_t reason) {
         "an alloc follows relinquish",
         "no free run of that length starts at a multiple of 32",
         "a descriptor has no reading under the opcode",
-        "the shape or the types are not listed",
+        "the descriptor's M is not listed",
         "the lane of an mma is not 0, or columns go past the end of the allocation",
         "exit while columns are held, a line after exit, or no exit",
         "the lent list has fewer places than there are allocs",
+        NULL,
+        NULL,
+        "the lent room is too short",
+        "the descriptor's N is not listed",
+        "the descriptor's types are not listed",
     };
-    if (reason < sizeof texts / sizeof texts[0]) return texts[reason];
-    return reason == STAPLEHORN_REASON_ROOM ? "the lent room is too short" : "a reason that this header does not know";
+    const char *text = reason < sizeof texts / sizeof texts[0] ? texts[reason] : NULL;
+    return text != NULL ? text : "a reason that this header does not know";
 }
 
 /* Sheets. Any bytes are a sheet: over 65,536 of them, or over 4,096 lines, is reason 1. */
 
 /* The answer for a sheet. */
 enum staplehorn_answer_field {
-    STAPLEHORN_REASON, /* 0 passed, else 1 to 16 */
+    STAPLEHORN_REASON, /* 0 passed, else 1 to 16, 20 or 21 */
     STAPLEHORN_LINE,   /* the line of the reason, from 1; the last line on a pass; 0 for reason 1 */
+    STAPLEHORN_COLUMN, /* the byte of that line to which the reason points, from 1; 0 on a pass and for reason 1 */
     STAPLEHORN_HELD,   /* columns held before that line (after it where exit is missing); 0 on a pass and 16 */
     STAPLEHORN_PEAK,   /* the most columns held after any accepted line */
     STAPLEHORN_STARTS, /* how many starts there are: one for each alloc on a pass, else 0 */
@@ -100,7 +107,7 @@ enum staplehorn_answer_field {
 /* No sheet has more allocs: a list of so many places has room for any sheet's starts. */
 enum { STAPLEHORN_MOST_ALLOCS = 4095 };
 
-/* Judges a sheet, and returns its reason. All five places of answer are always written. On reason 0 the first
+/* Judges a sheet, and returns its reason. All six places of answer are always written. On reason 0 the first
    answer[STAPLEHORN_STARTS] places of starts are the starts: the first columns of the allocs, in their order (each a multiple
    of 32, at most 480); the places past them are left as they are. On every refusal, 16 included (fewer places than allocs), all
    places are left as they are. */
@@ -155,7 +162,7 @@ uint32_t staplehorn_instruction_decode(uint32_t kind, uint32_t ws, uint32_t sp, 
 uint32_t staplehorn_instruction_encode(uint32_t kind, uint32_t ws, uint32_t sp,
                                        const uint32_t fields[STAPLEHORN_INSTRUCTION_FIELDS], uint32_t *word);
 
-/* 12 if a word has no reading under the opcode, 13 if its shape or types are not listed. */
+/* 12 if a word has no reading under the opcode; else 13 if its M is not listed, 20 if its N is not, 21 if its types are not. */
 uint32_t staplehorn_instruction_judge(uint32_t kind, uint32_t ws, uint32_t sp, uint32_t word);
 
 /* The same of fields: 12 if they have no word. */
@@ -178,8 +185,10 @@ uint32_t staplehorn_request(uint32_t columns);
 /* Statements. */
 
 /* The reason of a statement's text by itself: 3 no form matches, 4 a number is too large, 5 N is over the shape's largest
-   or the count of registers differs; else 0. At most 4,096 bytes; a longer text is 3. */
-uint32_t staplehorn_statement_reason(const uint8_t *text, size_t text_length);
+   or the count of registers differs; else 0. At most 4,096 bytes; a longer text is 3. The byte to which it points, counted from
+   1 at the text's first byte, goes to *column: for 3 and 4 where reading stops, which may be one past the end; 1 for 5; 0
+   for 0. In a line of a sheet the same refusal has a column 2 higher. */
+uint32_t staplehorn_statement_reason(const uint8_t *text, size_t text_length, size_t *column);
 
 /* The canonical text of a statement: one space after the opcode and after each comma, decimals, no `+0` and no
    `.shared::cta`. Its length goes to *length and its bytes to the first places of room; the places past it are left as

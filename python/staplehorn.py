@@ -13,15 +13,15 @@ import enum
 import os
 from typing import List, NamedTuple
 
-SONAME = "libstaplehorn.so.0"
+SONAME = "libstaplehorn.so.0.3"
 REPORT_ROOM = 102391
 STATEMENT_ROOM = 2560
 MOST_ALLOCS = 4095
-ANSWER_FIELDS = 5
+ANSWER_FIELDS = 6
 
 
 class Reason(enum.IntEnum):
-    """Why something is refused. SHAPE_N and TYPES have SHAPE_M's number."""
+    """Why something is refused. 20 and 21 are asked directly after 13."""
 
     PASSED = 0
     SIZE = 1
@@ -37,12 +37,12 @@ class Reason(enum.IntEnum):
     SPACE = 11
     DESCRIPTOR = 12
     SHAPE_M = 13
-    SHAPE_N = 13
-    TYPES = 13
     CELLS = 14
     EXIT = 15
     STARTS = 16
     ROOM = 19
+    SHAPE_N = 20
+    TYPES = 21
 
 
 TEXTS = {
@@ -58,21 +58,25 @@ TEXTS = {
     10: "an alloc follows relinquish",
     11: "no free run of that length starts at a multiple of 32",
     12: "a descriptor has no reading under the opcode",
-    13: "the shape or the types are not listed",
+    13: "the descriptor's M is not listed",
     14: "the lane of an mma is not 0, or columns go past the end of the allocation",
     15: "exit while columns are held, a line after exit, or no exit",
     16: "the lent list has fewer places than there are allocs",
     19: "the lent room is too short",
+    20: "the descriptor's N is not listed",
+    21: "the descriptor's types are not listed",
 }
 
 
 class Refused(ValueError):
-    """What is refused: `reason`, and for a sheet `line` (from 1; 0 with reason 1), `held` and `peak`; else they are None."""
+    """What is refused: `reason`; for a sheet `line` and `column` (bytes of the line, from 1; both 0 with reason 1), `held` and `peak`;
+    for a statement read alone `column` (from 1 at its first byte). What does not apply is None."""
 
-    def __init__(self, reason, line=None, held=None, peak=None):
-        self.reason, self.line, self.held, self.peak = reason, line, held, peak
+    def __init__(self, reason, line=None, column=None, held=None, peak=None):
+        self.reason, self.line, self.column, self.held, self.peak = reason, line, column, held, peak
         text = TEXTS.get(reason, f"reason {reason}")
-        super().__init__(f"line {line}: {text}" if line else text)
+        place = ", ".join(f"{name} {number}" for name, number in (("line", line), ("column", column)) if number)
+        super().__init__(f"{place}: {text}" if place else text)
 
 
 class Passed(NamedTuple):
@@ -127,7 +131,7 @@ def _load():
         "version": [],
         "judge": [byte, size, pointer(ctypes.c_uint16), size, pointer(u32)],
         "report": [byte, size, byte, size, pointer(size)],
-        "statement_reason": [byte, size],
+        "statement_reason": [byte, size, pointer(size)],
         "statement_canonical": [byte, size, byte, size, pointer(size)],
         "instruction_decode": [u32, u32, u32, u32, pointer(u32)],
         "instruction_encode": [u32, u32, u32, pointer(u32), pointer(u32)],
@@ -170,8 +174,8 @@ def judge(sheet):
     starts, answer = (ctypes.c_uint16 * MOST_ALLOCS)(), (ctypes.c_uint32 * ANSWER_FIELDS)()
     sheet = bytes(sheet)
     if _c.staplehorn_judge(sheet, len(sheet), starts, MOST_ALLOCS, answer):
-        raise Refused(*answer[:4])
-    _, line, _, peak, count = answer
+        raise Refused(*answer[:5])
+    _, line, _, _, peak, count = answer
     return Passed(line, peak, starts[:count])
 
 
@@ -183,13 +187,15 @@ def report(sheet):
 
 
 def statement(text):
-    """Raises Refused (3, 4 or 5) for a text that is no statement by itself."""
-    text = bytes(text)
-    _check(_c.staplehorn_statement_reason(text, len(text)))
+    """Raises Refused (3, 4 or 5), with its column, for a text that is no statement by itself."""
+    text, column = bytes(text), ctypes.c_size_t()
+    reason = _c.staplehorn_statement_reason(text, len(text), column)
+    if reason:
+        raise Refused(reason, column=column.value)
 
 
 def canonical(text):
-    """The canonical text of a statement, or raises Refused (3 or 4)."""
+    """The canonical text of a statement, or raises Refused (3 or 4); `statement` says where."""
     text, room, length = bytes(text), ctypes.create_string_buffer(STATEMENT_ROOM), ctypes.c_size_t()
     _check(_c.staplehorn_statement_canonical(text, len(text), room, STATEMENT_ROOM, length))
     return room.raw[: length.value]
@@ -216,7 +222,7 @@ def instruction_encode(kind, fields, ws=False, sp=False):
 
 
 def instruction_judge(kind, word, ws=False, sp=False):
-    """Raises Refused: 12 if a word has no reading, 13 if its shape or types are not listed."""
+    """Raises Refused: 12 if a word has no reading; else 13, 20 or 21 if its M, its N or its types are not listed."""
     _check(_c.staplehorn_instruction_judge(*_opcode(kind, ws, sp), _number(word, 32, "word")))
 
 

@@ -27,11 +27,15 @@ class Module(unittest.TestCase):
         self.assertEqual(s.judge(b"sheet\t1\tsm_100a\n0\texit;\n").starts, [])
         self.assertEqual(s.report(given), contents("crates/foot/stdout"))
         leak = self.refused(s.Reason.EXIT, s.judge, contents("examples/leak.sheet"))
-        self.assertEqual((leak.line, leak.held, leak.peak), (6, 32, 96))
-        self.assertEqual(str(leak), "line 6: exit while columns are held, a line after exit, or no exit")
-        self.assertEqual(s.report(b""), b"2\t1\t0\t0\n")
-        self.assertEqual(str(self.refused(1, s.judge, b"x" * 65537)), "the sheet has over 65,536 bytes or 4,096 lines")
+        self.assertEqual((leak.line, leak.column, leak.held, leak.peak), (6, 1, 32, 96))
+        self.assertEqual(str(leak), "line 6, column 1: exit while columns are held, a line after exit, or no exit")
+        self.assertEqual(s.report(b""), b"2\t1\t1\t0\t0\n")
+        large = self.refused(1, s.judge, b"x" * 65537)
+        self.assertEqual((large.line, large.column, large.held, large.peak), (0, 0, 0, 0))
+        self.assertEqual(str(large), "the sheet has over 65,536 bytes or 4,096 lines")
         self.refused(2, s.judge, b"sheet\t1\tsm_100a\n0\texit;\0\n")
+        number = self.refused(4, s.judge, b"sheet\t1\tsm_100a\n0\tmov.b32 x, 4294967296;\n")
+        self.assertEqual((number.line, number.column, number.held, number.peak), (2, 14, 0, 0))
 
     def test_data(self):
         names = sorted(n for n in os.listdir(os.path.join(ROOT, "data")) if n.endswith(".sheet"))
@@ -41,9 +45,20 @@ class Module(unittest.TestCase):
 
     def test_statements(self):
         self.assertEqual(s.canonical(b"mov.b32  x ,0x10 ;"), b"mov.b32 x, 16;")
-        self.refused(4, s.canonical, b"mov.b32 x, 4294967296;")
-        self.refused(3, s.statement, b"exit")
+        self.assertIsNone(self.refused(4, s.canonical, b"mov.b32 x, 4294967296;").column)
         s.statement(b"exit;")
+        for reason, column, text in (
+            (3, 5, b"exit"),
+            (3, 1, b""),
+            (3, 1, b" exit;"),
+            (3, 6, b"exit; "),
+            (4, 12, b"mov.b32 x, 4294967296;"),
+            (5, 1, b"tcgen05.ld.sync.aligned.32x32b.x2.b32 {r}, [t];"),
+            (3, 4098, b"mov.b32 x," + b" " * 4084 + b"64;"),
+        ):
+            alone = self.refused(reason, s.statement, text)
+            self.assertEqual((alone.line, alone.column, alone.held, alone.peak), (None, column, None, None), text)
+        self.assertEqual(str(self.refused(3, s.statement, b"exit")), "column 5: the statement matches no form")
 
     def test_words(self):
         fields = s.Instruction(dtype=1, n=64, m=128)
@@ -51,7 +66,11 @@ class Module(unittest.TestCase):
         self.assertEqual(s.instruction_encode("f16", fields), 0x08100010)
         s.instruction_judge("f16", 0x08100010)
         s.instruction_listed("f16", fields)
-        self.refused(13, s.instruction_judge, "i8", 0x080A00A0)
+        self.refused(20, s.instruction_judge, "i8", 0x080A00A0)
+        self.refused(13, s.instruction_judge, "f16", 0x0C000020)
+        self.refused(20, s.instruction_judge, "f16", 0x08000020)
+        self.refused(21, s.instruction_judge, "f16", 0x08100020)
+        self.refused(21, s.instruction_listed, "f16", fields._replace(dtype=2))
         self.refused(12, s.instruction_decode, "f16", 1)
         self.refused(12, s.instruction_decode, "f16", 1 << 32)
         self.refused(12, s.instruction_encode, "f16", fields._replace(n=64 + (1 << 32)))

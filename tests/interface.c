@@ -25,7 +25,10 @@ static void words(void) {
     is(staplehorn_instruction_encode(0, 0, 0, f, &word), 0, "encode");
     is(word, 0x08100010, "word");
     is(staplehorn_instruction_listed(0, 0, 0, f), 0, "listed");
-    is(staplehorn_instruction_judge(3, 0, 0, 0x080A00A0), 13, "judge");
+    is(staplehorn_instruction_judge(3, 0, 0, 0x080A00A0), STAPLEHORN_REASON_SHAPE_N, "judge, N");
+    is(staplehorn_instruction_judge(0, 0, 0, 0x0C000020), STAPLEHORN_REASON_SHAPE_M, "judge, M, N and types");
+    is(staplehorn_instruction_judge(0, 0, 0, 0x08000020), STAPLEHORN_REASON_SHAPE_N, "judge, N and types");
+    is(staplehorn_instruction_judge(0, 0, 0, 0x08100020), STAPLEHORN_REASON_TYPES, "judge, types");
     is(staplehorn_instruction_k(1, 1, &k), 0, "k");
     is(k, 16, "K");
     is(staplehorn_instruction_decode(4, 0, 0, 0x08100010, f), 12, "wrong kind");
@@ -58,11 +61,39 @@ static void shared(void) {
     is(staplehorn_request(96), 9, "request of 96");
 }
 
+/* The reason of a text, and its column. */
+static void alone(const char *text, uint32_t reason, size_t column) {
+    size_t at = 7;
+    is(staplehorn_statement_reason((const uint8_t *)text, strlen(text), &at), reason, text);
+    is(at, column, text);
+}
+
+static void columns(void) {
+    char text[4098];
+    memset(text, ' ', sizeof text);
+    memcpy(text, "mov.b32 x,", 10);
+    memcpy(text + 4094, "64;", 4);
+    alone("exit;", 0, 0);
+    alone("", 3, 1);
+    alone(" exit;", 3, 1);
+    alone("exit", 3, 5);
+    alone("exit  ", 3, 7);
+    alone("exit; ", 3, 6);
+    alone("exit;;", 3, 6);
+    alone("mov.b32 x 1;", 3, 11);
+    alone("mov.b32 x, 0x1g;", 3, 12);
+    alone("mov.b32 x,  4294967296;", 4, 13);
+    alone("mov.b32 x, 4294967296", 3, 22);
+    alone("tcgen05.ld.sync.aligned.32x32b.x2.b32 {r}, [t];", 5, 1);
+    /* 4,097 bytes that would read: one past the end */
+    alone(text, 3, 4098);
+}
+
 static void statements(void) {
     const char *text = "mov.b32  x ,0x10 ;";
     uint8_t room[STAPLEHORN_STATEMENT_ROOM];
     size_t length = 7;
-    is(staplehorn_statement_reason((const uint8_t *)text, strlen(text)), 0, "statement");
+    alone(text, 0, 0);
     is(staplehorn_statement_canonical((const uint8_t *)text, strlen(text), room, sizeof room, &length), 0, "canonical");
     is(length, 14, "length");
     is((uint64_t)memcmp(room, "mov.b32 x, 16;", 14), 0, "text");
@@ -81,13 +112,14 @@ static void sheets(void) {
     is(staplehorn_judge((const uint8_t *)sheet, strlen(sheet), starts, 3, answer), 15, "judge");
     is(answer[STAPLEHORN_REASON], 15, "reason");
     is(answer[STAPLEHORN_LINE], 5, "line");
+    is(answer[STAPLEHORN_COLUMN], 1, "column");
     is(answer[STAPLEHORN_HELD], 32, "held");
     is(answer[STAPLEHORN_PEAK], 96, "peak");
     is(answer[STAPLEHORN_STARTS], 0, "count on a refusal");
     is(starts[0] + starts[1] + starts[2], 21, "starts on a refusal");
     is(staplehorn_report((const uint8_t *)sheet, strlen(sheet), room, sizeof room, &length), 15, "report");
-    is(length, 11, "length of the report");
-    is((uint64_t)memcmp(room, "15\t5\t32\t96\n", 11), 0, "bytes of the report");
+    is(length, 13, "length of the report");
+    is((uint64_t)memcmp(room, "15\t5\t1\t32\t96\n", 13), 0, "bytes of the report");
     is(staplehorn_report((const uint8_t *)sheet, strlen(sheet), room, sizeof room - 1, &length), 19, "short room");
 }
 
@@ -100,11 +132,14 @@ static void passed(void) {
     uint32_t answer[STAPLEHORN_ANSWER_FIELDS];
     starts[0] = starts[1] = starts[2] = 7;
     is(staplehorn_judge((const uint8_t *)sheet, strlen(sheet), starts, STAPLEHORN_MOST_ALLOCS, answer), 0, "judge, passed");
+    is(answer[STAPLEHORN_LINE], 6, "line, passed");
+    is(answer[STAPLEHORN_COLUMN], 0, "column, passed");
     is(answer[STAPLEHORN_STARTS], 2, "count");
     is(starts[0], 0, "first start");
     is(starts[1], 64, "second start");
     is(starts[2], 7, "place past the starts");
     is(staplehorn_judge((const uint8_t *)sheet, strlen(sheet), starts, 1, answer), 16, "judge, one place");
+    is(answer[STAPLEHORN_COLUMN], 1, "column of 16");
     is(answer[STAPLEHORN_STARTS], 0, "count on 16");
 }
 
@@ -112,14 +147,16 @@ static void passed(void) {
 static void nothing(void) {
     uint32_t answer[STAPLEHORN_ANSWER_FIELDS];
     uint8_t room[1];
-    size_t length = 7;
+    size_t length = 7, column = 7;
     const char *sheet = "sheet\t1\tsm_100a\n0\texit;\n";
     is(staplehorn_judge(NULL, 0, NULL, 0, answer), STAPLEHORN_REASON_LAYOUT, "no sheet");
     is(answer[STAPLEHORN_LINE], 1, "line of no sheet");
+    is(answer[STAPLEHORN_COLUMN], 1, "column of no sheet");
     is(staplehorn_judge((const uint8_t *)sheet, strlen(sheet), NULL, 0, answer), STAPLEHORN_REASON_PASSED, "no list");
     is(staplehorn_report(NULL, 0, NULL, 0, &length), STAPLEHORN_REASON_ROOM, "no report");
     is(length, 0, "length of no report");
-    is(staplehorn_statement_reason(NULL, 0), STAPLEHORN_REASON_FORM, "no statement");
+    is(staplehorn_statement_reason(NULL, 0, &column), STAPLEHORN_REASON_FORM, "no statement");
+    is(column, 1, "column of no statement");
     is(staplehorn_statement_canonical(NULL, 0, room, 1, &length), STAPLEHORN_REASON_FORM, "no text");
     is(staplehorn_statement_canonical((const uint8_t *)"exit;", 5, NULL, 0, &length), STAPLEHORN_REASON_ROOM, "no room");
 }
@@ -132,7 +169,8 @@ int main(void) {
     words();
     shared();
     statements();
+    columns();
     sheets();
     printf("%d answers right, %d wrong\n", right, wrong);
-    return wrong != 0 || right < 63;
+    return wrong != 0 || right < 100;
 }

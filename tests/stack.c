@@ -29,7 +29,10 @@ static void report(void) {
     staplehorn_report(sheet, sheet_length, room, sizeof room, &length);
 }
 
-static void reason(void) { staplehorn_statement_reason(text, text_length); }
+static void reason(void) {
+    size_t column;
+    staplehorn_statement_reason(text, text_length, &column);
+}
 
 static void canonical(void) {
     size_t length;

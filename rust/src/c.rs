@@ -1,7 +1,7 @@
 //! The declarations of `include/staplehorn.h`, for those who call C themselves. `lib.rs` has a safe function for each.
 
 /// Numbers in the answer for a sheet.
-pub const ANSWER_FIELDS: usize = 5;
+pub const ANSWER_FIELDS: usize = 6;
 /// Fields of an instruction descriptor.
 pub const INSTRUCTION_FIELDS: usize = 13;
 /// Fields of a shared memory descriptor.
@@ -21,7 +21,7 @@ extern "C" {
         answer: *mut [u32; ANSWER_FIELDS],
     ) -> u32;
     pub fn staplehorn_report(sheet: *const u8, sheet_length: usize, room: *mut u8, room_length: usize, length: *mut usize) -> u32;
-    pub fn staplehorn_statement_reason(text: *const u8, text_length: usize) -> u32;
+    pub fn staplehorn_statement_reason(text: *const u8, text_length: usize, column: *mut usize) -> u32;
     pub fn staplehorn_statement_canonical(
         text: *const u8,
         text_length: usize,

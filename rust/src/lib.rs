@@ -6,7 +6,7 @@
 //! assert_eq!(staplehorn::judge(sheet).unwrap().starts, []);
 //! let refused = staplehorn::judge(b"sheet\n").unwrap_err();
 //! assert_eq!(refused.reason, staplehorn::Reason::Layout);
-//! assert_eq!(refused.to_string(), "line 1: line 1 is not the header, or a line's layout is wrong");
+//! assert_eq!(refused.to_string(), "line 1, column 1: line 1 is not the header, or a line's layout is wrong");
 //! ```
 #![deny(clippy::undocumented_unsafe_blocks)]
 
@@ -48,6 +48,8 @@ pub struct Refused {
     pub reason: Reason,
     /// The line of the reason, from 1; 0 for `Reason::Size`.
     pub line: u32,
+    /// The byte of that line to which the reason points, from 1; 0 for `Reason::Size`.
+    pub column: u32,
     /// Columns held before that line (after it where exit is missing).
     pub held: u32,
     /// The most columns held after any accepted line.
@@ -58,7 +60,7 @@ impl fmt::Display for Refused {
     fn fmt(&self, f: &mut fmt::Formatter<'_>) -> fmt::Result {
         match self.line {
             0 => write!(f, "{}", self.reason),
-            line => write!(f, "line {line}: {}", self.reason),
+            line => write!(f, "line {line}, column {}: {}", self.column, self.reason),
         }
     }
 }
@@ -71,6 +73,8 @@ pub struct Answer {
     /// None: passed.
     pub reason: Option<Reason>,
     pub line: u32,
+    /// The byte of that line to which the reason points, from 1; 0 on a pass and for `Reason::Size`.
+    pub column: u32,
     pub held: u32,
     pub peak: u32,
     /// How many starts there are: one for each alloc on a pass, else 0.
@@ -80,13 +84,13 @@ pub struct Answer {
 /// Judges a sheet.
 pub fn judge(sheet: &[u8]) -> Result<Passed, Refused> {
     let mut starts = vec![0; MOST_ALLOCS];
-    let Answer { reason, line, held, peak, starts: count } = judge_into(sheet, &mut starts);
+    let Answer { reason, line, column, held, peak, starts: count } = judge_into(sheet, &mut starts);
     match reason {
         None => {
             starts.truncate(count);
             Ok(Passed { line, peak, starts })
         }
-        Some(reason) => Err(Refused { reason, line, held, peak }),
+        Some(reason) => Err(Refused { reason, line, column, held, peak }),
     }
 }
 
@@ -97,8 +101,8 @@ pub fn judge_into(sheet: &[u8], starts: &mut [u16]) -> Answer {
     let mut answer = [0; c::ANSWER_FIELDS];
     // SAFETY: each pointer is that of a slice or an array of the length given; the lent parts are exclusive.
     unsafe { c::staplehorn_judge(sheet.as_ptr(), sheet.len(), starts.as_mut_ptr(), starts.len(), &mut answer) };
-    let [reason, line, held, peak, starts] = answer;
-    Answer { reason: Reason::from_number(reason), line, held, peak, starts: starts as usize }
+    let [reason, line, column, held, peak, starts] = answer;
+    Answer { reason: Reason::from_number(reason), line, column, held, peak, starts: starts as usize }
 }
 
 /// A sheet's report: the bytes that `foot` prints, and the reason that they begin with.
@@ -119,13 +123,32 @@ pub fn report(sheet: &[u8]) -> Report {
     Report { reason: Reason::from_number(reason), text }
 }
 
-/// Whether a statement reads, and its count of registers is right: else `Form`, `Number` or `Registers`.
-pub fn statement(text: &[u8]) -> Result<(), Reason> {
-    // SAFETY: the pointer is that of a slice of the length given.
-    Reason::check(unsafe { c::staplehorn_statement_reason(text.as_ptr(), text.len()) })
+/// A statement that is refused by itself.
+#[derive(Clone, Copy, PartialEq, Eq, Debug)]
+pub struct RefusedStatement {
+    /// `Form`, `Number` or `Registers`.
+    pub reason: Reason,
+    /// The byte to which the reason points, from 1 at the text's first byte; it may be one past the text's end.
+    pub column: usize,
 }
 
-/// The canonical text of a statement, or `Form` or `Number`.
+impl fmt::Display for RefusedStatement {
+    fn fmt(&self, f: &mut fmt::Formatter<'_>) -> fmt::Result {
+        write!(f, "column {}: {}", self.column, self.reason)
+    }
+}
+
+impl std::error::Error for RefusedStatement {}
+
+/// Whether a statement reads, and its count of registers is right.
+pub fn statement(text: &[u8]) -> Result<(), RefusedStatement> {
+    let mut column = 0;
+    // SAFETY: the pointers are those of a slice of the length given and of a local.
+    let reason = unsafe { c::staplehorn_statement_reason(text.as_ptr(), text.len(), &mut column) };
+    Reason::check(reason).map_err(|reason| RefusedStatement { reason, column })
+}
+
+/// The canonical text of a statement, or `Form` or `Number`; `statement` says where.
 pub fn canonical(text: &[u8]) -> Result<Vec<u8>, Reason> {
     let mut room = vec![0; c::STATEMENT_ROOM];
     let mut length = 0;

@@ -31,7 +31,7 @@ pub enum Reason {
     /// 12
     Descriptor,
     /// 13
-    Shape,
+    ShapeM,
     /// 14
     Cells,
     /// 15
@@ -40,12 +40,16 @@ pub enum Reason {
     Starts,
     /// 19
     Room,
+    /// 20
+    ShapeN,
+    /// 21
+    Types,
     /// A number that this version of the crate does not know.
     Other(u32),
 }
 
 /// Each reason with its number and a sentence.
-const TABLE: [(Reason, u32, &str); 17] = [
+const TABLE: [(Reason, u32, &str); 19] = [
     (Reason::Size, 1, "the sheet has over 65,536 bytes or 4,096 lines"),
     (Reason::Layout, 2, "line 1 is not the header, or a line's layout is wrong"),
     (Reason::Form, 3, "the statement matches no form"),
@@ -58,11 +62,13 @@ const TABLE: [(Reason, u32, &str); 17] = [
     (Reason::Relinquished, 10, "an alloc follows relinquish"),
     (Reason::Space, 11, "no free run of that length starts at a multiple of 32"),
     (Reason::Descriptor, 12, "a descriptor has no reading under the opcode"),
-    (Reason::Shape, 13, "the shape or the types are not listed"),
+    (Reason::ShapeM, 13, "the descriptor's M is not listed"),
     (Reason::Cells, 14, "the lane of an mma is not 0, or columns go past the end of the allocation"),
     (Reason::Exit, 15, "exit while columns are held, a line after exit, or no exit"),
     (Reason::Starts, 16, "the lent list has fewer places than there are allocs"),
     (Reason::Room, 19, "the lent room is too short"),
+    (Reason::ShapeN, 20, "the descriptor's N is not listed"),
+    (Reason::Types, 21, "the descriptor's types are not listed"),
 ];
 
 impl Reason {

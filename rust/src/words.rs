@@ -108,7 +108,7 @@ impl Opcode {
         Ok(word)
     }
 
-    /// `Descriptor` if a word has no reading, `Shape` if its shape or types are not listed.
+    /// `Descriptor` if a word has no reading; else `ShapeM`, `ShapeN` or `Types`, the first that is not listed.
     pub fn judge(self, word: u32) -> Result<(), Reason> {
         let (kind, ws, sp) = self.numbers();
         // SAFETY: the function takes numbers alone.

@@ -41,8 +41,7 @@ fn agree(o: Opcode, word: u32) -> Option<Reason> {
     let said = o.judge(word).err();
     let expected = match (no_reading(o, &v, rest(&INSTRUCTION, word.into())), not_listed(o, &v)) {
         (broken, _) if !broken.is_empty() => Some(Reason::Descriptor),
-        (_, broken) if !broken.is_empty() => Some(Reason::Shape),
-        _ => None,
+        (_, broken) => broken.first().map(|row| row.0),
     };
     assert_eq!(said, expected, "{o:?} {word:#010x}");
     assert_eq!(o.decode(word).is_err(), said == Some(Reason::Descriptor));
@@ -52,7 +51,7 @@ fn agree(o: Opcode, word: u32) -> Option<Reason> {
 #[test]
 fn every_refused_word_has_a_rule() {
     let mut r = Random(7);
-    let mut seen = [0; 3];
+    let mut seen = [0; 5];
     for o in opcodes() {
         for i in 0..40_000 {
             // a word that may be good, and the same with some bits turned
@@ -67,7 +66,8 @@ fn every_refused_word_has_a_rule() {
             let same = if o.kind == Tf32 { turned & !(0x3F << 7) | 2 << 7 | 2 << 10 } else { turned };
             for word in [turned, same, r.next()] {
                 let said = agree(o, word as u32);
-                seen[said.map_or(0, |s| if s == Reason::Shape { 1 } else { 2 })] += 1;
+                let sorts = [None, Some(Reason::Descriptor), Some(Reason::ShapeM), Some(Reason::ShapeN), Some(Reason::Types)];
+                seen[sorts.iter().position(|&sort| sort == said).unwrap()] += 1;
             }
         }
     }

@@ -1,7 +1,7 @@
 //! The wrapper gives the library's answers, and leaves lent places alone where it must.
 
 use staplehorn::{canonical, judge, judge_into, report, request, statement, version};
-use staplehorn::{Answer, InstructionFields, Kind, Opcode, Passed, Reason, Refused, SharedFields, MOST_ALLOCS};
+use staplehorn::{Answer, InstructionFields, Kind, Opcode, Passed, Reason, Refused, RefusedStatement, SharedFields, MOST_ALLOCS};
 
 const PASSED: &[u8] = include_bytes!("../../crates/foot/stdin");
 const PRINTED: &[u8] = include_bytes!("../../crates/foot/stdout");
@@ -11,7 +11,7 @@ const LEAK: &[u8] = include_bytes!("../../examples/leak.sheet");
 fn a_pass_has_its_starts() {
     assert_eq!(judge(PASSED), Ok(Passed { line: 9, peak: 96, starts: vec![0, 64, 0] }));
     let mut starts = [7; 5];
-    assert_eq!(judge_into(PASSED, &mut starts), Answer { reason: None, line: 9, held: 0, peak: 96, starts: 3 });
+    assert_eq!(judge_into(PASSED, &mut starts), Answer { reason: None, line: 9, column: 0, held: 0, peak: 96, starts: 3 });
     assert_eq!(starts, [0, 64, 0, 7, 7]);
 }
 
@@ -25,13 +25,18 @@ fn as_many_starts_as_a_sheet_has_lines() {
 #[test]
 fn a_refusal_writes_nothing() {
     let mut starts = [7; MOST_ALLOCS];
-    let leak = Refused { reason: Reason::Exit, line: 6, held: 32, peak: 96 };
+    let leak = Refused { reason: Reason::Exit, line: 6, column: 1, held: 32, peak: 96 };
     assert_eq!(judge(LEAK), Err(leak));
-    assert_eq!(leak.to_string(), "line 6: exit while columns are held, a line after exit, or no exit");
-    assert_eq!(judge_into(LEAK, &mut starts), Answer { reason: Some(Reason::Exit), line: 6, held: 32, peak: 96, starts: 0 });
-    assert_eq!(judge_into(PASSED, &mut starts[..2]), Answer { reason: Some(Reason::Starts), line: 9, held: 0, peak: 96, starts: 0 });
-    assert_eq!(judge_into(b"", &mut []), Answer { reason: Some(Reason::Layout), line: 1, held: 0, peak: 0, starts: 0 });
-    assert_eq!(judge(&[b'x'; 65_537]).unwrap_err().to_string(), "the sheet has over 65,536 bytes or 4,096 lines");
+    assert_eq!(leak.to_string(), "line 6, column 1: exit while columns are held, a line after exit, or no exit");
+    let exit = Answer { reason: Some(Reason::Exit), line: 6, column: 1, held: 32, peak: 96, starts: 0 };
+    assert_eq!(judge_into(LEAK, &mut starts), exit);
+    let short = Answer { reason: Some(Reason::Starts), line: 9, column: 1, held: 0, peak: 96, starts: 0 };
+    assert_eq!(judge_into(PASSED, &mut starts[..2]), short);
+    let empty = Answer { reason: Some(Reason::Layout), line: 1, column: 1, held: 0, peak: 0, starts: 0 };
+    assert_eq!(judge_into(b"", &mut []), empty);
+    let large = Refused { reason: Reason::Size, line: 0, column: 0, held: 0, peak: 0 };
+    assert_eq!(judge(&[b'x'; 65_537]), Err(large));
+    assert_eq!(large.to_string(), "the sheet has over 65,536 bytes or 4,096 lines");
     assert_eq!(starts, [7; MOST_ALLOCS]);
 }
 
@@ -39,18 +44,41 @@ fn a_refusal_writes_nothing() {
 fn reports_are_those_of_foot() {
     assert_eq!(report(PASSED).text, PRINTED);
     assert_eq!(report(PASSED).reason, None);
-    assert_eq!(report(LEAK).text, b"15\t6\t32\t96\n");
+    assert_eq!(report(LEAK).text, b"15\t6\t1\t32\t96\n");
     assert_eq!(report(LEAK).reason, Some(Reason::Exit));
-    assert_eq!(report(&[b'x'; 65_537]).text, b"1\t0\t0\t0\n");
+    assert_eq!(report(&[b'x'; 65_537]).text, b"1\t0\t0\t0\t0\n");
 }
 
 #[test]
 fn statements() {
     assert_eq!(canonical(b"mov.b32  x ,0x10 ;").unwrap(), b"mov.b32 x, 16;");
     assert_eq!(canonical(b"mov.b32 x, 4294967296;"), Err(Reason::Number));
-    assert_eq!(statement(b"exit"), Err(Reason::Form));
     assert_eq!(statement(b"exit;"), Ok(()));
-    assert_eq!(statement(b"tcgen05.ld.sync.aligned.32x32b.x2.b32 {r}, [t];"), Err(Reason::Registers));
+    // more than 4,096 bytes that would read: one past the end
+    let long = format!("mov.b32 x,{}64;", " ".repeat(4_084));
+    for (text, reason, column) in [
+        ("exit", Reason::Form, 5),
+        ("", Reason::Form, 1),
+        (" exit;", Reason::Form, 1),
+        ("exit; ", Reason::Form, 6),
+        ("mov.b32 x, 4294967296;", Reason::Number, 12),
+        ("tcgen05.ld.sync.aligned.32x32b.x2.b32 {r}, [t];", Reason::Registers, 1),
+        (&long, Reason::Form, 4_098),
+    ] {
+        assert_eq!(statement(text.as_bytes()), Err(RefusedStatement { reason, column }), "{text}");
+    }
+    assert_eq!(statement(b"exit").unwrap_err().to_string(), "column 5: the statement matches no form");
+}
+
+/// In a line of a sheet a statement has its column two higher: the warp and the tab stand before it.
+#[test]
+fn columns_in_a_line() {
+    for text in ["exit", " exit;", "exit; ", "mov.b32 x, 08;", "mov.b32 x, 4294967296;", "tcgen05.ld.sync.aligned.32x32b.x2.b32 {r}, [t];"]
+    {
+        let alone = statement(text.as_bytes()).unwrap_err();
+        let line = judge(format!("sheet\t1\tsm_100a\n3\t{text}\n").as_bytes()).unwrap_err();
+        assert_eq!((line.reason, line.line, line.column as usize), (alone.reason, 2, alone.column + 2), "{text}");
+    }
 }
 
 #[test]
@@ -63,8 +91,12 @@ fn words() {
     assert_eq!(dense.encode(InstructionFields { n: 7, ..fields }), Err(Reason::Descriptor));
     assert_eq!(dense.decode(1), Err(Reason::Descriptor));
     let i8 = Opcode { kind: Kind::I8, ws: false, sp: false };
-    assert_eq!(i8.judge(0x080A_00A0), Err(Reason::Shape));
-    assert_eq!(i8.listed(i8.decode(0x080A_00A0).unwrap()), Err(Reason::Shape));
+    assert_eq!(i8.judge(0x080A_00A0), Err(Reason::ShapeN));
+    assert_eq!(i8.listed(i8.decode(0x080A_00A0).unwrap()), Err(Reason::ShapeN));
+    // M, N and types; N and types; types
+    assert_eq!(dense.judge(0x0C00_0020), Err(Reason::ShapeM));
+    assert_eq!(dense.judge(0x0800_0020), Err(Reason::ShapeN));
+    assert_eq!(dense.judge(0x0810_0020), Err(Reason::Types));
     assert_eq!(Opcode { kind: Kind::Tf32, ws: false, sp: true }.k(), 16);
     let shared = SharedFields { leading: 256, stride: 128, ..Default::default() };
     assert_eq!(SharedFields::decode(0x0000_4008_0010_0000), Ok(shared));
@@ -114,7 +146,7 @@ fn reasons_have_numbers_and_words() {
     for number in 1..40 {
         let reason = Reason::from_number(number).unwrap();
         assert_eq!(reason.number(), number);
-        let known = (1..=16).contains(&number) || number == 19;
+        let known = matches!(number, 1..=16 | 19..=21);
         assert_eq!(matches!(reason, Reason::Other(_)), !known);
         assert_eq!(reason.to_string() == format!("reason {number}"), !known);
     }

@@ -106,7 +106,7 @@ fn instruction(o: Opcode, word: u32) -> Said {
     let mut said = Said::reason(reason);
     match reason {
         Some(Reason::Descriptor) => said.broken(rules::no_reading(o, &values, rules::rest(&INSTRUCTION, word.into()))),
-        Some(_) => said.broken(rules::not_listed(o, &values)),
+        Some(_) => said.broken(rules::not_listed(o, &values).into_iter().map(|row| row.1).collect()),
         None => {}
     }
     // what the library read; for a word without a reading what its bits hold

@@ -2,7 +2,7 @@
 //! holds both to each other.
 
 use staplehorn::Kind::{self, F8f6f4, Tf32, F16, I8};
-use staplehorn::Opcode;
+use staplehorn::{Opcode, Reason};
 
 /// A field of a word: its bits, and how much one of its units stands for.
 pub struct Field {
@@ -172,13 +172,22 @@ fn type_list(kind: Kind) -> String {
     list.join(", ")
 }
 
-/// The rules of listing (reason 13) that the values of a descriptor that reads break.
-pub fn not_listed(o: Opcode, v: &[u64; 13]) -> Vec<String> {
-    let (n, m) = (v[N], v[M]);
-    let behind = if o.ws { " with .ws" } else { "" };
+/// The rules of listing that the values of a descriptor that reads break, in the order in which they are asked: M (13), N (20), types (21).
+pub fn not_listed(o: Opcode, v: &[u64; 13]) -> Vec<(Reason, String)> {
+    let parts = [(Reason::ShapeM, m_not_listed(o, v[M])), (Reason::ShapeN, n_not_listed(o, v[N])), (Reason::Types, types_not_listed(o, v))];
+    parts.into_iter().flat_map(|(reason, lines)| lines.into_iter().map(move |line| (reason, line))).collect()
+}
+
+fn m_not_listed(o: Opcode, m: u64) -> Vec<String> {
     let mut b = Broken::default();
     let listed = if o.ws { matches!(m, 32 | 64 | 128) } else { matches!(m, 64 | 128) };
     b.unless(listed, || format!("M {m}: {}", if o.ws { "32, 64 or 128 with .ws" } else { "64 or 128 without .ws" }));
+    b.0
+}
+
+fn n_not_listed(o: Opcode, n: u64) -> Vec<String> {
+    let behind = if o.ws { " with .ws" } else { "" };
+    let mut b = Broken::default();
     let (kept, takes) = match (o.ws, o.kind) {
         (true, _) => (matches!(n, 64 | 128 | 256), "64, 128 or 256"),
         (false, I8) => {
@@ -187,6 +196,11 @@ pub fn not_listed(o: Opcode, v: &[u64; 13]) -> Vec<String> {
         (false, _) => ((8..=256).contains(&n) && n % 8 == 0, "8 to 256 in eights"),
     };
     b.unless(kept, || format!("N {n}: {}{behind} takes {takes}", kind_name(o.kind)));
+    b.0
+}
+
+fn types_not_listed(o: Opcode, v: &[u64; 13]) -> Vec<String> {
+    let mut b = Broken::default();
     let name = |at: usize, table| name_in(table, v[at]).unwrap_or("?");
     let (d, ta, tb) = (name(DTYPE, DTYPES), name(ATYPE, types(o.kind)), name(BTYPE, types(o.kind)));
     match o.kind {
