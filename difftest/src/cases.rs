@@ -49,13 +49,13 @@ fn try_write(folder: &Path) -> io::Result<usize> {
 /// The sheets of all cases, by name.
 fn all() -> BTreeMap<String, Vec<u8>> {
     let mut cases = BTreeMap::new();
-    for reason in 0..=15 {
+    for reason in (0..=15).chain([20, 21]) {
         for entry in some_entries(reason) {
             cases.insert(entry.name, entry.sheet);
         }
     }
     let mut r = Random::new(5);
-    for reason in 2..=15 {
+    for reason in (2..=15).chain([20, 21]) {
         for number in 0..2 {
             cases.insert(format!("made-{reason}-{number}"), faulty(&mut r, reason));
         }
@@ -83,7 +83,7 @@ fn faulty(r: &mut Random, reason: u32) -> Vec<u8> {
         for _ in 0..m.r.below(15) {
             m.valid();
         }
-        if m.fault(reason) {
+        if m.fault(reason).is_some() {
             m.exit();
             return m.bytes;
         }
@@ -146,7 +146,7 @@ fn try_compare(folder: &Path) -> io::Result<bool> {
             }
         }
     }
-    let mut least: Vec<_> = (0..=15).map(|reason| ("cases", reason, 2)).collect();
+    let mut least: Vec<_> = (0..=15).chain([20, 21]).map(|reason| ("cases", reason, 2)).collect();
     least.extend((0..FORMS).map(|form| ("forms in passed cases", form, 2)));
     Ok(counts.finish("data", &least) && whole)
 }

@@ -5,6 +5,8 @@ use std::collections::BTreeMap;
 #[derive(Default)]
 pub struct Counts {
     outcomes: BTreeMap<(&'static str, u32), u64>,
+    /// How often a refusal stood at a place of its sort.
+    places: BTreeMap<(u32, &'static str), u64>,
     compared: u64,
     differences: u64,
 }
@@ -36,6 +38,31 @@ impl Counts {
     /// Counts an outcome that is no comparison by itself.
     pub fn seen(&mut self, function: &'static str, outcome: u32) {
         *self.outcomes.entry((function, outcome)).or_insert(0) += 1;
+    }
+
+    /// Counts a refusal by what its column names.
+    pub fn place(&mut self, reason: u32, what: &'static str) {
+        *self.places.entry((reason, what)).or_insert(0) += 1;
+    }
+
+    /// Prints the places of the refusals and says whether each that is wanted was seen often enough, and no other.
+    pub fn enough_places(&self, wanted: &[(u32, &'static str)], least: u64) -> bool {
+        let mut good = true;
+        for ((reason, what), n) in &self.places {
+            println!("  reason {reason:>2}, {what:<32}: {n:>7}");
+            if !wanted.contains(&(*reason, what)) {
+                println!("UNKNOWN reason {reason}, {what}: not in the list of places");
+                good = false;
+            }
+        }
+        for place in wanted {
+            let seen = self.places.get(place).copied().unwrap_or(0);
+            if seen < least {
+                println!("HOLLOW reason {}, {}: seen {seen} times, wanted {least}", place.0, place.1);
+                good = false;
+            }
+        }
+        good
     }
 
     pub fn differences(&self) -> u64 {

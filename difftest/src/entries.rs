@@ -1,10 +1,14 @@
 //! The sheets whose answers were worked out by hand: each is asked of both sides, with its list and its report.
 
+use crate::readings;
 use crate::sheets::{Proved, Reference, Side};
 use staplehorn_difftest::counts::Counts;
+use staplehorn_difftest::proved;
 use staplehorn_reference::entries::{all, Entry};
 use staplehorn_reference::report::report;
 
+/// The version that is compared: 0.3.0.
+const VERSION: u32 = 300;
 /// What stands in a list or room before a call.
 const BEFORE: u16 = 0xA5A5;
 /// The least room that takes any report.
@@ -20,8 +24,8 @@ fn list_after(entry: &Entry) -> Vec<u16> {
 fn judged(counts: &mut Counts, what: &'static str, side: &impl Side, entry: &Entry) {
     let mut list = vec![BEFORE; entry.places];
     let (reason, answer) = side.judge(&entry.sheet, &mut list);
-    let [wanted, line, held, peak] = entry.answer;
-    let all = (wanted, [wanted, line, held, peak, entry.starts.len() as u32], list_after(entry));
+    let [wanted, line, column, held, peak] = entry.answer;
+    let all = (wanted, [wanted, line, column, held, peak, entry.starts.len() as u32], list_after(entry));
     counts.compare(what, wanted, (reason, answer, list), all, || entry.name.clone());
 }
 
@@ -39,6 +43,10 @@ pub fn run() -> bool {
         judged(&mut counts, "entries, reference", &Reference, &entry);
         reported(&mut counts, &entry);
     }
-    let wanted: Vec<_> = (0..=16).map(|reason| ("entries", reason, 2)).collect();
+    readings::sheets(&mut counts);
+    counts.compare("version", 0, proved::version(), VERSION, || "the library's number".into());
+    let mut wanted: Vec<_> = (0..=16).chain([20, 21]).map(|reason| ("entries", reason, 2)).collect();
+    wanted.extend([("readings of columns", 3, 30), ("readings of columns", 6, 8)]);
+    wanted.extend((0..=16).chain([20, 21]).map(|reason| ("readings of columns", reason, 1)));
     counts.finish("entries", &wanted)
 }

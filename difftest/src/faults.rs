@@ -1,33 +1,85 @@
-//! Lines that are refused: aimed at one reason, or with any number of faults.
+//! Lines that are refused: aimed at one reason, or with any number of faults. Of a line that is aimed the maker knows the
+//! column too.
 
-use crate::maker::{shared_word, Access, Address, Maker, Mma, Word, A};
+use crate::maker::{bare, name_and_number, shared_word, Access, Address, Maker, Mma, Word, A};
 use crate::maker::{I8, IDLE, LANE, RELINQUISH, SIZES, UNIT, UNITS, VALUES};
+use crate::tokens::{Operand, Role, Spacing, Text};
 use staplehorn_difftest::random::Random;
 
+/// A refused line: what is wrong with it, and the column.
+#[derive(Clone, Copy, Debug)]
+pub struct Fault {
+    pub what: &'static str,
+    pub column: u32,
+    /// What else is counted: for a fault of form what stands where no form can go on, or that several operands are wrong.
+    pub also: Option<&'static str>,
+}
+
+impl Fault {
+    pub fn new(what: &'static str, column: usize) -> Self {
+        Fault { what, column: column as u32, also: None }
+    }
+}
+
+/// Operands that were broken: the leftmost, and whether there are others.
+struct Broken {
+    first: Operand,
+    several: bool,
+}
+
+impl Broken {
+    fn new(operand: Operand) -> Self {
+        Broken { first: operand, several: false }
+    }
+
+    fn add(&mut self, operand: Operand) {
+        self.several |= operand != self.first;
+        self.first = self.first.min(operand);
+    }
+}
+
+/// A line is a warp field, a tab, a statement.
+pub const FIRST: usize = 3;
+
 impl Maker<'_> {
-    /// Adds a line that is refused with this reason, 2 to 15, and lines that it needs before it. Says whether it could.
-    pub fn fault(&mut self, reason: u32) -> bool {
+    /// Adds a line that is refused with this reason, 2 to 15, 20 or 21, and lines that it needs before it; none if it cannot.
+    pub fn fault(&mut self, reason: u32) -> Option<Fault> {
         match reason {
-            2 => self.layout_fault(),
-            3 => self.form_fault(),
-            4 => self.number_fault(),
-            5 => self.register_fault(),
-            6 => return self.name_fault(),
-            7 => self.table_fault(),
-            8 => return self.warp_fault(),
-            9 => return self.request_fault(),
-            10 => self.permit_fault(),
-            11 => return self.run_fault(),
-            12 => return self.word_fault(),
-            13 => return self.shape_fault(),
-            14 => return self.cell_fault(),
-            _ => return self.exit_fault(),
+            2 => Some(self.layout_fault()),
+            3 => Some(self.form_fault()),
+            4 => Some(self.number_fault()),
+            5 => Some(self.register_fault()),
+            6 => self.name_fault(),
+            7 => Some(self.table_fault()),
+            8 => self.warp_fault(),
+            9 => self.request_fault(),
+            10 => Some(self.permit_fault()),
+            11 => self.run_fault(),
+            12 => self.word_fault(),
+            13 | 20 | 21 => self.listing_fault(reason),
+            14 => self.cell_fault(),
+            _ => self.exit_fault(),
         }
-        true
+    }
+
+    /// Adds the line; its column is that of the token in this role.
+    fn at(&mut self, what: &'static str, warp: u64, text: &Text, role: Role) -> Fault {
+        let spacing = self.r.pick(&[Spacing::Plain, Spacing::Tight, Spacing::Loose, Spacing::Loose]);
+        self.spaced_line(warp, text, spacing);
+        let place = text.find(role).expect("a statement has the operand that is wrong");
+        Fault::new(what, FIRST + self.starts[place])
+    }
+
+    /// Adds an mma; its column is that of the leftmost broken operand.
+    fn at_mma(&mut self, mma: &Mma, broken: &Broken, role: fn(Operand) -> Role) -> Fault {
+        let (text, warp) = (self.mma_text(mma), self.any_warp());
+        let mut fault = self.at(operand_name(broken.first, mma), warp, &text, role(broken.first));
+        fault.also = broken.several.then_some("leftmost of several");
+        fault
     }
 
     /// A line that reads and has the right number of registers, with any names.
-    pub fn readable(&mut self) -> String {
+    pub fn readable(&mut self) -> Text {
         let mut names = Vec::new();
         for _ in 0..6 {
             let name = match self.r.below(3) {
@@ -38,7 +90,7 @@ impl Maker<'_> {
             names.push(name.unwrap_or_else(|| format!("q{}", self.r.below(9))));
         }
         let offset = self.r.pick(&[0, 1, 31, 32, 511, 65_536, 2_097_152, u64::from(u32::MAX)]);
-        let address = Address { name: names[0].clone(), offset };
+        let address = Address::new(names[0].clone(), offset);
         match self.r.below(8) {
             0 => {
                 let word = Word::Narrow(self.r.next() as u32);
@@ -63,74 +115,95 @@ impl Maker<'_> {
                 self.access_text(&access)
             }
             5 => {
-                let a = if self.one_in(2) { A::Name(names[1].clone()) } else { A::Address(Address { name: names[1].clone(), offset: 0 }) };
-                let meta = Address { name: names[2].clone(), offset: 2 };
+                let a = if self.one_in(2) { A::Name(names[1].clone()) } else { A::Address(Address::new(names[1].clone(), 0)) };
+                let meta = Address::new(names[2].clone(), 2);
                 let (kind, ws, sp) = (self.r.below(4) as usize, self.one_in(2), self.one_in(2));
                 self.mma_text(&Mma { kind, ws, sp, d: address, a, b: names[3].clone(), meta, idesc: names[4].clone(), word: 0 })
             }
-            6 => RELINQUISH.into(),
-            _ => self.r.pick(&IDLE).into(),
+            6 => bare(RELINQUISH),
+            _ => bare(self.r.pick(&IDLE)),
         }
     }
 
-    fn layout_fault(&mut self) {
-        let text = self.readable();
-        let line = match self.r.below(9) {
-            0 => Vec::new(),
-            1 => format!("{}\t{text}", self.r.pick(&["4", "/", "a", "-", "+", ")", ":", " ", "\t", "\0", "00"])).into(),
-            2 => text.into(),
-            3 => format!("0 {text}").into(),
-            4 => format!("0\t\t{text}").into(),
-            5 => vec![self.r.pick(b"0123*")],
+    fn layout_fault(&mut self) -> Fault {
+        let text = self.readable().plain();
+        let (what, line): (_, Vec<u8>) = match self.r.below(9) {
+            0 => ("empty line", Vec::new()),
+            1 => {
+                let field = self.r.pick(&["4", "/", "a", "-", "+", ")", ":", " ", "\t", "\0", "00"]);
+                ("warp field", format!("{field}\t{text}").into())
+            }
+            2 => ("warp field", text.into()),
+            3 => ("tab", format!("0 {text}").into()),
+            4 => ("byte", format!("0\t\t{text}").into()),
+            5 => ("tab", vec![self.r.pick(b"0123*")]),
             6 | 7 => {
                 let mut line = format!("1\t{text}").into_bytes();
                 let byte = self.r.pick(&[0, 9, 13, 31, 127, 128, 160, 255]);
                 let at = 2 + self.r.below(line.len() as u64 - 1) as usize;
                 line.insert(at, byte);
-                line
+                ("byte", line)
             }
-            _ => format!("1\texit{};", " ".repeat(2_049 - 7 + self.r.below(3) as usize)).into(),
+            _ => ("line's length", format!("1\texit{};", " ".repeat(2_049 - 7 + self.r.below(3) as usize)).into()),
         };
         self.raw(&line);
+        Fault::new(what, 1)
     }
 
-    fn form_fault(&mut self) {
-        let text = self.readable();
-        let short = &text[..text.len() - 1];
-        let broken = match self.r.below(10) {
-            0 => short.into(),
-            1 => format!("{text} "),
-            2 => format!(" {text}"),
-            3 => format!("{text};"),
-            4 => format!("{}{}", text[..1].to_uppercase(), &text[1..]),
-            5 => format!("{short}, x;"),
-            6 => format!("{short}~;"),
-            7 => self.r.pick(&WRONG).into(),
-            8 => format!("tcgen05.ld.sync.aligned.32x32b.x128.b32 {{{}}}, [t];", vec!["r"; self.r.pick(&[129, 130, 200])].join(",")),
-            _ => self.r.pick(&["", " ", ";", "exit", "x", "mov.b32", "mov.b32;", "mov.b32 x;", "exit ; ;"]).into(),
-        };
-        let warp = self.any_warp();
-        self.bytes.extend([b'0' + warp as u8, b'\t']);
-        self.raw(broken.as_bytes());
-    }
-
-    fn number_fault(&mut self) {
+    /// One number or more over its limit: the leftmost counts, whatever else is wrong with a higher reason.
+    fn number_fault(&mut self) -> Fault {
         let name = self.live_name().unwrap_or_else(|| "q".into());
-        let (narrow, wide) = (self.number_over(false), self.number_over(true));
-        let text = match self.r.below(6) {
-            0 => format!("mov.b32 {name}, {narrow};"),
-            1 => format!("mov.b64 {name}, {wide};"),
-            2 => format!("tcgen05.alloc.cta_group::1.sync.aligned.b32 [{name}], {narrow};"),
-            3 => format!("tcgen05.dealloc.cta_group::1.sync.aligned.b32 {name}, {narrow};"),
-            // the count of registers is right or not: 4 comes first
-            4 => format!("tcgen05.ld.sync.aligned.32x32b.x{}.b32 {{r}}, [{name}+{narrow}];", self.r.pick(&[1, 2])),
-            _ => format!("tcgen05.mma.sp.cta_group::1.kind::f16 [{name}], a, b, [{name}+{narrow}], i, p;"),
-        };
-        let warp = self.any_warp();
-        self.line(warp, &text);
+        let (narrow, warp) = (self.number_over(false), self.any_warp());
+        let number = Role::Number(Operand::Only);
+        match self.r.below(10) {
+            0 => self.at("mov.b32", warp, &name_and_number("mov.b32", &name, &narrow), number),
+            1 => {
+                let wide = self.number_over(true);
+                self.at("mov.b64", warp, &name_and_number("mov.b64", &name, &wide), number)
+            }
+            2 => {
+                let text = self.alloc_written(&name, &narrow);
+                self.at("alloc", warp, &text, number)
+            }
+            3 => {
+                let text = name_and_number("tcgen05.dealloc.cta_group::1.sync.aligned.b32", &name, &narrow);
+                self.at("dealloc", warp, &text, number)
+            }
+            4 | 5 => {
+                // the count of registers is right or not: 4 comes first
+                let (store, num) = (self.one_in(2), self.r.pick(&[1, 2]));
+                let address = Address { name, offset: 0, written: Some(narrow) };
+                let text = self.access_text(&Access { store, shape: 0, num, count: 1, address, warp });
+                self.at(if store { "st" } else { "ld" }, warp, &text, number)
+            }
+            _ => self.mma_number_fault(name),
+        }
     }
 
-    fn register_fault(&mut self) {
+    fn mma_number_fault(&mut self, name: String) -> Fault {
+        let (kind, ws, sp) = (self.r.below(4) as usize, self.one_in(2), !self.one_in(3));
+        let offset = self.r.below(2) * 8;
+        let address = |m: &mut Self, one_in: u64| {
+            let written = m.one_in(one_in).then(|| m.number_over(false));
+            Address { name: name.clone(), offset, written }
+        };
+        let d = address(self, 3);
+        let cells = address(self, 2);
+        let meta = address(self, 1);
+        let a = if !sp || self.one_in(2) { A::Address(cells.clone()) } else { A::Name("a".into()) };
+        let mut mma = Mma { kind, ws, sp, d, a, b: "b".into(), meta, idesc: "i".into(), word: 0 };
+        if !sp && mma.d.written.is_none() {
+            mma.a = A::Address(Address { written: Some(self.number_over(false)), ..cells });
+        }
+        let a_over = matches!(&mma.a, A::Address(address) if address.written.is_some());
+        let over = [(Operand::D, mma.d.written.is_some()), (Operand::A, a_over), (Operand::Meta, sp)];
+        let mut over = over.into_iter().filter(|(_, is_over)| *is_over).map(|(operand, _)| operand);
+        let mut broken = Broken::new(over.next().expect("one is over"));
+        over.for_each(|operand| broken.add(operand));
+        self.at_mma(&mma, &broken, Role::Number)
+    }
+
+    fn register_fault(&mut self) -> Fault {
         let shape = self.r.below(4) as usize;
         let num = 1 << self.r.below(8);
         let wanted = SIZES[shape].0 * num;
@@ -141,15 +214,25 @@ impl Maker<'_> {
         };
         let count = if count == wanted { count % 128 + 1 } else { count };
         let name = self.live_name().unwrap_or_else(|| "q".into());
-        let address = Address { name, offset: self.r.below(2) * LANE };
+        let address = Address::new(name, self.r.below(2) * LANE);
         let (store, warp) = (self.one_in(2), self.any_warp());
-        self.access_line(&Access { store, shape, num, count, address, warp });
+        let text = self.access_text(&Access { store, shape, num, count, address, warp });
+        self.at(if store { "st" } else { "ld" }, warp, &text, Role::Opcode)
+    }
+
+    /// A name that is bound to nothing; it may have been a holding's.
+    fn unbound(&mut self) -> String {
+        let freed = self.freed.len() as u64;
+        if freed > 0 && self.one_in(3) {
+            return self.freed[self.r.below(freed) as usize].clone();
+        }
+        self.r.pick(&["unbound", "unbound", "u", "%u", "$0"]).into()
     }
 
     /// A name that is no live holding: bound to nothing, or to a value.
     fn no_holding(&mut self) -> String {
         let value = if self.one_in(2) { self.value_name() } else { None };
-        value.unwrap_or_else(|| "unbound".into())
+        value.unwrap_or_else(|| self.unbound())
     }
 
     /// A name that is no value of this width.
@@ -160,7 +243,7 @@ impl Maker<'_> {
             1 => other,
             _ => None,
         };
-        name.unwrap_or_else(|| "unbound".into())
+        name.unwrap_or_else(|| self.unbound())
     }
 
     /// Sees to it that something is held.
@@ -169,59 +252,81 @@ impl Maker<'_> {
         !self.live.is_empty() || self.alloc(columns)
     }
 
-    fn name_fault(&mut self) -> bool {
+    fn name_fault(&mut self) -> Option<Fault> {
         if !self.ensure_live() {
-            return false;
+            return None;
         }
         let (warp, columns) = (self.any_warp(), self.r.pick(&[32, 64, 33, 0, 512]));
-        match self.r.below(6) {
+        let name = Role::Name(Operand::Only);
+        let fault = match self.r.below(10) {
             0 => {
-                let live = if self.one_in(2) { self.live_name() } else { self.value_name() };
-                let Some(name) = live else {
-                    return false;
-                };
-                let text = self.alloc_text(&name, columns);
-                self.line(warp, &text);
+                let taken = if self.one_in(2) { self.live_name() } else { self.value_name() };
+                let text = self.alloc_text(&taken?, columns);
+                self.at("alloc", warp, &text, name)
             }
             1 => {
-                let name = self.live_name().expect("something is held");
-                let word = Word::Wide(self.r.next());
-                let text = self.mov_text(&name, word);
-                self.line(warp, &text);
+                let taken = self.live_name()?;
+                let word = if self.one_in(2) { Word::Wide(self.r.next()) } else { Word::Narrow(1) };
+                let text = self.mov_text(&taken, word);
+                self.at("mov", warp, &text, name)
             }
             2 => {
-                let name = self.no_holding();
-                let text = self.dealloc_text(&name, columns);
-                self.line(warp, &text);
+                let other = self.no_holding();
+                let text = self.dealloc_text(&other, columns);
+                self.at("dealloc", warp, &text, name)
             }
-            3 => {
-                let mut access = self.good_access().expect("something is held");
+            3 | 4 => {
+                let mut access = self.good_access()?;
                 access.address.name = self.no_holding();
-                self.access_line(&access);
+                let text = self.access_text(&access);
+                self.at(if access.store { "st" } else { "ld" }, access.warp, &text, name)
             }
             _ => {
-                let mut mma = self.good_mma().expect("something is held");
-                self.spoil_name(&mut mma);
-                self.mma_line(&mma);
+                let mut mma = self.good_mma()?;
+                let mut broken = Broken::new(self.spoil_name(&mut mma));
+                while self.one_in(2) {
+                    broken.add(self.spoil_name(&mut mma));
+                }
+                self.spoil_cells(&mut mma, 3);
+                self.at_mma(&mma, &broken, Role::Name)
+            }
+        };
+        Some(fault)
+    }
+
+    /// Breaks a name of the mma; it may be another operand's good name. Says whose it is.
+    fn spoil_name(&mut self, mma: &mut Mma) -> Operand {
+        match self.r.below(if mma.sp { 5 } else { 4 }) {
+            0 => {
+                // b may have become a holding's name
+                let other = self.one_in(4) && self.is_value(&mma.b);
+                mma.d.name = if other { mma.b.clone() } else { self.no_holding() };
+                Operand::D
+            }
+            1 => {
+                let other = self.one_in(4) && self.word_of(&mma.idesc).is_some_and(|word| matches!(word, Word::Narrow(_)));
+                match &mut mma.a {
+                    A::Name(name) => *name = if other { mma.idesc.clone() } else { self.no_value(true) },
+                    A::Address(address) => address.name = self.no_holding(),
+                }
+                Operand::A
+            }
+            2 => {
+                mma.b = if self.one_in(4) { self.unbound() } else { self.no_value(true) };
+                Operand::B
+            }
+            3 => {
+                mma.idesc = self.no_value(false);
+                Operand::Idesc
+            }
+            _ => {
+                mma.meta.name = self.no_holding();
+                Operand::Meta
             }
         }
-        true
     }
 
-    fn spoil_name(&mut self, mma: &mut Mma) {
-        match self.r.below(if mma.sp { 5 } else { 4 }) {
-            0 => mma.d.name = self.no_holding(),
-            1 => match &mut mma.a {
-                A::Name(name) => *name = self.no_value(true),
-                A::Address(address) => address.name = self.no_holding(),
-            },
-            2 => mma.b = self.no_value(true),
-            3 => mma.idesc = self.no_value(false),
-            _ => mma.meta.name = self.no_holding(),
-        }
-    }
-
-    fn table_fault(&mut self) {
+    fn table_fault(&mut self) -> Fault {
         while self.values.len() < VALUES {
             let (name, word) = (self.new_name(), Word::Narrow(self.values.len() as u32));
             self.bind_name(&name, word);
@@ -231,35 +336,42 @@ impl Maker<'_> {
         }
         let (name, warp) = (self.new_name(), self.any_warp());
         let text = self.mov_text(&name, Word::Wide(1));
-        self.line(warp, &text);
+        self.at("mov", warp, &text, Role::Name(Operand::Only))
     }
 
-    fn warp_fault(&mut self) -> bool {
+    fn warp_fault(&mut self) -> Option<Fault> {
         if !self.ensure_live() {
-            return false;
+            return None;
         }
-        let (name, stranger) = (self.live_name().expect("something is held"), self.stranger());
+        let (name, stranger) = (self.live_name()?, self.stranger());
         let columns = self.r.pick(&[32, 64, 33, 512]);
-        match self.r.below(6) {
+        let what = match self.r.below(6) {
             0 => {
                 let new = self.new_name();
                 let text = self.alloc_text(&new, columns);
                 self.line(stranger, &text);
+                "alloc"
             }
             1 => {
                 let text = self.dealloc_text(&name, columns);
                 self.line(stranger, &text);
+                "dealloc"
             }
-            2 => self.line(stranger, RELINQUISH),
+            2 => {
+                self.line(stranger, &bare(RELINQUISH));
+                "relinquish"
+            }
             _ => {
-                let mut access = self.good_access().expect("something is held");
+                let mut access = self.good_access()?;
                 let column = access.address.offset % LANE + self.r.pick(&[0, 0, 600]);
                 let lane = self.wrong_lane(access.warp, access.shape);
                 access.address.offset = lane * LANE + column;
-                self.access_line(&access);
+                let text = self.access_text(&access);
+                let what = if access.store { "st" } else { "ld" };
+                return Some(self.at(what, access.warp, &text, Role::Open(Operand::Only)));
             }
-        }
-        true
+        };
+        Some(Fault::new(what, 1))
     }
 
     /// A lane that is not one that the shape may have in this warp.
@@ -276,28 +388,27 @@ impl Maker<'_> {
         }
     }
 
-    fn request_fault(&mut self) -> bool {
+    fn request_fault(&mut self) -> Option<Fault> {
         if !self.ensure_live() {
-            return false;
+            return None;
         }
-        let warp = self.booker();
+        let (warp, number) = (self.booker(), Role::Number(Operand::Only));
         if self.one_in(2) {
             let columns =
                 self.r.pick(&[0, 1, 2, 16, 31, 33, 48, 96, 160, 511, 513, 544, 1_024, 2_048, 65_568, 1 << 31, u64::from(u32::MAX)]);
             let name = self.new_name();
             let text = self.alloc_text(&name, columns);
-            self.line(warp, &text);
+            Some(self.at("alloc", warp, &text, number))
         } else {
-            let place = self.any_live().expect("something is held");
+            let place = self.any_live()?;
             let (name, length) = (self.live[place].name.clone(), u64::from(self.live[place].columns));
             let columns = self.r.pick(&[0, length / 2, length - 1, length + 1, 2 * length, length + 65_536, length + (1 << 31)]);
             let text = self.dealloc_text(&name, columns);
-            self.line(warp, &text);
+            Some(self.at("dealloc", warp, &text, number))
         }
-        true
     }
 
-    fn permit_fault(&mut self) {
+    fn permit_fault(&mut self) -> Fault {
         if !self.relinquished {
             self.relinquish();
         }
@@ -306,12 +417,12 @@ impl Maker<'_> {
         }
         let (name, warp, columns) = (self.new_name(), self.booker(), self.r.pick(&[32, 64, 128, 256, 512]));
         let text = self.alloc_text(&name, columns);
-        self.line(warp, &text);
+        self.at("alloc", warp, &text, Role::Opcode)
     }
 
-    fn run_fault(&mut self) -> bool {
+    fn run_fault(&mut self) -> Option<Fault> {
         if self.relinquished {
-            return false;
+            return None;
         }
         if self.one_in(2) {
             // many small holdings with gaps of one unit
@@ -326,41 +437,52 @@ impl Maker<'_> {
                 }
             }
         } else if !self.ensure_live() {
-            return false;
+            return None;
         }
-        let Some(columns) = [32, 64, 128, 256, 512].into_iter().find(|&columns| self.unit_for(columns).is_none()) else {
-            return false;
-        };
+        let columns = [32, 64, 128, 256, 512].into_iter().find(|&columns| self.unit_for(columns).is_none())?;
         let columns = if self.one_in(2) { columns } else { 512 };
         let (name, warp) = (self.new_name(), self.booker());
         let text = self.alloc_text(&name, columns.into());
-        self.line(warp, &text);
-        true
+        Some(self.at("alloc", warp, &text, Role::Opcode))
     }
 
-    fn word_fault(&mut self) -> bool {
+    /// One descriptor or more without a reading: the leftmost counts.
+    fn word_fault(&mut self) -> Option<Fault> {
         if !self.ensure_live() {
-            return false;
+            return None;
         }
-        let mut mma = self.good_mma().expect("something is held");
-        match self.r.below(4) {
-            0 => {
-                let bad = bad_shared(self.r);
-                self.bind_name(&mma.b.clone(), Word::Wide(bad));
-            }
-            1 => {
-                if let A::Name(name) = mma.a.clone() {
-                    let bad = bad_shared(self.r);
-                    self.bind_name(&name, Word::Wide(bad));
-                } else {
-                    self.spoil_idesc(&mma);
-                }
-            }
-            _ => self.spoil_idesc(&mma),
+        let mut mma = self.good_mma()?;
+        let mut broken = Broken::new(self.spoil_word(&mma));
+        while self.one_in(2) {
+            broken.add(self.spoil_word(&mma));
         }
         self.spoil_cells(&mut mma, 3);
-        self.mma_line(&mma);
-        true
+        Some(self.at_mma(&mma, &broken, Role::Name))
+    }
+
+    /// Binds a descriptor of the mma to a word without a reading. Says whose is the leftmost that has it.
+    fn spoil_word(&mut self, mma: &Mma) -> Operand {
+        let bad = Word::Wide(bad_shared(self.r));
+        match (self.r.below(3), &mma.a) {
+            (0, A::Name(name)) => {
+                self.bind_name(name, bad);
+                Operand::A
+            }
+            (0 | 1, a) => {
+                self.bind_name(&mma.b, bad);
+                // a and b may be one name
+                let both = matches!(a, A::Name(name) if *name == mma.b);
+                if both {
+                    Operand::A
+                } else {
+                    Operand::B
+                }
+            }
+            _ => {
+                self.spoil_idesc(mma);
+                Operand::Idesc
+            }
+        }
     }
 
     /// Binds idesc to a word without a reading under the opcode.
@@ -380,26 +502,31 @@ impl Maker<'_> {
         self.bind_name(&mma.idesc.clone(), Word::Narrow(bad));
     }
 
-    fn shape_fault(&mut self) -> bool {
+    /// M not listed (13), else N (20), else types (21); those that are asked later may be wrong too.
+    fn listing_fault(&mut self, reason: u32) -> Option<Fault> {
         if !self.ensure_live() {
-            return false;
+            return None;
         }
-        let mut mma = self.good_mma().expect("something is held");
+        let mut mma = self.good_mma()?;
         let unlisted_n: &[u32] = match (mma.ws, mma.kind) {
             (true, _) => &[0, 8, 32, 48, 96, 192, 264, 504],
             (false, I8) => &[0, 40, 56, 72, 248, 264, 272, 504],
             _ => &[0, 264, 272, 320, 504],
         };
         let unlisted_m: &[u32] = if mma.ws { &[0, 16, 48, 96, 144, 256] } else { &[0, 16, 32, 48, 96, 192, 256, 496] };
-        let bad = match self.r.below(3) {
-            0 => mma.word & !(63 << 17) | (self.r.pick(unlisted_n) / 8) << 17,
-            1 => mma.word & !(31 << 24) | (self.r.pick(unlisted_m) / 16) << 24,
-            _ => self.wrong_types(mma.kind, mma.word),
-        };
+        let mut bad = mma.word;
+        if reason == 13 {
+            bad = bad & !(31 << 24) | (self.r.pick(unlisted_m) / 16) << 24;
+        }
+        if reason == 20 || reason == 13 && self.one_in(3) {
+            bad = bad & !(63 << 17) | (self.r.pick(unlisted_n) / 8) << 17;
+        }
+        if reason == 21 || self.one_in(3) {
+            bad = self.wrong_types(mma.kind, bad);
+        }
         self.bind_name(&mma.idesc.clone(), Word::Narrow(bad));
         self.spoil_cells(&mut mma, 3);
-        self.mma_line(&mma);
-        true
+        Some(self.at_mma(&mma, &Broken::new(Operand::Idesc), Role::Name))
     }
 
     /// Types that have codes in the kind and are not listed for it.
@@ -417,54 +544,75 @@ impl Maker<'_> {
         }
     }
 
-    /// One time in so many, an operand is put outside as well.
+    /// One time in so many, one operand or more is put outside as well.
     fn spoil_cells(&mut self, mma: &mut Mma, one_in: u64) {
-        if !self.one_in(one_in) {
-            return;
-        }
-        let beyond = if self.one_in(2) { LANE * (1 + self.r.below(127)) } else { 513 + self.r.below(60_000) };
-        match self.r.below(3) {
-            0 if mma.sp => mma.meta.offset += beyond,
-            1 => match &mut mma.a {
-                A::Address(address) => address.offset += beyond,
-                A::Name(_) => mma.d.offset += beyond,
-            },
-            _ => mma.d.offset += beyond,
+        if self.one_in(one_in) {
+            self.spoil_cell(mma);
+            while self.one_in(3) {
+                self.spoil_cell(mma);
+            }
         }
     }
 
-    fn cell_fault(&mut self) -> bool {
-        if !self.ensure_live() {
-            return false;
+    /// Puts an operand of the mma outside. Says which.
+    fn spoil_cell(&mut self, mma: &mut Mma) -> Operand {
+        let beyond = if self.one_in(2) { LANE * (1 + self.r.below(127)) } else { 513 + self.r.below(60_000) };
+        match (self.r.below(3), &mut mma.a) {
+            (0, _) if mma.sp => {
+                mma.meta.offset = mma.meta.offset % 512 + beyond;
+                Operand::Meta
+            }
+            (1, A::Address(address)) => {
+                address.offset = address.offset % 512 + beyond;
+                Operand::A
+            }
+            _ => {
+                mma.d.offset = mma.d.offset % 512 + beyond;
+                Operand::D
+            }
         }
-        if self.one_in(2) {
-            let mut access = self.good_access().expect("something is held");
+    }
+
+    fn cell_fault(&mut self) -> Option<Fault> {
+        if !self.ensure_live() {
+            return None;
+        }
+        if self.one_in(3) {
+            let mut access = self.good_access()?;
             let length = self.length_of(&access.address.name);
             let columns = SIZES[access.shape].1 * access.num;
             let first = length + 1 - columns;
             let column = if self.one_in(2) { first } else { first + self.r.below(LANE - first) };
             access.address.offset = access.address.offset / LANE * LANE + column;
-            self.access_line(&access);
-        } else {
-            let mut mma = self.good_mma().expect("something is held");
-            if self.one_in(2) {
-                self.spoil_cells(&mut mma, 1);
-            } else {
-                self.one_past(&mut mma);
-            }
-            self.mma_line(&mma);
+            let text = self.access_text(&access);
+            let what = if access.store { "st" } else { "ld" };
+            return Some(self.at(what, access.warp, &text, Role::Open(Operand::Only)));
         }
-        true
+        let mut mma = self.good_mma()?;
+        let mut broken = Broken::new(if self.one_in(2) { self.spoil_cell(&mut mma) } else { self.one_past(&mut mma) });
+        while self.one_in(2) {
+            broken.add(self.spoil_cell(&mut mma));
+        }
+        Some(self.at_mma(&mma, &broken, Role::Open))
     }
 
-    /// Puts one operand one column past the end.
-    fn one_past(&mut self, mma: &mut Mma) {
+    /// Puts one operand one column past the end. Says which.
+    fn one_past(&mut self, mma: &mut Mma) -> Operand {
         let n = u64::from(mma.word >> 17 & 63) * 8;
         let choice = self.r.below(3);
         match (&mut mma.a, choice) {
-            (A::Address(address), 0) => address.offset = self.length_of(&address.name) - 7,
-            (_, 1) if mma.sp => mma.meta.offset = self.length_of(&mma.meta.name) - 1,
-            _ => mma.d.offset = self.length_of(&mma.d.name) + 1 - n,
+            (A::Address(address), 0) => {
+                address.offset = self.length_of(&address.name) - 7;
+                Operand::A
+            }
+            (_, 1) if mma.sp => {
+                mma.meta.offset = self.length_of(&mma.meta.name) - 1;
+                Operand::Meta
+            }
+            _ => {
+                mma.d.offset = self.length_of(&mma.d.name) + 1 - n;
+                Operand::D
+            }
         }
     }
 
@@ -472,16 +620,16 @@ impl Maker<'_> {
         self.live.iter().find(|l| l.name == name).map_or(0, |l| l.columns.into())
     }
 
-    fn exit_fault(&mut self) -> bool {
+    fn exit_fault(&mut self) -> Option<Fault> {
         let warp = self.any_warp();
         if self.one_in(2) && self.ensure_live() {
-            self.line(warp, "exit;");
-        } else {
-            self.exit();
-            let text = self.readable();
-            self.line(warp, &text);
+            self.line(warp, &bare("exit"));
+            return Some(Fault::new("exit, columns held", 1));
         }
-        true
+        self.exit();
+        let text = if self.one_in(6) { bare("exit") } else { self.readable() };
+        self.line(warp, &text);
+        Some(Fault::new("line after exit", 1))
     }
 
     /// A line in which each part is wrong about one time in three.
@@ -494,7 +642,7 @@ impl Maker<'_> {
         let name = name.unwrap_or_else(|| "unbound".into());
         let warp = if self.one_in(3) { self.stranger() } else { self.booker() };
         let columns = self.r.pick(&[32, 32, 64, 64, 128, 512, 0, 33, 96, 1_024]);
-        let text = match self.r.below(7) {
+        let text = match self.r.below(8) {
             0 => {
                 let name = if self.one_in(2) { self.new_name() } else { name };
                 self.alloc_text(&name, columns)
@@ -502,39 +650,39 @@ impl Maker<'_> {
             1 => self.dealloc_text(&name, columns),
             2 => self.mov_text(&name, Word::Wide(0)),
             3 | 4 => self.wild_access(name),
-            5 => self.wild_mma(),
+            5 | 6 => self.wild_mma(),
             _ => self.readable(),
         };
-        let mut line = format!("{warp}\t{text}").into_bytes();
+        let spacing = if text.length() > 500 { Spacing::Plain } else { self.r.pick(&[Spacing::Plain, Spacing::Tight, Spacing::Loose]) };
+        let mut line = format!("{warp}\t{}", text.spaced(self.r, spacing, &mut self.starts)).into_bytes();
         if self.one_in(6) {
             damage(self.r, &mut line);
         }
         self.raw(&line);
     }
 
-    fn wild_access(&mut self, name: String) -> String {
+    fn wild_access(&mut self, name: String) -> Text {
         let shape = self.r.below(4) as usize;
         let num = 1 << self.r.below(6);
         let count = if self.one_in(3) { 1 + self.r.below(8) } else { SIZES[shape].0 * num };
         let column = self.r.pick(&[0, 0, 1, 31, 32, 64, 511, 512]);
-        let address = Address { name, offset: 16 * self.r.below(9) * LANE + column };
+        let address = Address::new(name, 16 * self.r.below(9) * LANE + column);
         let store = self.one_in(2);
         self.access_text(&Access { store, shape, num, count, address, warp: 0 })
     }
 
-    fn wild_mma(&mut self) -> String {
+    fn wild_mma(&mut self) -> Text {
         let Some(mut mma) = self.good_mma() else {
             return self.readable();
         };
-        if self.one_in(3) {
+        while self.one_in(3) {
             self.spoil_name(&mut mma);
         }
-        if self.one_in(3) {
-            let bad = bad_shared(self.r);
-            self.bind_name(&mma.b.clone(), Word::Wide(bad));
+        while self.one_in(3) {
+            self.spoil_a_value(&mma);
         }
         if self.one_in(3) {
-            self.spoil_idesc(&mma);
+            self.spoil_listing(&mma);
         }
         self.spoil_cells(&mut mma, 3);
         // the opcode may be another than the word's
@@ -545,6 +693,46 @@ impl Maker<'_> {
             mma.ws = !mma.ws;
         }
         self.mma_text(&mma)
+    }
+
+    /// Binds b, or idesc where it is a value, to a word without a reading.
+    fn spoil_a_value(&mut self, mma: &Mma) {
+        let bad = Word::Wide(bad_shared(self.r));
+        if self.one_in(2) && self.is_value(&mma.b) {
+            self.bind_name(&mma.b, bad);
+        } else if self.is_value(&mma.idesc) {
+            self.spoil_idesc(mma);
+        }
+    }
+
+    /// Binds idesc, where it is a value, to a word of any shape.
+    fn spoil_listing(&mut self, mma: &Mma) {
+        if self.is_value(&mma.idesc) {
+            let shape = (self.r.below(64) as u32) << 17 | (self.r.below(32) as u32) << 24 | (self.r.below(3) as u32) << 4;
+            self.bind_name(&mma.idesc, Word::Narrow(mma.word & !(63 << 17 | 31 << 24 | 3 << 4) | shape));
+        }
+    }
+
+    fn is_value(&self, name: &str) -> bool {
+        self.word_of(name).is_some()
+    }
+
+    fn word_of(&self, name: &str) -> Option<Word> {
+        self.values.iter().find(|(other, _)| other == name).map(|(_, word)| *word)
+    }
+}
+
+/// What the counts call an operand of an mma.
+fn operand_name(operand: Operand, mma: &Mma) -> &'static str {
+    match (operand, &mma.a) {
+        (Operand::Only, _) => "only operand",
+        (Operand::D, _) => "mma d",
+        (Operand::A, A::Address(_)) => "mma a, address",
+        (Operand::A, A::Name(_)) => "mma a, descriptor",
+        (Operand::B, _) => "mma b",
+        (Operand::Meta, _) => "mma meta",
+        (Operand::Idesc, _) if mma.sp => "mma idesc, sparse",
+        (Operand::Idesc, _) => "mma idesc, dense",
     }
 }
 
@@ -575,31 +763,3 @@ pub fn damage(r: &mut Random, bytes: &mut Vec<u8>) {
         _ => bytes.insert(at, byte),
     }
 }
-
-/// Statements that have no form here.
-const WRONG: [&str; 24] = [
-    "tcgen05.alloc.cta_group::2.sync.aligned.b32 [t], 32;",
-    "tcgen05.alloc.cta_group::1.sync.aligned.b32 [t+0], 32;",
-    "tcgen05.alloc.cta_group::1.sync.aligned.b32 [t], 064;",
-    "tcgen05.alloc.cta_group::1.sync.aligned.b32 t, 32;",
-    "tcgen05.alloc.cta_group::1.sync.aligned.b32 [t] 32;",
-    "tcgen05.dealloc.cta_group::1.sync.aligned.shared::cta.b32 t, 32;",
-    "tcgen05.dealloc.cta_group::1.sync.aligned.b32 [t], 32;",
-    "tcgen05.mma.sp.ws.cta_group::1.kind::f16 [d], a, b, [m], i, p;",
-    "tcgen05.mma.cta_group::1.kind::f16 [d], a, b, [m], i, p;",
-    "tcgen05.mma.sp.cta_group::1.kind::f16 [d], a, b, i, p;",
-    "tcgen05.mma.cta_group::1.kind::mxf8f6f4 [d], a, b, i, p;",
-    "tcgen05.mma.cta_group::1.kind::f16 [d], a, [b], i, p;",
-    "tcgen05.ld.sync.aligned.32x32b.x3.b32 {a, b, c}, [t];",
-    "tcgen05.ld.sync.aligned.32x32b.x256.b32 {a}, [t];",
-    "tcgen05.ld.sync.aligned.16x32bx2.x1.b32 {a}, [t], 1;",
-    "tcgen05.ld.sync.aligned.32x32b.x1.pack::16b.b32 {a}, [t];",
-    "tcgen05.ld.sync.aligned.32x32b.x1.b32 {}, [t];",
-    "tcgen05.st.sync.aligned.32x32b.x1.b32 {a}, [t];",
-    "tcgen05.cp.cta_group::1.128x256b [t], s;",
-    "tcgen05.shift.cta_group::1.down [t];",
-    "tcgen05.commit.cta_group::1.mbarrier::arrive::one.b64 [m];",
-    "bra out;",
-    "mov.b32 abcdefghijklmnopq, 1;",
-    "mov.b32 %, 1;",
-];

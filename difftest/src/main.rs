@@ -4,10 +4,12 @@
 mod cases;
 mod entries;
 mod faults;
+mod forms;
 mod maker;
 mod readings;
 mod sheets;
 mod statements;
+mod tokens;
 mod words;
 
 fn main() {

@@ -3,7 +3,9 @@
 //! It keeps its own small account of what is held and bound, so that it knows without asking either side that a line
 //! is valid, and what the answer to a line is that is aimed at a reason (faults.rs).
 
+use crate::tokens::{Operand, Role, Spacing, Text};
 use staplehorn_difftest::random::Random;
+use std::fmt::Write;
 
 /// Columns are taken in units of 32, of which there are 16.
 pub const UNIT: u32 = 32;
@@ -35,6 +37,14 @@ pub enum Word {
 pub struct Address {
     pub name: String,
     pub offset: u64,
+    /// The offset's digits, where it has none of its own.
+    pub written: Option<String>,
+}
+
+impl Address {
+    pub fn new(name: String, offset: u64) -> Self {
+        Address { name, offset, written: None }
+    }
 }
 
 #[derive(Clone)]
@@ -84,6 +94,8 @@ pub struct Maker<'a> {
     pub warp: Option<u64>,
     pub relinquished: bool,
     pub names_made: u32,
+    /// Where the tokens of the line made last start.
+    pub starts: Vec<usize>,
 }
 
 impl<'a> Maker<'a> {
@@ -102,6 +114,7 @@ impl<'a> Maker<'a> {
             warp: None,
             relinquished: false,
             names_made: 0,
+            starts: Vec::new(),
         }
     }
 
@@ -122,15 +135,23 @@ impl<'a> Maker<'a> {
         self.lines += 1;
     }
 
-    pub fn line(&mut self, warp: u64, text: &str) {
+    /// A statement as a line, mostly with the writer's spaces.
+    pub fn line(&mut self, warp: u64, text: &Text) {
+        let spacing = match self.r.below(16) {
+            0 | 1 => Spacing::Loose,
+            2 => Spacing::Tight,
+            _ => Spacing::Plain,
+        };
+        self.spaced_line(warp, text, spacing);
+    }
+
+    /// Loose spaces only in a short text, so that no line gets too long.
+    pub fn spaced_line(&mut self, warp: u64, text: &Text, spacing: Spacing) {
         let field = if warp == 0 && self.one_in(8) { b'*' } else { b'0' + warp as u8 };
         self.bytes.extend([field, b'\t']);
-        if self.one_in(8) {
-            let loose = self.loosened(text);
-            self.raw(loose.as_bytes());
-        } else {
-            self.raw(text.as_bytes());
-        }
+        let spacing = if spacing == Spacing::Loose && text.length() > 500 { Spacing::Plain } else { spacing };
+        let line = text.spaced(self.r, spacing, &mut self.starts);
+        self.raw(line.as_bytes());
     }
 
     pub fn any_warp(&mut self) -> u64 {
@@ -145,25 +166,6 @@ impl<'a> Maker<'a> {
     /// A warp that may not book.
     pub fn stranger(&mut self) -> u64 {
         (self.booker() + 1 + self.r.below(3)) % 4
-    }
-
-    /// Spaces more or less behind the opcode. A short text only, so that no line gets too long.
-    pub fn loosened(&mut self, text: &str) -> String {
-        if text.len() > 600 {
-            return text.into();
-        }
-        let mut loose = String::new();
-        for c in text.chars() {
-            let mark = matches!(c, '[' | ']' | '{' | '}' | '+' | ',' | ';');
-            if mark && self.one_in(2) {
-                loose.push_str(&" ".repeat(1 + self.r.below(3) as usize));
-            }
-            loose.push(c);
-            if mark && c != ';' && self.one_in(3) {
-                loose.push(' ');
-            }
-        }
-        loose
     }
 
     pub fn number(&mut self, n: u64) -> String {
@@ -266,13 +268,25 @@ impl<'a> Maker<'a> {
         true
     }
 
-    pub fn alloc_text(&mut self, name: &str, columns: u64) -> String {
-        let shared = if self.one_in(4) { ".shared::cta" } else { "" };
-        format!("tcgen05.alloc.cta_group::1.sync.aligned{shared}.b32 [{name}], {};", self.number(columns))
+    pub fn alloc_text(&mut self, name: &str, columns: u64) -> Text {
+        let number = self.number(columns);
+        self.alloc_written(name, &number)
     }
 
-    pub fn dealloc_text(&mut self, name: &str, columns: u64) -> String {
-        format!("tcgen05.dealloc.cta_group::1.sync.aligned.b32 {name}, {};", self.number(columns))
+    pub fn alloc_written(&mut self, name: &str, number: &str) -> Text {
+        let shared = if self.one_in(4) { ".shared::cta" } else { "" };
+        let mut text = Text::new(&format!("tcgen05.alloc.cta_group::1.sync.aligned{shared}.b32"));
+        text.push("[", Role::Open(Operand::Only));
+        text.push(name, Role::Name(Operand::Only));
+        text.marks("],");
+        text.push(number, Role::Number(Operand::Only));
+        text.marks(";");
+        text
+    }
+
+    pub fn dealloc_text(&mut self, name: &str, columns: u64) -> Text {
+        let number = self.number(columns);
+        name_and_number("tcgen05.dealloc.cta_group::1.sync.aligned.b32", name, &number)
     }
 
     pub fn dealloc_one(&mut self) {
@@ -292,14 +306,14 @@ impl<'a> Maker<'a> {
 
     pub fn relinquish(&mut self) {
         let warp = self.booker();
-        self.line(warp, RELINQUISH);
+        self.line(warp, &bare(RELINQUISH));
         self.warp = Some(warp);
         self.relinquished = true;
     }
 
     pub fn idle(&mut self) {
-        let (warp, text) = (self.any_warp(), self.r.pick(&IDLE));
-        self.line(warp, text);
+        let (warp, text) = (self.any_warp(), bare(self.r.pick(&IDLE)));
+        self.line(warp, &text);
     }
 
     pub fn mov(&mut self) {
@@ -341,11 +355,13 @@ impl<'a> Maker<'a> {
         }
     }
 
-    pub fn mov_text(&mut self, name: &str, word: Word) -> String {
-        match word {
-            Word::Wide(n) => format!("mov.b64 {name}, {};", self.number(n)),
-            Word::Narrow(n) => format!("mov.b32 {name}, {};", self.number(n.into())),
-        }
+    pub fn mov_text(&mut self, name: &str, word: Word) -> Text {
+        let (opcode, value) = match word {
+            Word::Wide(n) => ("mov.b64", n),
+            Word::Narrow(n) => ("mov.b32", n.into()),
+        };
+        let number = self.number(value);
+        name_and_number(opcode, name, &number)
     }
 
     pub fn access(&mut self) {
@@ -372,7 +388,7 @@ impl<'a> Maker<'a> {
         };
         let warp = self.any_warp();
         let half = if shape > 0 { 16 * self.r.below(2) } else { 0 };
-        let address = Address { name, offset: (32 * warp + half) * LANE + column };
+        let address = Address::new(name, (32 * warp + half) * LANE + column);
         Some(Access { store: self.one_in(2), shape, num, count: registers * num, address, warp })
     }
 
@@ -381,25 +397,50 @@ impl<'a> Maker<'a> {
         self.line(access.warp, &text);
     }
 
-    pub fn access_text(&mut self, x: &Access) -> String {
-        let head = self.r.pick(&["r", "%r", "a_"]);
-        let list: Vec<String> = (0..x.count).map(|i| format!("{head}{i}")).collect();
-        let (list, shape, num) = (list.join(", "), SHAPES[x.shape], x.num);
-        let address = self.address_text(&x.address);
+    pub fn access_text(&mut self, x: &Access) -> Text {
+        let op = if x.store { "st" } else { "ld" };
+        let mut text = Text::new(&format!("tcgen05.{op}.sync.aligned.{}.x{}.b32", SHAPES[x.shape], x.num));
         if x.store {
-            format!("tcgen05.st.sync.aligned.{shape}.x{num}.b32 {address}, {{{list}}};")
+            self.put_address(&mut text, Operand::Only, &x.address);
+            text.marks(",");
+            self.put_list(&mut text, x);
         } else {
-            format!("tcgen05.ld.sync.aligned.{shape}.x{num}.b32 {{{list}}}, {address};")
+            self.put_list(&mut text, x);
+            text.marks(",");
+            self.put_address(&mut text, Operand::Only, &x.address);
         }
+        text.marks(";");
+        text
     }
 
-    pub fn address_text(&mut self, address: &Address) -> String {
-        let Address { name, offset } = address;
-        if *offset == 0 && !self.one_in(8) {
-            format!("[{name}]")
-        } else {
-            format!("[{name}+{}]", self.number(*offset))
+    /// Registers; now and then all have the address's own name, where that makes no line too long.
+    fn put_list(&mut self, text: &mut Text, x: &Access) {
+        let head = self.r.pick(&["r", "r", "%r", "%r", "a_", ""]);
+        let head = if head.is_empty() && x.count > 64 { "r" } else { head };
+        let mut name = x.address.name.clone();
+        text.marks("{");
+        for i in 0..x.count {
+            if i > 0 {
+                text.marks(",");
+            }
+            if !head.is_empty() {
+                name.clear();
+                write!(name, "{head}{i}").expect("a string takes all");
+            }
+            text.push(&name, Role::Register);
         }
+        text.marks("}");
+    }
+
+    fn put_address(&mut self, text: &mut Text, operand: Operand, address: &Address) {
+        text.push("[", Role::Open(operand));
+        text.push(&address.name, Role::Name(operand));
+        if address.written.is_some() || address.offset != 0 || self.one_in(8) {
+            let number = address.written.clone().unwrap_or_else(|| self.number(address.offset));
+            text.marks("+");
+            text.push(&number, Role::Number(operand));
+        }
+        text.marks("]");
     }
 
     pub fn mma(&mut self) {
@@ -445,7 +486,7 @@ impl<'a> Maker<'a> {
             1 => room,
             _ => self.r.below(room + 1),
         };
-        Address { name: self.live[place].name.clone(), offset }
+        Address::new(self.live[place].name.clone(), offset)
     }
 
     /// A name bound to a shared memory descriptor that reads.
@@ -459,23 +500,36 @@ impl<'a> Maker<'a> {
         self.line(warp, &text);
     }
 
-    pub fn mma_text(&mut self, m: &Mma) -> String {
+    pub fn mma_text(&mut self, m: &Mma) -> Text {
         let (ws, sp) = (if m.ws { ".ws" } else { "" }, if m.sp { ".sp" } else { "" });
-        let d = self.address_text(&m.d);
-        let a = match &m.a {
-            A::Name(name) => name.clone(),
-            A::Address(address) => self.address_text(address),
-        };
-        let meta = if m.sp { format!("{}, ", self.address_text(&m.meta)) } else { String::new() };
-        let predicate = self.r.pick(&["p", "%p0", "exit", "t1"]);
-        format!("tcgen05.mma{ws}{sp}.cta_group::1.kind::{} {d}, {a}, {}, {meta}{}, {predicate};", KINDS[m.kind], m.b, m.idesc)
+        let mut text = Text::new(&format!("tcgen05.mma{ws}{sp}.cta_group::1.kind::{}", KINDS[m.kind]));
+        self.put_address(&mut text, Operand::D, &m.d);
+        text.marks(",");
+        match &m.a {
+            A::Name(name) => text.push(name, Role::Name(Operand::A)),
+            A::Address(address) => self.put_address(&mut text, Operand::A, address),
+        }
+        text.marks(",");
+        text.push(&m.b, Role::Name(Operand::B));
+        text.marks(",");
+        if m.sp {
+            self.put_address(&mut text, Operand::Meta, &m.meta);
+            text.marks(",");
+        }
+        text.push(&m.idesc, Role::Name(Operand::Idesc));
+        text.marks(",");
+        // never looked up, also where it is another operand's name
+        let predicate = self.r.pick(&["p", "%p0", "exit", "t1", &m.d.name, &m.idesc, "unbound"]);
+        text.push(predicate, Role::Predicate);
+        text.marks(";");
+        text
     }
 
     /// Gives all back and exits.
     pub fn exit(&mut self) {
         self.give_all_back();
         let warp = self.any_warp();
-        self.line(warp, "exit;");
+        self.line(warp, &bare("exit"));
     }
 
     pub fn give_all_back(&mut self) {
@@ -496,6 +550,23 @@ impl<'a> Maker<'a> {
         }
         self.raw(end.as_bytes());
     }
+}
+
+/// A statement without operands.
+pub fn bare(opcode: &str) -> Text {
+    let mut text = Text::new(opcode);
+    text.marks(";");
+    text
+}
+
+/// A `mov` or a dealloc.
+pub fn name_and_number(opcode: &str, name: &str, number: &str) -> Text {
+    let mut text = Text::new(opcode);
+    text.push(name, Role::Name(Operand::Only));
+    text.marks(",");
+    text.push(number, Role::Number(Operand::Only));
+    text.marks(";");
+    text
 }
 
 fn bits(unit: u32, units: u32) -> u32 {
@@ -535,11 +606,11 @@ pub fn shared_word(r: &mut Random) -> u64 {
     r.below(1 << 14) | r.below(1 << 14) << 16 | r.below(1 << 14) << 32 | 1 << 46 | base << 49 | r.below(2) << 52 | swizzle << 61
 }
 
-pub const RELINQUISH: &str = "tcgen05.relinquish_alloc_permit.cta_group::1.sync.aligned;";
+pub const RELINQUISH: &str = "tcgen05.relinquish_alloc_permit.cta_group::1.sync.aligned";
 
 pub const IDLE: [&str; 4] = [
-    "tcgen05.wait::ld.sync.aligned;",
-    "tcgen05.wait::st.sync.aligned;",
-    "tcgen05.fence::before_thread_sync;",
-    "tcgen05.fence::after_thread_sync;",
+    "tcgen05.wait::ld.sync.aligned",
+    "tcgen05.wait::st.sync.aligned",
+    "tcgen05.fence::before_thread_sync",
+    "tcgen05.fence::after_thread_sync",
 ];

@@ -22,6 +22,11 @@ impl Opcode {
     }
 }
 
+pub fn version() -> u32 {
+    // SAFETY: it takes nothing.
+    unsafe { c::staplehorn_version() }
+}
+
 pub fn instruction_decode(o: Opcode, word: u32) -> (u32, [u32; 13]) {
     let mut fields = [UNTOUCHED; 13];
     // SAFETY: numbers, locals and slices alone; each array has the header's size.
@@ -72,9 +77,12 @@ pub fn request(columns: u32) -> u32 {
     unsafe { c::staplehorn_request(columns) }
 }
 
-pub fn statement_reason(text: &[u8]) -> u32 {
+/// The reason, and the column.
+pub fn statement_reason(text: &[u8]) -> (u32, usize) {
+    let mut column = usize::MAX;
     // SAFETY: numbers, locals and slices alone; each array has the header's size.
-    unsafe { c::staplehorn_statement_reason(text.as_ptr(), text.len()) }
+    let reason = unsafe { c::staplehorn_statement_reason(text.as_ptr(), text.len(), &mut column) };
+    (reason, column)
 }
 
 /// The reason, and the length of the canonical text in the room.
@@ -85,7 +93,7 @@ pub fn statement_canonical(text: &[u8], room: &mut [u8]) -> (u32, usize) {
     (reason, length)
 }
 
-/// Reason, line, held, peak, and how many starts there are.
+/// Reason, line, column, held, peak, and how many starts there are.
 pub type Answer = [u32; c::ANSWER_FIELDS];
 
 /// The reason, and the answer.

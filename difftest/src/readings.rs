@@ -1,10 +1,12 @@
-//! Single statements with their answers, where the rules can be read in two ways: each is asked of both sides.
+//! Statements and sheets with their answers, where the rules can be read in two ways: each is asked of both sides. A `^`
+//! stands before the byte that a refusal names and is itself no byte of the text.
 
+use crate::sheets::{Proved, Reference, Side};
 use staplehorn_difftest::counts::Counts;
 use staplehorn_difftest::proved;
 use staplehorn_reference::statement as reference;
 
-/// A text, its reason, and its canonical text where it reads.
+/// A statement with its mark, its reason, and its canonical text where it reads.
 type Row = (Vec<u8>, u32, &'static str);
 
 fn mov(number: &str) -> Vec<u8> {
@@ -13,6 +15,25 @@ fn mov(number: &str) -> Vec<u8> {
 
 fn load(list: &str, address: &str) -> Vec<u8> {
     format!("tcgen05.ld.sync.aligned.32x32b.x1.b32 {list}, {address};").into()
+}
+
+/// The text without its mark, and the column of the mark: 0 if there is none.
+fn unmarked(text: &[u8]) -> (Vec<u8>, usize) {
+    let column = text.iter().position(|&byte| byte == b'^').map_or(0, |place| place + 1);
+    (text.iter().copied().filter(|&byte| byte != b'^').collect(), column)
+}
+
+/// `count` names in braces, with a mark where a list is too long.
+fn names(count: usize) -> String {
+    let mut list = String::from("{");
+    for i in 0..count {
+        list.push_str(match i {
+            0 => "r",
+            128 => "^, r",
+            _ => ", r",
+        });
+    }
+    list + "}"
 }
 
 fn rows() -> Vec<Row> {
@@ -46,97 +67,157 @@ fn rows() -> Vec<Row> {
     good("tcgen05.ld.sync.aligned.32x32b.x1.b32 {r}, [t+0];", "tcgen05.ld.sync.aligned.32x32b.x1.b32 {r}, [t];");
     t.push((mov(&format!("0x{}1", "0".repeat(900))), 0, "mov.b32 x, 1;"));
     // a wrong count of registers reads and is written
-    t.push(("tcgen05.ld.sync.aligned.32x32b.x4.b32 {r}, [t];".into(), 5, "tcgen05.ld.sync.aligned.32x32b.x4.b32 {r}, [t];"));
+    t.push(("^tcgen05.ld.sync.aligned.32x32b.x4.b32 {r}, [t];".into(), 5, "tcgen05.ld.sync.aligned.32x32b.x4.b32 {r}, [t];"));
+    t.push((load("{a, b}", "[t]"), 5, "tcgen05.ld.sync.aligned.32x32b.x1.b32 {a, b}, [t];"));
+    t.last_mut().expect("one is there").0.insert(0, b'^');
     let mut refused = |text: Vec<u8>, reason: u32| t.push((text, reason, ""));
     for n in ["128", "64"] {
-        let names = vec!["r"; 128].join(", ");
-        refused(format!("tcgen05.ld.sync.aligned.16x256b.x{n}.b32 {{{names}}}, [t];").into(), 5);
-        refused(format!("tcgen05.st.sync.aligned.16x128b.x128.b32 [t], {{{names}}};").into(), 5);
+        refused(format!("^tcgen05.ld.sync.aligned.16x256b.x{n}.b32 {}, [t];", names(128)).into(), 5);
+        refused(format!("^tcgen05.st.sync.aligned.16x128b.x128.b32 [t], {};", names(128)).into(), 5);
     }
-    refused(mov(&"9".repeat(900)), 4);
-    refused(mov("4294967296"), 4);
-    refused("mov.b64 x, 18446744073709551616;".into(), 4);
-    refused("tcgen05.alloc.cta_group::1.sync.aligned.b32 [t], 4294967296;".into(), 4);
-    refused("tcgen05.dealloc.cta_group::1.sync.aligned.b32 t, 4294967296;".into(), 4);
-    refused(load("{r}", "[t+4294967296]"), 4);
-    let three = [
-        "mov.b32_x,1;",
-        "mov.b32 x, 64abc;",
-        "mov.b32 x, 0x1g;",
-        "exit\t;",
-        "exit\r;",
-        "exit\x0c;",
-        "exit\n;",
-        "exit;\0",
-        "exit\x7f;",
-        "mov.b32 x, 4294967296",
-        "mov.b32 x, 4294967296;;",
-        "mov.b32 %%, 1;",
-        "mov.b32 _%, 1;",
-        "mov.b32 a%, 1;",
-        "mov.b32 _, 1;",
-        "mov.b32 $, 1;",
-        "mov.b32 %, 1;",
-        "mov.b32 abcdefghijklmnopq, 1;",
-        "EXIT;",
-        "mov.b32 x, 064;",
-        "mov.b32 x, 00;",
-        "mov.b32 x, 01;",
-        "mov.b32 x, 0x;",
-        "mov.b32 x, 64U;",
-        "mov.b32 x, 0b1;",
-        "mov.b32 x, -1;",
-        "mov.b32 x, +1;",
-        "tcgen05.alloc.cta_group::1.sync.aligned.b32 [t+0], 32;",
-        "tcgen05.ld.sync.aligned.32x32b.x3.b32 {r}, [t];",
-        "tcgen05.ld.sync.aligned.32x32b.x256.b32 {r}, [t];",
-        "tcgen05.ld.sync.aligned.32x32b.x01.b32 {r}, [t];",
-        "tcgen05.ld.sync.aligned.16x32bx2.x1.b32 {r}, [t];",
-        "tcgen05.mma.sp.ws.cta_group::1.kind::f16 [d], a, b, [m], i, p;",
-        "tcgen05.alloc.cta_group::1.shared::cta.sync.aligned.b32 [t], 32;",
-        "tcgen05.dealloc.cta_group::1.sync.aligned.shared::cta.b32 t, 32;",
-        "exit;;",
-        "exit; exit;",
-        "exit; // end",
-        "@p exit;",
-        "l: exit;",
-        "",
-        "   ",
-        " exit;",
-        "exit; ",
-        "tcgen05.alloc.cta_group::2.sync.aligned.b32 [t], 32;",
-        "tcgen05.mma.cta_group::1.kind::mxf4 [d], a, b, i, p;",
-        "tcgen05.ld.sync.aligned.32x32b.x1.pack::16b.b32 {r}, [t];",
-        "tcgen05.cp.cta_group::1.128x256b [t], s;",
-        "tcgen05.shift.cta_group::1.down [t];",
-        "tcgen05.commit.cta_group::1.mbarrier::arrive::one.b64 [m];",
-        "bra l;",
-        "tcgen05.mma.sp.cta_group::1.kind::f16 [d], a, b, i, p;",
-        "tcgen05.mma.cta_group::1.kind::f16 [d], a, b, [m], i, p;",
-    ];
-    for text in three {
+    refused(mov(&format!("^{}", "9".repeat(900))), 4);
+    refused(mov("^4294967296"), 4);
+    refused(mov("   ^0x100000000"), 4);
+    refused("mov.b64 x, ^18446744073709551616;".into(), 4);
+    refused("tcgen05.alloc.cta_group::1.sync.aligned.b32 [t], ^4294967296;".into(), 4);
+    refused("tcgen05.dealloc.cta_group::1.sync.aligned.b32 t, ^4294967296;".into(), 4);
+    refused(load("{r}", "[t+^4294967296]"), 4);
+    refused(load("{r, r}", "[ t + ^4294967296 ]"), 4);
+    refused("tcgen05.st.sync.aligned.32x32b.x1.b32 [t+^0x100000000], {r};".into(), 4);
+    // of two numbers that are over, the first; one that is not does not count
+    refused("tcgen05.mma.cta_group::1.kind::f16 [t+^4294967296], [t+4294967296], b, i, p;".into(), 4);
+    refused("tcgen05.mma.cta_group::1.kind::f16 [t+1], [t+^4294967296], b, i, p;".into(), 4);
+    refused("tcgen05.mma.sp.cta_group::1.kind::f16 [t+1], [t], b, [t+^4294967296], i, p;".into(), 4);
+    for text in THREE {
         refused(text.into(), 3);
     }
-    refused(b"exit\xa0;".to_vec(), 3);
-    refused(b"tcgen05.ld.sync.aligned.16x32bx2.b32 {r}, [t];".to_vec(), 3);
-    refused(load("{rrrrrrrrrrrrrrrrr}", "[t]"), 3);
-    refused(load("{}", "[t]"), 3);
-    refused(format!("tcgen05.ld.sync.aligned.32x32b.x128.b32 {{{}}}, [t];", vec!["r"; 129].join(",")).into(), 3);
-    refused(format!("mov.b32 x,{}4294967296;", " ".repeat(4096)).into(), 3);
+    refused(b"exit^\xa0;".to_vec(), 3);
+    refused(load("{^rrrrrrrrrrrrrrrrr}", "[t]"), 3);
+    refused(load("{^}", "[t]"), 3);
+    // a list goes on with a comma up to its 128th name
+    refused(format!("tcgen05.ld.sync.aligned.32x32b.x128.b32 {}, [t];", names(129)).into(), 3);
+    refused(format!("tcgen05.st.sync.aligned.32x32b.x1.b32 [t], {};", names(400)).into(), 3);
+    // too long: where no form can go on, else one past the end
+    refused(format!("mov.b32 x,{}4294967296;^", " ".repeat(4096)).into(), 3);
+    refused(format!("exit{};^", " ".repeat(4092)).into(), 3);
+    refused(format!("exit{};^;", " ".repeat(4092)).into(), 3);
+    refused(format!("exit {}^", " ".repeat(4096)).into(), 3);
+    refused(format!("mov.b32 ^1,{}1;", " ".repeat(4096)).into(), 3);
+    refused(format!("^exiit{};", " ".repeat(4096)).into(), 3);
     t
 }
 
+/// Statements of no form. A space is a byte like others where none may stand, and is passed over where a token may follow.
+const THREE: [&str; 96] = [
+    "^mov.b32_x,1;",
+    "mov.b32 x, ^64abc;",
+    "mov.b32 x, ^0x1g;",
+    "mov.b32 x, ^08;",
+    "mov.b32 x , ^08 ;",
+    "exit^\t;",
+    "exit^\r;",
+    "exit^\x0c;",
+    "exit^\n;",
+    "exit;^\0",
+    "exit^\x7f;",
+    // what is over does not stop a form, and the column is that of the reason that counts
+    "mov.b32 x, 4294967296^",
+    "mov.b32 x, 4294967296  ^",
+    "mov.b32 x, 4294967296;^;",
+    "mov.b32 ^1x, 4294967296;",
+    "tcgen05.ld.sync.aligned.32x32b.x1.b32 {r}, [t+4294967296^;",
+    "mov.b32 ^%%, 1;",
+    "mov.b32 ^%%a, 1;",
+    "mov.b32 ^_%, 1;",
+    "mov.b32 a^%, 1;",
+    "mov.b32 a^%b, 1;",
+    "mov.b32 a ^%b, 1;",
+    "mov.b32 ^_, 1;",
+    "mov.b32 ^$, 1;",
+    "mov.b32 ^%, 1;",
+    "mov.b32 ^% a, 1;",
+    "mov.b32^%, 1;",
+    "mov.b32 ^abcdefghijklmnopq, 1;",
+    "mov.b32 ^%abcdefghijklmnop, 1;",
+    "mov.b32 x^.y, 1;",
+    "mov.b32 x^:y, 1;",
+    "mov.b32 x, 1^.5;",
+    "exit^$;",
+    "^exit.;",
+    "^EXIT;",
+    "mov.b32 x, ^064;",
+    "mov.b32 x, ^00;",
+    "mov.b32 x, ^01;",
+    "mov.b32 x, ^0x;",
+    "mov.b32 x, ^64U;",
+    "mov.b32 x, ^0b1;",
+    "mov.b32 x, ^-1;",
+    "mov.b32 x, ^+1;",
+    "mov.b32 x, ^y;",
+    "mov.b32 x, ^[y];",
+    "mov.b32 x ^1;",
+    "mov.b32 x, 1 ^1;",
+    "mov.b32 x,^",
+    "mov.b32 x^",
+    "mov.b32^",
+    "mov.b32 ^;",
+    "tcgen05.alloc.cta_group::1.sync.aligned.b32 [t^+0], 32;",
+    "tcgen05.alloc.cta_group::1.sync.aligned.b32 ^t, 32;",
+    "^tcgen05.ld.sync.aligned.32x32b.x3.b32 {r}, [t];",
+    "^tcgen05.ld.sync.aligned.32x32b.x256.b32 {r}, [t];",
+    "^tcgen05.ld.sync.aligned.32x32b.x01.b32 {r}, [t];",
+    "^tcgen05.ld.sync.aligned.16x32bx2.x1.b32 {r}, [t];",
+    "^tcgen05.ld.sync.aligned.16x32bx2.b32 {r}, [t];",
+    "^tcgen05.mma.sp.ws.cta_group::1.kind::f16 [d], a, b, [m], i, p;",
+    "^tcgen05.alloc.cta_group::1.shared::cta.sync.aligned.b32 [t], 32;",
+    "^tcgen05.dealloc.cta_group::1.sync.aligned.shared::cta.b32 t, 32;",
+    "exit;^;",
+    "exit;^ ;",
+    "exit;^ exit;",
+    "exit;^ // end",
+    "exit;^  x",
+    "exit;^x",
+    "exit^",
+    "exit  ^",
+    "^@p exit;",
+    "^[exit;",
+    "^%exit;",
+    "^;",
+    "^l: exit;",
+    "^",
+    "^   ",
+    "^ exit;",
+    "exit;^ ",
+    "^tcgen05.alloc.cta_group::2.sync.aligned.b32 [t], 32;",
+    "^tcgen05.mma.cta_group::1.kind::mxf4 [d], a, b, i, p;",
+    "^tcgen05.ld.sync.aligned.32x32b.x1.pack::16b.b32 {r}, [t];",
+    "^tcgen05.cp.cta_group::1.128x256b [t], s;",
+    "^tcgen05.shift.cta_group::1.down [t];",
+    "^tcgen05.commit.cta_group::1.mbarrier::arrive::one.b64 [m];",
+    "^bra l;",
+    "tcgen05.mma.sp.cta_group::1.kind::f16 [d], a, b, ^i, p;",
+    "tcgen05.mma.cta_group::1.kind::f16 [d], a, b, ^[m], i, p;",
+    "tcgen05.mma.cta_group::1.kind::f16 [d], a^+1, b, i, p;",
+    "tcgen05.mma.cta_group::1.kind::f16 [d], a, b, i^;",
+    "tcgen05.mma.cta_group::1.kind::f16 [d+^x], a, b, i, p;",
+    "tcgen05.ld.sync.aligned.32x32b.x1.b32 {r ^s}, [t];",
+    "tcgen05.ld.sync.aligned.32x32b.x1.b32 {r,^}, [t];",
+    "tcgen05.ld.sync.aligned.32x32b.x1.b32 {r}, [t^-1];",
+    "tcgen05.ld.sync.aligned.32x32b.x1.b32 {r}, [t+1^+1];",
+    "tcgen05.ld.sync.aligned.32x32b.x1.b32 {r}, [t+^];",
+    "tcgen05.st.sync.aligned.32x32b.x1.b32 [t]^;",
+];
+
 /// Asks both sides for each row's answer.
 pub fn run(counts: &mut Counts) {
-    for (text, reason, canonical) in rows() {
+    for (marked, reason, canonical) in rows() {
+        let (text, column) = unmarked(&marked);
         let bytes = text.as_slice();
         let shown = || format!("{:.120}", String::from_utf8_lossy(bytes));
-        let theirs = match reference::read(bytes) {
-            Ok(s) => reference::registers_reason(&s),
-            Err(reason) => reason,
-        };
-        counts.compare("readings", reason, proved::statement_reason(bytes), reason, shown);
-        counts.compare("readings, reference", reason, theirs, reason, shown);
+        counts.compare("readings", reason, Proved.statement(bytes), (reason, column), shown);
+        counts.compare("readings, reference", reason, Reference.statement(bytes), (reason, column), shown);
+        let theirs = reference::read(bytes).map_or_else(|reason| reason, |s| reference::registers_reason(&s));
+        counts.compare("readings, read", reason, theirs, reason, shown);
         if !canonical.is_empty() {
             let mut room = [0; 4096];
             let (_, length) = proved::statement_canonical(bytes, &mut room);
@@ -144,3 +225,250 @@ pub fn run(counts: &mut Counts) {
         }
     }
 }
+
+/// Lines behind a good first one: the mark stands in the line that is refused. Reason, held and peak follow; the list that
+/// is lent has room unless the reason is 16.
+type Sheet = (Vec<String>, [u32; 3]);
+
+/// In full: `|` is the tab, `@alloc`, `@dealloc`, `@load`, `@mma` the opcodes.
+fn long(line: &str) -> String {
+    line.replace('|', "\t")
+        .replace("@alloc", "tcgen05.alloc.cta_group::1.sync.aligned.b32")
+        .replace("@dealloc", "tcgen05.dealloc.cta_group::1.sync.aligned.b32")
+        .replace("@relinquish", "tcgen05.relinquish_alloc_permit.cta_group::1.sync.aligned")
+        .replace("@load", "tcgen05.ld.sync.aligned.32x32b.x1.b32 {r},")
+        .replace("@store", "tcgen05.st.sync.aligned.32x32b.x1.b32")
+        .replace("@sparse", "tcgen05.mma.sp.cta_group::1.kind::f16")
+        .replace("@integers", "tcgen05.mma.cta_group::1.kind::i8")
+        .replace("@mma", "tcgen05.mma.cta_group::1.kind::f16")
+}
+
+const A32: &str = "0|@alloc [t], 32;";
+const A64: &str = "0|@alloc [t], 64;";
+const D32: &str = "0|@dealloc t, 32;";
+const D64: &str = "0|@dealloc t, 64;";
+const EXIT: &str = "0|exit;";
+/// A shared memory descriptor that reads, an instruction descriptor that is listed.
+const B: &str = "0|mov.b64 b, 0x0000400800100000;";
+const I: &str = "0|mov.b32 i, 0x08100010;";
+const MMA: &str = "0|@mma [t], b, b, i, p;";
+
+fn sheet_rows() -> Vec<Sheet> {
+    let mut t: Vec<Sheet> = Vec::new();
+    let mut row = |lines: &[&str], reason: u32, held: u32, peak: u32| {
+        t.push((lines.iter().map(|line| long(line)).collect(), [reason, held, peak]));
+    };
+    passed_rows(&mut row);
+    form_rows(&mut row);
+    name_rows(&mut row);
+    booking_rows(&mut row);
+    descriptor_rows(&mut row);
+    cell_rows(&mut row);
+    t
+}
+
+type Put<'a> = &'a mut dyn FnMut(&[&str], u32, u32, u32);
+
+fn passed_rows(row: Put) {
+    row(&[A32, D32, EXIT], 0, 0, 32);
+    row(&[A64, B, I, MMA, "3|@load [t+0x600000];", D64, EXIT], 0, 0, 64);
+    row(&[A32, D32, "^0|exit;"], 16, 0, 32);
+    row(&[A32, "^0|exit;"], 15, 32, 32);
+    row(&["^0|@alloc [t], 32;"], 15, 32, 32);
+    row(&[A32, "^0|@dealloc t, 32;"], 15, 0, 32);
+    row(&[EXIT, "^0|mov.b32 x, 1;"], 15, 0, 0);
+    row(&[EXIT, "^0|exit;"], 15, 0, 0);
+    row(&[EXIT, "0|mov.b32 ^1, 1;"], 3, 0, 0);
+    row(&[EXIT, "0|mov.b32 x, ^4294967296;"], 4, 0, 0);
+    row(&[A32, "^0|exit\x7f;"], 2, 32, 32);
+    row(&["^0 exit;"], 2, 0, 0);
+    row(&["^"], 2, 0, 0);
+    row(&["^4|exit;"], 2, 0, 0);
+}
+
+fn form_rows(row: Put) {
+    let lines = [
+        "0|^ exit;",
+        "0|exit;^ ",
+        "0|exit;^  x",
+        "0|exit;^;",
+        "0|exit  ^",
+        "0|^",
+        "0|^   ",
+        "0|^tcgen05.ld.sync.aligned.32x32b.x3.b32 {r}, [t];",
+        "0|^[t];",
+        "0|^%x;",
+        "0|^@p exit;",
+        "0|mov.b32 x, ^64abc;",
+        "0|mov.b32 x, ^0x1g;",
+        "0|mov.b32 ^abcdefghijklmnopq, 1;",
+        "0|mov.b32 x, ^08;",
+        "0|tcgen05.ld.sync.aligned.32x32b.x1.b32 {^}, [t];",
+        "0|mov.b32 ^%%a, 1;",
+        "0|mov.b32 a^%b, 1;",
+        "0|mov.b32 ^%, 1;",
+        "0|mov.b32 x, 4294967296^",
+        "0|mov.b32 ^1x, 4294967296;",
+        "0|mov.b32 x^.y, 1;",
+        "0|mov.b32 x, 1^.5;",
+        "0|exit^$;",
+    ];
+    for line in lines {
+        row(&[line, EXIT], 3, 0, 0);
+        row(&[A32, line], 3, 32, 32);
+    }
+    row(&[&format!("3|tcgen05.ld.sync.aligned.32x32b.x128.b32 {}, [t];", names(129))], 3, 0, 0);
+    row(&["0|mov.b32 x, ^4294967296;"], 4, 0, 0);
+    row(&["0|@mma [t+^4294967296], [t+4294967296], b, i, p;"], 4, 0, 0);
+    row(&["0|@mma [t+1], [t+^4294967296], b, i, p;"], 4, 0, 0);
+    row(&[A32, "0|@load [t+^4294967296];"], 4, 32, 32);
+    row(&[A32, "0|^tcgen05.ld.sync.aligned.32x32b.x1.b32 {a, b}, [t];"], 5, 32, 32);
+    row(&["0|^tcgen05.ld.sync.aligned.32x32b.x1.b32 {a, b}, [unbound];"], 5, 0, 0);
+}
+
+fn name_rows(row: Put) {
+    row(&[A32, "0|mov.b32 ^t, 1;"], 6, 32, 32);
+    row(&[A32, "0|mov.b32   ^t , 1;"], 6, 32, 32);
+    row(&[A32, "0|@alloc [^t], 32;"], 6, 32, 32);
+    row(&[A32, "1|@alloc [ ^t ], 33;"], 6, 32, 32);
+    row(&["0|@dealloc ^t, 32;"], 6, 0, 0);
+    row(&["0|@load [^t];"], 6, 0, 0);
+    row(&["0|@store [^t+1], {t};"], 6, 0, 0);
+    // names in a list and the predicate's are not looked up, even where they are those that are broken
+    row(&["0|tcgen05.ld.sync.aligned.32x32b.x1.b32 {t}, [^t];"], 6, 0, 0);
+    row(&[A64, B, I, "0|@mma [t], b, b, i, unbound;", D64, EXIT], 0, 0, 64);
+    // of several names that are broken, the first; one that is not does not count
+    row(&[A64, "0|@mma [t], ^x, y, i, p;"], 6, 64, 64);
+    row(&[A64, B, "0|@mma [t], b, ^y, z, p;"], 6, 64, 64);
+    row(&["0|@mma [^x], [x], b, i, p;"], 6, 0, 0);
+    row(&[A64, "0|@mma [t], [^x], x, i, p;"], 6, 64, 64);
+    row(&[A64, B, "0|@sparse [t], b, b, [^x], x, x;"], 6, 64, 64);
+    row(&[A64, B, "0|@sparse [t], b, b, [t], ^b, p;"], 6, 64, 64);
+    row(&[A64, B, "0|@mma [t], b, b, ^t, p;"], 6, 64, 64);
+    row(&[A64, B, "0|@mma [t], ^t, b, t, p;"], 6, 64, 64);
+    // of the wrong sort goes on as a form
+    row(&[B, "0|@load [^b];"], 6, 0, 0);
+    let values: Vec<String> = (0..128).map(|i| format!("0|mov.b32 v{i}, {i};")).collect();
+    let mut lines: Vec<&str> = values.iter().map(String::as_str).collect();
+    lines.push("0|mov.b64 ^v128, 1;");
+    row(&lines, 7, 0, 0);
+}
+
+fn booking_rows(row: Put) {
+    row(&[A32, "^1|@dealloc t, 32;"], 8, 32, 32);
+    row(&[A32, "^1|@alloc [u], 32;"], 8, 32, 32);
+    row(&[A32, "^1|@relinquish;"], 8, 32, 32);
+    row(&[A32, "1|@load ^[t];"], 8, 32, 32);
+    row(&[A32, "1|@store ^[t], {r};"], 8, 32, 32);
+    row(&["0|@alloc [t], ^33;"], 9, 0, 0);
+    row(&["0|@alloc [t],   ^0x60;"], 9, 0, 0);
+    row(&[A64, "0|@dealloc t, ^32;"], 9, 64, 64);
+    row(&["0|@relinquish;", "0|^@alloc [t], 32;"], 10, 0, 0);
+    row(&["0|@alloc [t], 512;", "0|^@alloc [u], 32;"], 11, 512, 512);
+}
+
+fn descriptor_rows(row: Put) {
+    let zero = "0|mov.b64 z, 0;";
+    // the same bad name twice, a bad name before a bad idesc, a alone, idesc alone
+    row(&[A64, I, zero, "0|@mma [t], ^z, z, i, p;"], 12, 64, 64);
+    row(&[A64, "0|mov.b32 i, 3;", zero, "0|@mma [t], [t], ^z, i, p;"], 12, 64, 64);
+    row(&[A64, "0|mov.b32 i, 3;", zero, B, "0|@mma [t], ^z, b, i, p;"], 12, 64, 64);
+    row(&[A64, I, zero, B, "0|@mma [t], b, ^z, i, p;"], 12, 64, 64);
+    row(&[A64, "0|mov.b32 i, 3;", B, "0|@mma [t], b, b, ^i, p;"], 12, 64, 64);
+    row(&[A64, I, B, "0|@sparse [t], b, b, [t], ^i, p;"], 12, 64, 64);
+    // M, N and types: the first of them that is not listed
+    for (word, reason) in [
+        ("0x0C000020", 13),
+        ("0x0C100010", 13),
+        ("0x0C000010", 13),
+        ("0x08000020", 20),
+        ("0x08000010", 20),
+        ("0x08420010", 20),
+        ("0x08100020", 21),
+        // f16 with bf16, two bf16 into f16
+        ("0x08100090", 21),
+        ("0x08100410", 21),
+        ("0x08100480", 21),
+        // a dtype or a type that has no code
+        ("0x08100030", 12),
+        ("0x08100110", 12),
+        ("0x08100810", 12),
+    ] {
+        let word = format!("0|mov.b32 i, {word};");
+        row(&[A64, B, &word, "0|@mma [t], b, b, ^i, p;"], reason, 64, 64);
+    }
+    // before the cells: N 64 in a holding of 32
+    row(&[A32, B, "0|mov.b32 i, 0x08100020;", "0|@mma [t], b, b, ^i, p;"], 21, 32, 32);
+    row(&[A32, B, "0|mov.b32 i, 0x08100024;", "0|@sparse [t], b, b, [t], ^i, p;"], 21, 32, 32);
+    // integers: N 40 at either M, N 48, a dtype of another kind
+    for (word, reason) in [("0x080A00A0", 20), ("0x040A00A0", 20), ("0x080C0090", 21), ("0x080C0080", 21), ("0x0C0A0090", 13)] {
+        let word = format!("0|mov.b32 i, {word};");
+        row(&[A64, B, &word, "0|@integers [t], b, b, ^i, p;"], reason, 64, 64);
+    }
+    row(&[A64, B, "0|mov.b32 i, 0x080C00A0;", "0|@integers [t], b, b, i, p;", D64, EXIT], 0, 0, 64);
+}
+
+fn cell_rows(row: Put) {
+    row(&[A64, "0|@load ^[t+64];"], 14, 64, 64);
+    row(&[A64, "0|@load   ^[ t + 64 ];"], 14, 64, 64);
+    row(&[A64, "0|@store ^[t+64], {r};"], 14, 64, 64);
+    row(&[A64, B, I, "0|@mma ^[t+1], b, b, i, p;"], 14, 64, 64);
+    row(&[A64, B, I, "0|@mma ^[t+1], [t+57], b, i, p;"], 14, 64, 64);
+    row(&[A64, B, I, "0|@mma [t], ^[t+57], b, i, p;"], 14, 64, 64);
+    row(&[A64, B, I, "0|@mma [t], ^[t+65536], b, i, p;"], 14, 64, 64);
+    row(&[A64, B, "0|mov.b32 i, 0x08100014;", "0|@sparse [t], b, b, ^[t+63], i, p;"], 14, 64, 64);
+    row(&[A64, B, "0|mov.b32 i, 0x08100014;", "0|@sparse [t], ^[t+57], b, [t+63], i, p;"], 14, 64, 64);
+}
+
+/// Asks both sides for the answer and the report of each sheet.
+pub fn sheets(counts: &mut Counts) {
+    for (lines, [reason, held, peak]) in sheet_rows() {
+        let (mut sheet, mut place) = (b"sheet\t1\tsm_100a\n".to_vec(), [lines.len() as u32 + 1, 0]);
+        // a sheet that only has no exit is refused at its last line
+        if reason == 15 {
+            place[1] = 1;
+        }
+        for (number, line) in (2..).zip(&lines) {
+            let (bytes, column) = unmarked(line.as_bytes());
+            if column > 0 {
+                place = [number, column as u32];
+            }
+            sheet.extend([&bytes[..], b"\n"].concat());
+        }
+        let [line, column] = place;
+        asked(counts, &sheet, [reason, line, column, held, peak]);
+    }
+    asked(counts, b"", [2, 1, 1, 0, 0]);
+    asked(counts, b"sheet\t1\tsm_100b\n0\texit;\n", [2, 1, 1, 0, 0]);
+    asked(counts, b"sheet\t1\tsm_100a\n0\texit;", [2, 2, 1, 0, 0]);
+    asked(counts, b"sheet\t1\tsm_100a\n", [15, 1, 1, 0, 0]);
+    asked(counts, &[b' '; 65_537], [1, 0, 0, 0, 0]);
+    asked(counts, &[b'\n'; 4_097], [1, 0, 0, 0, 0]);
+    // 2,048 bytes in a line are no limit of a form
+    let line = format!("sheet\t1\tsm_100a\n0\tmov.b32 x,{}y;\n", " ".repeat(2_034));
+    asked(counts, line.as_bytes(), [3, 2, 2_047, 0, 0]);
+}
+
+fn asked(counts: &mut Counts, sheet: &[u8], wanted: [u32; 5]) {
+    let [reason, line, column, held, peak] = wanted;
+    let shown = || format!("{:.300}", String::from_utf8_lossy(sheet));
+    for (what, side) in [("readings of columns", &Proved as &dyn Side), ("readings of columns, reference", &Reference)] {
+        let mut list = [0; 8];
+        let places = if reason == 16 { 0 } else { 8 };
+        let (returned, answer) = side.judge(sheet, &mut list[..places]);
+        counts.compare(what, reason, (returned, &answer[..5]), (reason, &wanted[..]), shown);
+        if reason != 16 {
+            let mut room = vec![0; ROOM];
+            let (_, length) = side.report(sheet, &mut room);
+            let first = format!("{reason}\t{line}\t{column}\t{held}\t{peak}\n");
+            let report = &room[..length.min(ROOM)];
+            counts.compare("readings of columns, report", reason, &report[..report.len().min(first.len())], first.as_bytes(), shown);
+            if reason != 0 {
+                counts.compare("readings of columns, report", reason, report.len(), first.len(), shown);
+            }
+        }
+    }
+}
+
+/// The least room that takes any report.
+const ROOM: usize = 102_391;

@@ -1,8 +1,8 @@
-//! Whole sheets: each is judged by both sides, with a list of some length lent to it. The answers and every place of the
-//! list are compared, on refusals too, and the whole report on a sample. A passed sheet is also run, under its own
-//! starts and under others.
+//! Whole sheets: each is judged by both sides, with a list of some length lent to it. The answers, columns among them, and
+//! every place of the list are compared, on refusals too, and the whole report on a sample. A sheet whose fault was aimed is
+//! compared with what its maker knows as well. A passed sheet is also run, under its own starts and under others.
 
-use crate::faults::damage;
+use crate::faults::{damage, Fault, FIRST};
 use crate::maker::Maker;
 use staplehorn_difftest::counts::Counts;
 use staplehorn_difftest::proved::{self, Answer};
@@ -10,8 +10,8 @@ use staplehorn_difftest::random::Random;
 use staplehorn_reference::judge::judge;
 use staplehorn_reference::report::report;
 use staplehorn_reference::run::{choose_starts, run as run_steps, End, Outcome};
-use staplehorn_reference::sheet::{steps, Step};
-use staplehorn_reference::statement::Statement;
+use staplehorn_reference::sheet::{steps, Lines, Step};
+use staplehorn_reference::statement::{judge_alone, Statement};
 
 /// What stands in a list or room before a call, to see what was touched.
 const BEFORE: u16 = 0xA5A5;
@@ -24,10 +24,12 @@ const ROOM: usize = 102_391;
 
 /// What is compared with the reference.
 pub trait Side {
-    /// The value returned, and the five numbers of the answer.
+    /// The value returned, and the six numbers of the answer.
     fn judge(&self, sheet: &[u8], starts: &mut [u16]) -> (u32, Answer);
     /// The value returned, and the length.
     fn report(&self, sheet: &[u8], room: &mut [u8]) -> (u32, usize);
+    /// The reason and the column of a statement by itself.
+    fn statement(&self, text: &[u8]) -> (u32, usize);
 }
 
 /// The library behind its C interface.
@@ -41,6 +43,10 @@ impl Side for Proved {
     fn report(&self, sheet: &[u8], room: &mut [u8]) -> (u32, usize) {
         proved::report(sheet, room)
     }
+
+    fn statement(&self, text: &[u8]) -> (u32, usize) {
+        proved::statement_reason(text)
+    }
 }
 
 /// The reference in the same dress.
@@ -50,7 +56,7 @@ impl Side for Reference {
     fn judge(&self, sheet: &[u8], starts: &mut [u16]) -> (u32, Answer) {
         let a = judge(sheet, starts);
         let count = if a.reason == 0 { count_allocs(&steps(sheet).expect("a passed sheet reads")) } else { 0 };
-        (a.reason, [a.reason, a.line as u32, a.held, a.peak, count as u32])
+        (a.reason, [a.reason, a.line as u32, a.column as u32, a.held, a.peak, count as u32])
     }
 
     fn report(&self, sheet: &[u8], room: &mut [u8]) -> (u32, usize) {
@@ -61,6 +67,11 @@ impl Side for Reference {
         room[..text.len()].copy_from_slice(&text);
         let digits = text.iter().take_while(|b| b.is_ascii_digit());
         (digits.fold(0, |n, b| 10 * n + u32::from(b - b'0')), text.len())
+    }
+
+    fn statement(&self, text: &[u8]) -> (u32, usize) {
+        let verdict = judge_alone(text);
+        (verdict.reason, verdict.column)
     }
 }
 
@@ -126,14 +137,26 @@ impl<'a, S: Side> Comparison<'a, S> {
             let untouched = self.ours[..all].iter().all(|&place| place == BEFORE);
             self.counts.compare("refusals, list", theirs[0], untouched, true, || shown(sheet, places));
         }
+        if (3..=5).contains(&theirs[0]) {
+            self.alone(sheet, theirs);
+        }
         self.seen += 1;
         if self.seen % 16 == 0 {
-            self.report(sheet);
+            self.report(sheet, theirs);
         }
         if theirs[0] == 0 && sheet.len() < 20_000 || self.seen % 8 == 0 {
             self.runs(sheet, theirs, places);
         }
         theirs
+    }
+
+    /// The statement of a line that does not read, by itself: its column is 2 less.
+    fn alone(&mut self, sheet: &[u8], answer: Answer) {
+        let [reason, line, column, ..] = answer;
+        let text = Lines::new(sheet).nth(line as usize - 1).expect("the line is there").bytes;
+        let ours = self.side.statement(&text[FIRST - 1..]);
+        let wanted = (reason, (column as usize).wrapping_sub(FIRST - 1));
+        self.counts.compare("statements alone", reason, ours, wanted, || shown(sheet, 0));
     }
 
     /// Several lists for one sheet.
@@ -142,21 +165,37 @@ impl<'a, S: Side> Comparison<'a, S> {
         self.sheet(sheet, lent.places(allocs))
     }
 
-    /// A sheet that was made to get this reason, line, held and peak.
-    fn made(&mut self, sheet: &[u8], allocs: usize, wanted: [u32; 4]) {
+    /// A sheet that was made to get this reason, line, column, held and peak. Says whether it did, and the reason.
+    fn made(&mut self, sheet: &[u8], allocs: usize, wanted: [u32; 5]) -> (bool, u32) {
         let lent = self.r.pick(&Lent::ALL);
         let places = lent.places(allocs);
         let answer = self.sheet(sheet, places);
-        let [reason, line, held, peak] = wanted;
-        let reason = if reason == 0 && places < allocs { 16 } else { reason };
-        let count = if reason == 0 { allocs as u32 } else { 0 };
-        self.counts.compare("as made", reason, answer, [reason, line, held, peak, count], || shown(sheet, places));
+        let [reason, line, column, held, peak] = wanted;
+        let (reason, column) = if reason == 0 && places < allocs { (16, 1) } else { (reason, column) };
+        let all = [reason, line, column, held, peak, if reason == 0 { allocs as u32 } else { 0 }];
+        self.counts.compare("as made", reason, answer, all, || shown(sheet, places));
+        (answer == all, reason)
     }
 
-    fn report(&mut self, sheet: &[u8]) {
+    /// The same, counted by what is at the column.
+    fn placed(&mut self, m: &Maker, wanted: [u32; 5], fault: &Fault) {
+        if let (true, reason) = self.made(&m.bytes, m.allocs, wanted) {
+            self.counts.place(reason, fault.what);
+            if let Some(also) = fault.also {
+                self.counts.place(reason, also);
+            }
+        }
+    }
+
+    fn report(&mut self, sheet: &[u8], answer: Answer) {
         let text = report(sheet);
+        let [_, line, column, held, peak, _] = answer;
+        if answer[0] != 16 {
+            let first = format!("{}\t{line}\t{column}\t{held}\t{peak}\n", answer[0]);
+            self.counts.compare("reports, first line", answer[0], text.starts_with(first.as_bytes()), true, || shown(sheet, 0));
+        }
         let (reason, length) = self.side.report(sheet, &mut self.room[..ROOM]);
-        let (theirs, _) = Reference.judge(sheet, &mut [0; LONGEST]);
+        let theirs = if answer[0] == 16 { 0 } else { answer[0] };
         let front = &self.room[..length.min(ROOM)];
         let clean = self.room[length.min(ROOM)..].iter().all(|&b| b == BEFORE_BYTE);
         self.counts.compare("reports", theirs, (reason, front, clean), (theirs, &text, true), || shown(sheet, 0));
@@ -178,7 +217,7 @@ impl<'a, S: Side> Comparison<'a, S> {
         let allocs = count_allocs(&steps);
         let own: Vec<u32> = self.ours[..allocs.min(places)].iter().map(|&start| start.into()).collect();
         let outcome = run_steps(&steps, &own);
-        let wanted = (End::Exited(answer[1] as usize), answer[3], true);
+        let wanted = (End::Exited(answer[1] as usize), answer[4], true);
         self.counts.compare("run, own starts", 0, (outcome.end, outcome.peak, is_sound(&outcome)), wanted, || shown(sheet, places));
         // the placing is the lowest start that may be used
         let lowest = choose_starts(&steps, |usable| usable[0]);
@@ -188,9 +227,9 @@ impl<'a, S: Side> Comparison<'a, S> {
         }
         let mut r = Random::new(self.seen);
         let highest = choose_starts(&steps, |usable| usable[usable.len() - 1]);
-        self.placed("run, highest starts", sheet, &steps, &highest, allocs);
+        self.free_starts("run, highest starts", sheet, &steps, &highest, allocs);
         let free = choose_starts(&steps, |usable| r.pick(usable));
-        self.placed("run, free starts", sheet, &steps, &free, allocs);
+        self.free_starts("run, free starts", sheet, &steps, &free, allocs);
         // own starts but for a few, and starts at random
         let mut near = own;
         if !near.is_empty() {
@@ -203,7 +242,7 @@ impl<'a, S: Side> Comparison<'a, S> {
     }
 
     /// Starts that were each free when chosen: the run stops only where there was none.
-    fn placed(&mut self, what: &'static str, sheet: &[u8], steps: &[Step], starts: &[u32], allocs: usize) {
+    fn free_starts(&mut self, what: &'static str, sheet: &[u8], steps: &[Step], starts: &[u32], allocs: usize) {
         let outcome = run_steps(steps, starts);
         let (wanted, outcome_kind) =
             if starts.len() == allocs { (End::Exited(steps.len() + 1), 0) } else { (End::Stopped(line_of_alloc(steps, starts.len())), 1) };
@@ -303,19 +342,26 @@ fn valid<S: Side>(c: &mut Comparison<S>, r: &mut Random) {
     m.may_relinquish = true;
     valid_lines(&mut m);
     m.exit();
-    c.made(&m.bytes, m.allocs, [0, m.lines, 0, m.peak]);
+    if let (true, 16) = c.made(&m.bytes, m.allocs, [0, m.lines, 0, 0, m.peak]) {
+        c.counts.place(16, "short list");
+    }
 }
 
 /// One line is aimed at a reason; what follows does not matter.
 fn one_fault<S: Side>(c: &mut Comparison<S>, r: &mut Random, reason: u32) {
     let mut m = Maker::new(r);
     valid_lines(&mut m);
-    if !m.fault(reason) {
+    let Some(fault) = m.fault(reason) else {
         return;
-    }
-    let wanted = [reason, m.lines, m.held(), m.peak];
+    };
+    let wanted = [reason, m.lines, fault.column, m.held(), m.peak];
     tail(&mut m);
-    c.made(&m.bytes, m.allocs, wanted);
+    c.placed(&m, wanted, &fault);
+}
+
+/// Any reason that a line can be aimed at.
+fn any_reason(r: &mut Random) -> u32 {
+    r.pick(&[2, 3, 4, 5, 6, 7, 8, 9, 10, 11, 12, 13, 14, 15, 20, 21])
 }
 
 /// Some lines behind a fault, or none, or bytes without an end.
@@ -328,7 +374,7 @@ fn tail(m: &mut Maker) {
             }
         }
         2 => {
-            let reason = 2 + m.r.below(14) as u32;
+            let reason = any_reason(m.r);
             m.fault(reason);
         }
         3 => m.bytes.extend_from_slice(b"0\texit;"),
@@ -340,14 +386,14 @@ fn tail(m: &mut Maker) {
 fn two_faults<S: Side>(c: &mut Comparison<S>, r: &mut Random) {
     let mut m = Maker::new(r);
     valid_lines(&mut m);
-    let (first, second) = (2 + m.r.below(14) as u32, 2 + m.r.below(14) as u32);
-    if !m.fault(first) {
+    let (first, second) = (any_reason(m.r), any_reason(m.r));
+    let Some(fault) = m.fault(first) else {
         return;
-    }
-    let wanted = [first, m.lines, m.held(), m.peak];
+    };
+    let wanted = [first, m.lines, fault.column, m.held(), m.peak];
     m.fault(second);
     tail(&mut m);
-    c.made(&m.bytes, m.allocs, wanted);
+    c.placed(&m, wanted, &fault);
 }
 
 /// A line with any number of faults, then the end.
@@ -368,22 +414,26 @@ fn around_exit<S: Side>(c: &mut Comparison<S>, r: &mut Random) {
     valid_lines(&mut m);
     match m.r.below(4) {
         0 => {
-            let wanted = [15, m.lines, m.held(), m.peak];
-            c.made(&m.bytes, m.allocs, wanted);
+            let wanted = [15, m.lines, 1, m.held(), m.peak];
+            if c.made(&m.bytes, m.allocs, wanted).0 {
+                c.counts.place(15, "no exit");
+            }
         }
         1 => {
             m.exit();
             let (lines, peak) = (m.lines, m.peak);
             let reason = 2 + m.r.below(4) as u32;
-            m.fault(reason);
-            c.made(&m.bytes, m.allocs, [reason, lines + 1, 0, peak]);
+            let fault = m.fault(reason).expect("such lines need nothing");
+            c.placed(&m, [reason, lines + 1, fault.column, 0, peak], &fault);
         }
         2 => {
             m.exit();
-            let wanted = [2, m.lines + 1, 0, m.peak];
+            let wanted = [2, m.lines + 1, 1, 0, m.peak];
             let open = m.r.pick(&["0", " ", "0\texit;", "sheet\t1\tsm_100a", "\0"]);
             m.bytes.extend_from_slice(open.as_bytes());
-            c.made(&m.bytes, m.allocs, wanted);
+            if c.made(&m.bytes, m.allocs, wanted).0 {
+                c.counts.place(2, "bytes after the last LF");
+            }
         }
         _ => {
             m.exit();
@@ -404,6 +454,59 @@ fn damaged<S: Side>(c: &mut Comparison<S>, r: &mut Random) {
         damage(r, &mut bytes);
     }
     c.lists(&bytes, allocs);
+}
+
+/// A valid sheet with a byte changed, several times over, in one line or anywhere.
+fn changed_byte<S: Side>(c: &mut Comparison<S>, r: &mut Random) {
+    let mut m = Maker::new(r);
+    for _ in 0..m.r.below(8) {
+        m.valid();
+    }
+    let before = m.bytes.len();
+    m.valid();
+    let after = m.bytes.len();
+    m.exit();
+    let (bytes, allocs) = (m.bytes, m.allocs);
+    for turn in 0..8 {
+        let mut other = bytes.clone();
+        let (from, to) = if turn < 6 { (before, after) } else { (0, bytes.len()) };
+        let at = from + r.below((to - from) as u64) as usize;
+        other[at] = if r.below(3) == 0 { r.next() as u8 } else { r.pick(b" ;,[]{}+0x19aZ_$%.:~") };
+        c.lists(&other, allocs);
+    }
+}
+
+/// A sheet with a line of each form that passes; every byte of it is exchanged for some others.
+fn every_byte<S: Side>(c: &mut Comparison<S>) {
+    let sheet = concat!(
+        "sheet\t1\tsm_100a\n",
+        "0\ttcgen05.alloc.cta_group::1.sync.aligned.b32 [t0], 64;\n",
+        "*\ttcgen05.alloc.cta_group::1.sync.aligned.shared::cta.b32 [ %t ], 0x20;\n",
+        "1\tmov.b64 a, 0x0000400800100000;\n",
+        "2\tmov.b64 b, 70403104571392;\n",
+        "3\tmov.b32 i, 0x08100010;\n",
+        "3\tmov.b32 j, 0x08080014;\n",
+        "1\ttcgen05.ld.sync.aligned.32x32b.x2.b32 {r0, t0}, [t0+2097214];\n",
+        "2\ttcgen05.st.sync.aligned.16x64b.x1.b32 [%t + 0x500000], {r};\n",
+        "2\ttcgen05.wait::st.sync.aligned;\n",
+        "0\ttcgen05.mma.cta_group::1.kind::f16 [t0], a, b, i, p;\n",
+        "0\ttcgen05.mma.sp.cta_group::1.kind::f16 [%t], [t0+56], b, [%t + 30], j, t0;\n",
+        "0\ttcgen05.fence::after_thread_sync;\n",
+        "0\ttcgen05.relinquish_alloc_permit.cta_group::1.sync.aligned;\n",
+        "0\ttcgen05.dealloc.cta_group::1.sync.aligned.b32 t0, 64;\n",
+        "0\ttcgen05.dealloc.cta_group::1.sync.aligned.b32 %t, 32;\n",
+        "1\texit;\n",
+    );
+    c.made(sheet.as_bytes(), 2, [0, 17, 0, 0, 96]);
+    for at in 0..sheet.len() {
+        let mut bytes = sheet.as_bytes().to_vec();
+        for &byte in b" ;,[]{}+*0123459xXabtijZ_$%.:-~\t\n\0\x7f\x80" {
+            bytes[at] = byte;
+            c.lists(&bytes, 2);
+        }
+        bytes.remove(at);
+        c.lists(&bytes, 2);
+    }
 }
 
 /// A valid sheet with a line left out, doubled or moved.
@@ -455,7 +558,42 @@ fn too_long<S: Side>(c: &mut Comparison<S>, r: &mut Random) {
         m.bytes.truncate(m.bytes.len() - line.len() - 1);
         m.bytes.push(b'0');
     }
-    c.made(&m.bytes, m.allocs, [1, 0, 0, 0]);
+    if c.made(&m.bytes, m.allocs, [1, 0, 0, 0, 0]).0 {
+        c.counts.place(1, "lines");
+    }
+}
+
+/// Good lines, some of them with faults behind, and too many bytes.
+fn too_many_bytes<S: Side>(c: &mut Comparison<S>, r: &mut Random) {
+    let mut m = Maker::new(r);
+    valid_lines(&mut m);
+    let reason = any_reason(m.r);
+    if m.r.below(2) == 0 {
+        m.fault(reason);
+    }
+    let bytes = 65_537 + m.r.below(3) as usize;
+    m.exit_at(bytes);
+    if c.made(&m.bytes, m.allocs, [1, 0, 0, 0, 0]).0 {
+        c.counts.place(1, "bytes");
+    }
+}
+
+/// A first line that is not the one wanted, before good lines.
+fn other_header<S: Side>(c: &mut Comparison<S>, r: &mut Random) {
+    let mut m = Maker::new(r);
+    valid_lines(&mut m);
+    m.exit();
+    let good = m.bytes.iter().position(|&b| b == b'\n').expect("the first line ends");
+    let mut bytes = m.bytes[..good].to_vec();
+    while bytes == m.bytes[..good] || bytes.contains(&b'\n') {
+        bytes.truncate(0);
+        bytes.extend_from_slice(&m.bytes[..good]);
+        damage(m.r, &mut bytes);
+    }
+    bytes.extend_from_slice(&m.bytes[good..]);
+    if c.made(&bytes, m.allocs, [2, 1, 1, 0, 0]).0 {
+        c.counts.place(2, "first line");
+    }
 }
 
 /// Sheets at the limits of bytes and lines, and one past them.
@@ -467,8 +605,10 @@ fn at_limits<S: Side>(c: &mut Comparison<S>, r: &mut Random) {
             m.valid();
         }
         m.exit_at(bytes);
-        let wanted = if bytes > 65_536 { [1, 0, 0, 0] } else { [0, m.lines, 0, m.peak] };
-        c.made(&m.bytes, m.allocs, wanted);
+        let wanted = if bytes > 65_536 { [1, 0, 0, 0, 0] } else { [0, m.lines, 0, 0, m.peak] };
+        if let (true, 1) = c.made(&m.bytes, m.allocs, wanted) {
+            c.counts.place(1, "bytes");
+        }
     }
     for lines in [4_094, 4_095, 4_096, 4_097, 4_098] {
         let mut m = Maker::new(r);
@@ -482,16 +622,16 @@ fn at_limits<S: Side>(c: &mut Comparison<S>, r: &mut Random) {
         m.raw(b"3\texit;");
         let name_free = held == 0;
         let wanted = if lines > 4_096 {
-            [1, 0, 0, 0]
+            [1, 0, 0, 0, 0]
         } else if name_free {
-            [0, lines, 0, m.peak]
+            [0, lines, 0, 0, m.peak]
         } else {
-            [15, lines, held, m.peak]
+            [15, lines, 1, held, m.peak]
         };
         c.made(&m.bytes, m.allocs, wanted);
         // an open line counts
         m.bytes.push(b'x');
-        let wanted = if lines + 1 > 4_096 { [1, 0, 0, 0] } else { [2, lines + 1, 0, m.peak] };
+        let wanted = if lines + 1 > 4_096 { [1, 0, 0, 0, 0] } else { [2, lines + 1, 1, 0, m.peak] };
         if name_free {
             c.made(&m.bytes, m.allocs, wanted);
         } else {
@@ -514,20 +654,22 @@ fn small_limits<S: Side>(c: &mut Comparison<S>, r: &mut Random) {
         assert_eq!(text.len(), length);
         m.raw(text.as_bytes());
         m.exit();
-        let wanted = if length > 2_048 { [2, line, held, peak] } else { [0, m.lines, 0, m.peak] };
+        let wanted = if length > 2_048 { [2, line, 1, held, peak] } else { [0, m.lines, 0, 0, m.peak] };
         c.made(&m.bytes, m.allocs, wanted);
     }
     for count in [126, 127, 128, 129, 130] {
         let mut m = Maker::new(r);
         m.alloc(512);
         let list = vec!["r"; count].join(",");
-        m.raw(format!("0\ttcgen05.ld.sync.aligned.32x32b.x128.b32{{{list}}},[q];").as_bytes());
-        let reason = match count {
-            128 => 6,
-            129.. => 3,
-            _ => 5,
+        let line = format!("0\ttcgen05.ld.sync.aligned.32x32b.x128.b32{{{list}}},[q];");
+        m.raw(line.as_bytes());
+        let (reason, column) = match count {
+            128 => (6, line.find('q').map_or(0, |at| at + 1)),
+            // the comma behind the 128th name, each of one byte
+            129.. => (3, line.find('{').map_or(0, |at| at + 1 + 256)),
+            _ => (5, FIRST),
         };
-        let wanted = [reason, m.lines, 512, 512];
+        let wanted = [reason, m.lines, column as u32, 512, 512];
         m.exit();
         c.made(&m.bytes, m.allocs, wanted);
     }
@@ -536,7 +678,7 @@ fn small_limits<S: Side>(c: &mut Comparison<S>, r: &mut Random) {
         for i in 0..count {
             m.raw(format!("1\tmov.b32 v{i}, {i};").as_bytes());
         }
-        let wanted = if count > 128 { [7, 130, 0, 0] } else { [0, count + 2, 0, 0] };
+        let wanted = if count > 128 { [7, 130, 11, 0, 0] } else { [0, count + 2, 0, 0, 0] };
         m.raw(b"1\texit;");
         c.made(&m.bytes, m.allocs, wanted);
     }
@@ -549,20 +691,43 @@ fn small_limits<S: Side>(c: &mut Comparison<S>, r: &mut Random) {
         }
     }
     m.exit();
-    c.made(&m.bytes, m.allocs, [0, m.lines, 0, m.peak]);
+    c.made(&m.bytes, m.allocs, [0, m.lines, 0, 0, m.peak]);
 }
 
-/// Compares a side with the reference on so many rounds of sheets; each round has about 100.
+/// How often each reason is aimed at in a round: those with many places more often, 7, which needs a long sheet, once.
+const AIMED: [(u32, u32); 16] = [
+    (2, 3),
+    (3, 14),
+    (4, 6),
+    (5, 3),
+    (6, 10),
+    (7, 1),
+    (8, 4),
+    (9, 3),
+    (10, 2),
+    (11, 3),
+    (12, 4),
+    (13, 3),
+    (14, 6),
+    (15, 3),
+    (20, 3),
+    (21, 3),
+];
+
+/// Compares a side with the reference on so many rounds of sheets; each round has about 140.
 fn compare<S: Side>(side: &S, rounds: u64) -> Counts {
     let mut c = Comparison::new(side, 4);
     let mut r = Random::new(3);
     for round in 0..rounds {
+        // once, and not in the few rounds of the tests
+        if round == 100 {
+            every_byte(&mut c);
+        }
         for _ in 0..20 {
             valid(&mut c, &mut r);
         }
-        for reason in 2..=15 {
-            // some need a long sheet
-            for _ in 0..if reason == 7 { 1 } else { 3 } {
+        for (reason, times) in AIMED {
+            for _ in 0..times {
                 one_fault(&mut c, &mut r, reason);
             }
         }
@@ -578,8 +743,13 @@ fn compare<S: Side>(side: &S, rounds: u64) -> Counts {
             shuffled(&mut c, &mut r);
             noise(&mut c, &mut r);
         }
+        changed_byte(&mut c, &mut r);
+        other_header(&mut c, &mut r);
         if round % 4 == 0 {
             too_long(&mut c, &mut r);
+        }
+        if round % 16 == 0 {
+            too_many_bytes(&mut c, &mut r);
         }
         if round % 50 == 0 {
             at_limits(&mut c, &mut r);
@@ -591,10 +761,12 @@ fn compare<S: Side>(side: &S, rounds: u64) -> Counts {
 
 /// What must have been seen, and how often at least.
 fn wanted(sheets: u64) -> Vec<(&'static str, u32, u64)> {
-    let mut wanted: Vec<_> = (0..=16).map(|reason| ("sheets", reason, sheets)).collect();
-    wanted.push(("all sheets", 0, 600 * sheets));
-    wanted.extend((0..=15).map(|reason| ("reports", reason, sheets / 20)));
-    wanted.extend((1..=16).map(|reason| ("as made", reason, sheets / 2)));
+    let mut wanted: Vec<_> = (0..=16).chain([20, 21]).map(|reason| ("sheets", reason, sheets)).collect();
+    wanted.push(("all sheets", 0, 1_000 * sheets));
+    wanted.extend((0..=15).chain([20, 21]).map(|reason| ("reports", reason, sheets / 20)));
+    wanted.extend((0..=15).chain([20, 21]).map(|reason| ("reports, first line", reason, sheets / 20)));
+    wanted.extend((1..=16).chain([20, 21]).map(|reason| ("as made", reason, sheets / 2)));
+    wanted.extend((3..=5).map(|reason| ("statements alone", reason, 4 * sheets)));
     for what in ["run, other starts", "run, random starts"] {
         wanted.extend([(what, 0, sheets), (what, 1, sheets)]);
     }
@@ -605,14 +777,117 @@ fn wanted(sheets: u64) -> Vec<(&'static str, u32, u64)> {
     wanted
 }
 
+/// Every sort of place that a refusal can name. Each must have been seen this often.
+const LEAST: u64 = 200;
+const PLACES: &[(u32, &str)] = &[
+    (1, "bytes"),
+    (1, "lines"),
+    (2, "byte"),
+    (2, "bytes after the last LF"),
+    (2, "empty line"),
+    (2, "first line"),
+    (2, "line's length"),
+    (2, "tab"),
+    (2, "warp field"),
+    (3, "behind the end"),
+    (3, "empty list"),
+    (3, "end of the text"),
+    (3, "for + or ]"),
+    (3, "for ,"),
+    (3, "for , or }"),
+    (3, "for ;"),
+    (3, "for ["),
+    (3, "for ]"),
+    (3, "for a name"),
+    (3, "for a name or ["),
+    (3, "for a number"),
+    (3, "for {"),
+    (3, "for }"),
+    (3, "found +"),
+    (3, "found ,"),
+    (3, "found ;"),
+    (3, "found ["),
+    (3, "found ]"),
+    (3, "found a byte that is no token"),
+    (3, "found a name"),
+    (3, "found a number"),
+    (3, "found neither of the two"),
+    (3, "found {"),
+    (3, "found }"),
+    (3, "known statement"),
+    (3, "list of 129 names"),
+    (3, "nothing"),
+    (3, "opcode"),
+    (3, "space before the opcode"),
+    (3, "spaces alone"),
+    (4, "alloc"),
+    (4, "dealloc"),
+    (4, "ld"),
+    (4, "leftmost of several"),
+    (4, "mma a, address"),
+    (4, "mma d"),
+    (4, "mma meta"),
+    (4, "mov.b32"),
+    (4, "mov.b64"),
+    (4, "st"),
+    (5, "ld"),
+    (5, "st"),
+    (6, "alloc"),
+    (6, "dealloc"),
+    (6, "ld"),
+    (6, "leftmost of several"),
+    (6, "mma a, address"),
+    (6, "mma a, descriptor"),
+    (6, "mma b"),
+    (6, "mma d"),
+    (6, "mma idesc, dense"),
+    (6, "mma idesc, sparse"),
+    (6, "mma meta"),
+    (6, "mov"),
+    (6, "st"),
+    (7, "mov"),
+    (8, "alloc"),
+    (8, "dealloc"),
+    (8, "ld"),
+    (8, "relinquish"),
+    (8, "st"),
+    (9, "alloc"),
+    (9, "dealloc"),
+    (10, "alloc"),
+    (11, "alloc"),
+    (12, "leftmost of several"),
+    (12, "mma a, descriptor"),
+    (12, "mma b"),
+    (12, "mma idesc, dense"),
+    (12, "mma idesc, sparse"),
+    (13, "mma idesc, dense"),
+    (13, "mma idesc, sparse"),
+    (14, "ld"),
+    (14, "leftmost of several"),
+    (14, "mma a, address"),
+    (14, "mma d"),
+    (14, "mma meta"),
+    (14, "st"),
+    (15, "exit, columns held"),
+    (15, "line after exit"),
+    (15, "no exit"),
+    (16, "short list"),
+    (20, "mma idesc, dense"),
+    (20, "mma idesc, sparse"),
+    (21, "mma idesc, dense"),
+    (21, "mma idesc, sparse"),
+];
+
 pub fn run() -> bool {
-    compare(&Proved, 3_200).finish("sheets", &wanted(500))
+    let counts = compare(&Proved, 3_800);
+    let enough = counts.enough_places(PLACES, LEAST);
+    counts.finish("sheets", &wanted(500)) && enough
 }
 
 #[cfg(test)]
 mod tests {
     use super::*;
-    use staplehorn_reference::sheet::{count_lines, Lines};
+    use staplehorn_reference::sheet::count_lines;
 
     /// Few rounds, for a build without optimization.
     const ROUNDS: u64 = 12;
@@ -630,6 +905,10 @@ mod tests {
         fn report(&self, sheet: &[u8], room: &mut [u8]) -> (u32, usize) {
             Reference.report(sheet, room)
         }
+
+        fn statement(&self, text: &[u8]) -> (u32, usize) {
+            Reference.statement(text)
+        }
     }
 
     /// The reference with its report changed.
@@ -645,6 +924,10 @@ mod tests {
             self.0(room, &mut answer);
             answer
         }
+
+        fn statement(&self, text: &[u8]) -> (u32, usize) {
+            Reference.statement(text)
+        }
     }
 
     /// Another value returned than stands in the answer.
@@ -657,6 +940,10 @@ mod tests {
 
         fn report(&self, sheet: &[u8], room: &mut [u8]) -> (u32, usize) {
             Reference.report(sheet, room)
+        }
+
+        fn statement(&self, text: &[u8]) -> (u32, usize) {
+            Reference.statement(text)
         }
     }
 
@@ -675,25 +962,35 @@ mod tests {
 
     #[test]
     fn faults_in_answers_are_found() {
-        let faults: [(&str, AnswerFault); 11] = [
+        let faults: [(&str, AnswerFault); 13] = [
             ("13 for 12", |_, _, a| {
                 if a[0] == 12 {
                     a[0] = 13
                 }
             }),
+            ("13 for 20", |_, _, a| {
+                if a[0] == 20 {
+                    a[0] = 13
+                }
+            }),
+            ("20 for 21", |_, _, a| {
+                if a[0] == 21 {
+                    a[0] = 20
+                }
+            }),
             ("11 passed over", |_, _, a| {
                 if a[0] == 11 {
-                    *a = [0, a[1], 0, a[3], 0]
+                    *a = [0, a[1], 0, 0, a[4], 0]
                 }
             }),
             ("held at exit", |_, _, a| {
                 if a[0] == 15 {
-                    a[2] = 0
+                    a[3] = 0
                 }
             }),
             ("peak of a pass", |_, _, a| {
-                if a[0] == 0 && a[3] == 512 {
-                    a[3] = 480
+                if a[0] == 0 && a[4] == 512 {
+                    a[4] = 480
                 }
             }),
             ("line of 16", |_, _, a| {
@@ -703,17 +1000,17 @@ mod tests {
             }),
             ("4,096 lines", |s, _, a| {
                 if count_lines(s) == 4_096 {
-                    *a = [1, 0, 0, 0, 0]
+                    *a = [1, 0, 0, 0, 0, 0]
                 }
             }),
             ("65,536 bytes", |s, _, a| {
                 if s.len() == 65_536 {
-                    *a = [1, 0, 0, 0, 0]
+                    *a = [1, 0, 0, 0, 0, 0]
                 }
             }),
             ("line of 2,048 bytes", |s, _, a| {
                 if Lines::new(s).any(|l| l.bytes.len() == 2_048) {
-                    *a = [2, 2, 0, 0, 0]
+                    *a = [2, 2, 1, 0, 0, 0]
                 }
             }),
             ("16 for a list that is long enough", |_, l, a| {
@@ -722,13 +1019,13 @@ mod tests {
                 }
             }),
             ("count of places instead of starts", |_, l, a| {
-                if a[0] == 0 && l.len() == a[4] as usize + 1 {
-                    a[4] += 1
+                if a[0] == 0 && l.len() == a[5] as usize + 1 {
+                    a[5] += 1
                 }
             }),
             ("count on a refusal", |_, _, a| {
                 if a[0] == 16 {
-                    a[4] = 1
+                    a[5] = 1
                 }
             }),
         ];
@@ -736,6 +1033,124 @@ mod tests {
             assert!(is_found(&Faulty(fault)), "{name}");
         }
         assert!(is_found(&OtherReturn));
+    }
+
+    /// The line that the answer names.
+    fn line<'a>(sheet: &'a [u8], a: &Answer) -> &'a [u8] {
+        Lines::new(sheet).nth(a[1] as usize - 1).map_or(b"", |line| line.bytes)
+    }
+
+    /// Puts the column on the first such byte of the line, or leaves it.
+    fn first(sheet: &[u8], a: &mut Answer, byte: u8) {
+        if let Some(at) = line(sheet, a).iter().position(|&b| b == byte) {
+            a[2] = at as u32 + 1;
+        }
+    }
+
+    #[test]
+    fn faults_in_columns_are_found() {
+        let faults: [(&str, AnswerFault); 14] = [
+            ("counted from 0", |_, _, a| a[2] = a[2].saturating_sub(1)),
+            ("a column on a pass", |_, _, a| {
+                if a[0] == 0 {
+                    a[2] = 1
+                }
+            }),
+            ("a column of reason 1", |_, _, a| {
+                if a[0] == 1 {
+                    a[2] = 1
+                }
+            }),
+            ("no column of reason 16", |_, _, a| {
+                if a[0] == 16 {
+                    a[2] = 0
+                }
+            }),
+            ("the opcode of an exit", |_, _, a| {
+                if a[0] == 15 {
+                    a[2] = 3
+                }
+            }),
+            ("the byte of a layout", |s, _, a| {
+                if a[0] == 2 {
+                    let bad = line(s, a).iter().skip(2).position(|b| !(32..=126).contains(b));
+                    a[2] = bad.map_or(a[2], |at| at as u32 + 3)
+                }
+            }),
+            ("the warp field of a load", |_, _, a| {
+                if a[0] == 8 {
+                    a[2] = 1
+                }
+            }),
+            ("the bracket of a name", |s, _, a| {
+                if a[0] == 6 && line(s, a)[a[2] as usize - 2] == b'[' {
+                    a[2] -= 1
+                }
+            }),
+            ("the name of an address", |s, _, a| {
+                if a[0] == 14 && line(s, a)[a[2] as usize - 1] == b'[' {
+                    a[2] += 1
+                }
+            }),
+            ("the first address of an mma", |s, _, a| {
+                if a[0] == 14 {
+                    first(s, a, b'[')
+                }
+            }),
+            ("the name of a request", |s, _, a| {
+                if a[0] == 9 {
+                    first(s, a, b' ')
+                }
+            }),
+            ("the end of a line with spaces", |s, _, a| {
+                let text = line(s, a);
+                if a[0] == 3 && a[2] as usize == text.len() + 1 {
+                    a[2] = text.trim_ascii_end().len() as u32 + 1
+                }
+            }),
+            ("a space behind the end", |s, _, a| {
+                let text = line(s, a);
+                let rest = text.get((a[2] as usize).wrapping_sub(1)..).unwrap_or(b"");
+                if a[0] == 3 && rest.starts_with(b" ") {
+                    a[2] += rest.len() as u32 - rest.trim_ascii_start().len() as u32
+                }
+            }),
+            ("the last of two names", |s, _, a| {
+                let text = line(s, a);
+                if a[0] == 12 {
+                    let rest = &text[a[2] as usize - 1..];
+                    let name = rest.split(|b| b" ,;]+".contains(b)).next().unwrap_or(b"");
+                    let last = text.windows(name.len()).rposition(|other| other == name);
+                    a[2] = last.map_or(a[2], |at| at as u32 + 1)
+                }
+            }),
+        ];
+        for (name, fault) in faults {
+            assert!(is_found(&Faulty(fault)), "{name}");
+        }
+    }
+
+    /// Another column of a statement by itself than in its sheet.
+    struct OtherStatement;
+
+    impl Side for OtherStatement {
+        fn judge(&self, sheet: &[u8], starts: &mut [u16]) -> (u32, Answer) {
+            Reference.judge(sheet, starts)
+        }
+
+        fn report(&self, sheet: &[u8], room: &mut [u8]) -> (u32, usize) {
+            Reference.report(sheet, room)
+        }
+
+        fn statement(&self, text: &[u8]) -> (u32, usize) {
+            let (reason, column) = Reference.statement(text);
+            (reason, if reason == 4 { column - 1 } else { column })
+        }
+    }
+
+    #[test]
+    fn faults_in_statements_are_found() {
+        assert!(is_found(&OtherStatement));
     }
 
     #[test]

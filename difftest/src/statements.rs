@@ -41,13 +41,11 @@ impl Comparison {
 
     fn text(&mut self, text: &[u8]) {
         self.counts.seen("texts", 0);
-        let read = reference::read(text);
-        let reason = match &read {
-            Ok(s) => reference::registers_reason(s),
-            Err(reason) => *reason,
-        };
-        self.counts.compare("reason", reason, proved::statement_reason(text), reason, || shown(text));
-        if let Ok(s) = &read {
+        let theirs = reference::judge_alone(text);
+        let (reason, column) = (theirs.reason, theirs.column);
+        self.counts.compare("reason", reason, proved::statement_reason(text), (reason, column), || shown(text));
+        self.counts.seen(column_name(text, reason, column), reason);
+        if let Ok(s) = &reference::read(text) {
             self.counts.seen("form", reference::form(s));
         }
         let length = self.canonical(text, ROOM);
@@ -55,6 +53,22 @@ impl Comparison {
             self.canonical(text, length);
             self.canonical(text, length - 1);
         }
+    }
+}
+
+/// What stands at the column.
+fn column_name(text: &[u8], reason: u32, column: usize) -> &'static str {
+    if reason == 0 || reason == 5 {
+        return "column by the reason";
+    }
+    match text.get(column.wrapping_sub(1)) {
+        None => "column past the end",
+        Some(_) if column == 1 => "column of the opcode",
+        Some(b' ') => "column of a space",
+        Some(b'[' | b']' | b'{' | b'}' | b'+' | b',' | b';') => "column of a mark",
+        Some(b'0'..=b'9') => "column of a digit",
+        Some(b) if b.is_ascii_alphabetic() || matches!(b, b'_' | b'$' | b'%') => "column of a word",
+        Some(_) => "column of a byte",
     }
 }
 
@@ -304,11 +318,48 @@ fn limits(c: &mut Comparison) {
     }
 }
 
+/// Statements of each form, each byte of which is exchanged for every other, and left out.
+const GOOD: [&str; 15] = [
+    "mov.b32 x, 4294967295;",
+    "mov.b64 %r1 , 0x1F;",
+    "tcgen05.alloc.cta_group::1.sync.aligned.b32 [t0], 64;",
+    "tcgen05.alloc.cta_group::1.sync.aligned.shared::cta.b32[ t ],0x20 ;",
+    "tcgen05.dealloc.cta_group::1.sync.aligned.b32 t0, 512;",
+    "tcgen05.relinquish_alloc_permit.cta_group::1.sync.aligned;",
+    "tcgen05.ld.sync.aligned.32x32b.x2.b32 {r0, %r1}, [t0+2097152];",
+    "tcgen05.st.sync.aligned.16x64b.x1.b32 [ t0 + 0x10 ] , { _1 };",
+    "tcgen05.wait::ld.sync.aligned;",
+    "tcgen05.wait::st.sync.aligned ;",
+    "tcgen05.fence::before_thread_sync;",
+    "tcgen05.fence::after_thread_sync;",
+    "tcgen05.mma.cta_group::1.kind::f16 [d+64], a, b, i, p;",
+    "tcgen05.mma.ws.sp.cta_group::1.kind::f8f6f4 [d], [a+0], b, [m + 2], $i, %p;",
+    "exit;",
+];
+
+fn single_bytes(c: &mut Comparison) {
+    for text in GOOD {
+        for at in 0..text.len() {
+            let mut t = text.as_bytes().to_vec();
+            for byte in 0..=255 {
+                t[at] = byte;
+                c.text(&t);
+            }
+            t.remove(at);
+            c.text(&t);
+            // and cut there
+            t.truncate(at);
+            c.text(&t);
+        }
+    }
+}
+
 pub fn run() -> bool {
     let mut c = Comparison::new();
     let mut r = Random::new(2);
     crate::readings::run(&mut c.counts);
     limits(&mut c);
+    single_bytes(&mut c);
     for turn in 0..20_000u64 {
         for form in 0..13 {
             let over = r.below(6) == 0;
@@ -341,6 +392,14 @@ pub fn run() -> bool {
         ("reason", 3, 200_000),
         ("reason", 4, 20_000),
         ("reason", 5, 5_000),
+        ("column past the end", 3, 2_000),
+        ("column of the opcode", 3, 10_000),
+        ("column of a space", 3, 2_000),
+        ("column of a mark", 3, 10_000),
+        ("column of a digit", 3, 5_000),
+        ("column of a word", 3, 10_000),
+        ("column of a byte", 3, 10_000),
+        ("column of a digit", 4, 20_000),
         ("canonical", 0, 400_000),
         ("canonical", 3, 200_000),
         ("canonical", 4, 20_000),

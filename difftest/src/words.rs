@@ -24,8 +24,49 @@ fn word(counts: &mut Counts, (o, kind, ws, sp): (Opcode, Kind, bool, bool), w: u
     counts.compare("instruction decode", theirs.0, proved::instruction_decode(o, w), theirs, || format!("{o:?} {w:#010x}"));
     let reason = reference::judge_word(kind, ws, sp, w);
     counts.compare("instruction judge", reason, proved::instruction_judge(o, w), reason, || format!("{o:?} {w:#010x}"));
-    if reason == 0 {
-        counts.seen("opcodes judged 0", o.number());
+    if let Some(what) = listing_name(reason) {
+        counts.seen(what, o.number());
+    }
+}
+
+/// What the counts call an answer of the listing by opcode.
+fn listing_name(reason: u32) -> Option<&'static str> {
+    match reason {
+        0 => Some("opcodes judged 0"),
+        13 => Some("opcodes judged 13"),
+        20 => Some("opcodes judged 20"),
+        21 => Some("opcodes judged 21"),
+        _ => None,
+    }
+}
+
+/// The codes of the types that a kind has.
+fn type_codes(kind: Kind) -> &'static [u32] {
+    match kind {
+        Kind::F16 | Kind::I8 => &[0, 1],
+        Kind::Tf32 => &[2],
+        Kind::F8f6f4 => &[0, 1, 3, 4, 5],
+    }
+}
+
+/// Every M, N, dtype and pair of types that a word can hold under the opcode: the first that is not listed counts.
+fn listings(counts: &mut Counts, opcode: (Opcode, Kind, bool, bool)) {
+    let (_, kind, ws, sp) = opcode;
+    let codes = type_codes(kind);
+    for shape in 0..1u32 << 11 {
+        let (n, m) = (shape & 63, shape >> 6);
+        for dtype in 0..3 {
+            for a in codes {
+                for b in codes {
+                    let w = u32::from(sp) << 2 | dtype << 4 | a << 7 | b << 10 | n << 17 | m << 24;
+                    word(counts, opcode, w);
+                    if (shape + dtype + a + b) % 7 == 0 {
+                        let read = reference::decode_instruction(kind, ws, sp, w).expect("such a word reads");
+                        fields(counts, opcode, read.to_array());
+                    }
+                }
+            }
+        }
     }
 }
 
@@ -50,11 +91,7 @@ fn fields(counts: &mut Counts, (o, kind, ws, sp): (Opcode, Kind, bool, bool), f:
 
 /// Words that read, under each opcode: a valid choice for every field.
 fn valid_word(r: &mut Random, kind: Kind, ws: bool, sp: bool) -> u32 {
-    let types: &[u32] = match kind {
-        Kind::F16 | Kind::I8 => &[0, 1],
-        Kind::Tf32 => &[2],
-        Kind::F8f6f4 => &[0, 1, 3, 4, 5],
-    };
+    let types = type_codes(kind);
     let integer = kind == Kind::I8;
     let mut w = 0;
     w |= if sp { r.below(4) as u32 | 1 << 2 } else { 0 };
@@ -104,6 +141,7 @@ fn instructions(counts: &mut Counts, r: &mut Random) {
             let (n, m, dtype) = (shape & 63, shape >> 6 & 31, shape >> 11);
             word(counts, opcode, base | n << 17 | m << 24 | dtype << 4);
         }
+        listings(counts, opcode);
         // every single-bit change of words that read
         for _ in 0..400 {
             let w = valid_word(r, opcode.1, opcode.2, opcode.3);
@@ -280,11 +318,15 @@ pub fn run() -> bool {
         ("instruction judge", 0, 20_000),
         ("instruction judge", 12, 100_000),
         ("instruction judge", 13, 10_000),
+        ("instruction judge", 20, 10_000),
+        ("instruction judge", 21, 10_000),
         ("instruction encode", 0, 50_000),
         ("instruction encode", 12, 50_000),
         ("instruction listed", 0, 10_000),
         ("instruction listed", 12, 50_000),
         ("instruction listed", 13, 10_000),
+        ("instruction listed", 20, 5_000),
+        ("instruction listed", 21, 3_000),
         ("wrong opcode", 12, 10_000),
         ("k", 0, 8),
         ("k", 12, 4),
@@ -305,6 +347,9 @@ pub fn run() -> bool {
             64
         };
         wanted.push(("opcodes judged 0", o.number(), shapes));
+        for what in ["opcodes judged 13", "opcodes judged 20", "opcodes judged 21"] {
+            wanted.push((what, o.number(), 200));
+        }
         wanted.push(("opcodes listed", o.number(), shapes));
     }
     counts.finish("words", &wanted)

@@ -225,11 +225,10 @@ mod behind {
     }
 
     #[inline(never)]
-    pub unsafe extern "C" fn statement_reason(text: *const u8, length: usize) -> u32 {
-        match statement::read(std::slice::from_raw_parts(text, length)) {
-            Ok(s) => statement::registers_reason(&s),
-            Err(reason) => reason,
-        }
+    pub unsafe extern "C" fn statement_reason(text: *const u8, length: usize, column: *mut usize) -> u32 {
+        let verdict = statement::judge_alone(std::slice::from_raw_parts(text, length));
+        *column = verdict.column;
+        verdict.reason
     }
 
     #[inline(never)]
@@ -244,9 +243,9 @@ mod behind {
 
     /// The reference does not count its starts.
     #[inline(never)]
-    pub unsafe extern "C" fn judge(sheet: *const u8, length: usize, starts: *mut u16, places: usize, answer: *mut [u32; 5]) -> u32 {
+    pub unsafe extern "C" fn judge(sheet: *const u8, length: usize, starts: *mut u16, places: usize, answer: *mut [u32; 6]) -> u32 {
         let a = judge::judge(std::slice::from_raw_parts(sheet, length), std::slice::from_raw_parts_mut(starts, places));
-        *answer = [a.reason, a.line as u32, a.held, a.peak, 0];
+        *answer = [a.reason, a.line as u32, a.column as u32, a.held, a.peak, 0];
         a.reason
     }
 
@@ -341,8 +340,14 @@ fn main() {
             Some(("reason", name)) => {
                 let t = text(name).unwrap_or_else(|| usage());
                 let f = if proved { c::staplehorn_statement_reason } else { behind::statement_reason };
-                // SAFETY: numbers, locals and slices alone; each array has the header's size.
-                Box::new(move || (0..CALLS).fold(0, |s, _| mixed(s, unsafe { f(t.as_ptr(), t.len()) }, t.len() as u64, 0)))
+                Box::new(move || {
+                    (0..CALLS).fold(0, |s, _| {
+                        let mut column = 0;
+                        // SAFETY: numbers, locals and slices alone; each array has the header's size.
+                        let reason = unsafe { f(t.as_ptr(), t.len(), &mut column) };
+                        mixed(s, reason, t.len() as u64, column as u64)
+                    })
+                })
             }
             Some(("canonical", name)) => {
                 let t = text(name).unwrap_or_else(|| usage());
@@ -367,11 +372,11 @@ fn main() {
                 let f = if proved { c::staplehorn_judge } else { behind::judge };
                 Box::new(move || {
                     (0..calls).fold(0, |s, _| {
-                        let mut answer = [0; 5];
+                        let mut answer = [0; 6];
                         // SAFETY: numbers, locals and slices alone; each array has the header's size.
                         let reason = unsafe { f(t.as_ptr(), t.len(), starts.as_mut_ptr(), starts.len(), &mut answer) };
                         assert_eq!(reason, 0, "a sheet to be measured passes");
-                        mixed(s, reason, answer[1].into(), u64::from(answer[3]) ^ u64::from(starts[1]) << 16)
+                        mixed(s, reason, answer[1].into(), u64::from(answer[4]) ^ u64::from(starts[1]) << 16)
                     })
                 })
             }
