@@ -11,11 +11,11 @@ use Rattle.rules.proofs.RulesProved.{rules-exact}
 use Rattle.judge.specs.Judged.{sheetOf, judgedOf, PassedBytes}
 use Rattle.judge.proofs.Whole.{never-1}
 
-passes-by : (b : Bool) (s : List ℕ) (room : ℕ) → Passing (cond b (answer 1 0 0 0) (answerOf (sheetOf s) room) .reason) → (b ≡ false) × Passed ours (sheetOf s)
+passes-by : (b : Bool) (s : List ℕ) (room : ℕ) → Passing (cond b (answer 1 0 0 0 0) (answerOf (sheetOf s) room) .reason) → (b ≡ false) × Passed ours (sheetOf s)
 passes-by true s room p = never-1 _ p
 passes-by false s room p = (refl, rules-exact ours (sheetOf s) room .passed .0 p)
 
-passed-by : (b : Bool) (s : List ℕ) (room : ℕ) → b ≡ false → Passed ours (sheetOf s) → Passing (cond b (answer 1 0 0 0) (answerOf (sheetOf s) room) .reason)
+passed-by : (b : Bool) (s : List ℕ) (room : ℕ) → b ≡ false → Passed ours (sheetOf s) → Passing (cond b (answer 1 0 0 0 0) (answerOf (sheetOf s) room) .reason)
 passed-by true s room e p = never (sym e)
 passed-by false s room e p = rules-exact ours (sheetOf s) room .passed .1 p
 

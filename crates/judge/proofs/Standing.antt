@@ -1,6 +1,6 @@
 -- The loop over the lines: it begins after the header, goes on by an accepted line, and its answer at a refused line and at the end is that of the
 -- rules. Assumes nothing.
-use Prim.Native.Nat.{ℕ, suc, _+_, _-_, _≤_, _<_}
+use Prim.Native.Nat.{ℕ, zero, suc, _+_, _-_, _≤_, _<_}
 use mathlib.Core.Path.{_≡_, refl, sym, ap, _∙_, subst}
 use mathlib.Core.Bool.{Bool, true, false, cond}
 use mathlib.Core.List.{List}
@@ -9,13 +9,16 @@ use lib.Dec.{ltb, eqb}
 use lib.ListN.{length, take, drop}
 use lib.Seq.{sets-eq, length-sets, take-append-seam}
 use borrow.Author.Tests.{eq-eqb, ne-eqb, lt-ltb, le-ltb}
-use Rattle.lines.specs.Sheet.{after, contentOf, lineAt, lineCount, headed, bodyAt, After}
+use Rattle.lines.specs.Sheet.{Content, fault, laid, contentAfter, after, contentOf, lineAt, lineCount, headed, bodyAt, After}
 use Rattle.lines.proofs.SheetLaws.{fault-seen, line-seen}
 use Rattle.lines.proofs.SheetTheorems.{after-header, one-more, all-done, step-more, step-after}
 use Rattle.laws.specs.Rules.{firstBroken}
+use Rattle.statement.specs.declared.Position.{Position}
+use Rattle.statement.specs.declared.Position.the-variants.{Start}
+use Rattle.statement.specs.Positions.{startColumn, columnOf}
 use Rattle.rules.specs.declared.Answer.{Answer}
 use Rattle.rules.specs.State.{lowest}
-use Rattle.rules.specs.Sheet.{Line, lineRules, heldAfter, peakUpTo, ours, reasonBy, stopBy, answer, closing, stateAfter, startsUpTo, answerOf, startsOf}
+use Rattle.rules.specs.Sheet.{Line, lineRules, heldAfter, peakUpTo, ours, reasonBy, positionBy, stopBy, answer, closing, stateAfter, startsUpTo, answerOf, startsOf}
 use Rattle.rules.proofs.RulesProved.{stop-hit, stop-before, stop-none, at-stop, at-end}
 use Rattle.ledger.specs.declared.Ledger.{Ledger}
 use Rattle.ledger.specs.Booking as ledger
@@ -24,10 +27,10 @@ use Rattle.bindings.specs.Table as bindings
 use Rattle.steps.specs.Steps.{Arrays, arrays}
 use Rattle.progress.specs.declared.Progress.{Progress}
 use Rattle.progress.specs.declared.Advanced.{Advanced}
-use Rattle.progress.specs.Going.{seen, lineSeen, opening, Ready, Next, Went}
+use Rattle.progress.specs.Going.{seen, lineSeen, columnIn, columnSeen, opening, Ready, Next, Went}
 use Rattle.progress.proofs.LineLaws.{starts-few}
 use Rattle.progress.proofs.Going as going
-use Rattle.judge.specs.Judged.{linesOf, sheetOf}
+use Rattle.judge.specs.Judged.{linesOf, columnsOf, sheetOf}
 use Rattle.judge.specs.Standing.{Standing}
 
 -- after the header
@@ -40,20 +43,34 @@ begins s first l t p e f g h = record {
 }
 
 -- ---- at the end: exit is asked for, then room
-module _ (exited : Bool) (requests room line held peak : ℕ) where
-  pub closing-open : exited ≡ false → closing exited requests room line held peak ≡ answer 15 line held peak
-  unfolding closing
-  closing-open e = ap (λ (b : Bool). closing b requests room line held peak) e
+module _ (exited : Bool) (requests room line column held peak : ℕ) where
+  abbrev closed : Bool → Answer
+  closed b = closing b requests room line column held peak
 
-  closing-by : (b : Bool) → exited ≡ true → ltb room requests ≡ b → closing exited requests room line held peak ≡ cond b (answer 16 line 0 peak) (answer 0 line 0 peak)
+  pub closing-open : exited ≡ false → closed exited ≡ answer 15 line column held peak
   unfolding closing
-  closing-by b e t = ap (λ (x : Bool). closing x requests room line held peak) e ∙ ap (λ (x : Bool). cond x (answer 16 line 0 peak) (answer 0 line 0 peak)) t
+  closing-open e = ap closed e
 
-  pub closing-short : exited ≡ true → room < requests → closing exited requests room line held peak ≡ answer 16 line 0 peak
+  closing-by : (b : Bool) → exited ≡ true → ltb room requests ≡ b → closed exited ≡ cond b (answer 16 line column 0 peak) (answer 0 line 0 0 peak)
+  unfolding closing
+  closing-by b e t = ap closed e ∙ ap (λ (x : Bool). cond x (answer 16 line column 0 peak) (answer 0 line 0 0 peak)) t
+
+  pub closing-short : exited ≡ true → room < requests → closed exited ≡ answer 16 line column 0 peak
   closing-short e t = closing-by true e (lt-ltb room requests t)
 
-  pub closing-passed : exited ≡ true → requests ≤ room → closing exited requests room line held peak ≡ answer 0 line 0 peak
+  pub closing-passed : exited ≡ true → requests ≤ room → closed exited ≡ answer 0 line 0 0 peak
   closing-passed e t = closing-by false e (le-ltb room requests t)
+
+-- every line starts in column 1
+start-in : (c : Content) → columnIn c Start ≡ startColumn
+unfolding columnOf
+start-in fault = refl
+start-in (laid warp text) = refl
+
+pub start-of : (s : List ℕ) (l : ℕ) → columnsOf s l Start ≡ startColumn
+unfolding columnsOf
+start-of s zero = refl
+start-of s (suc k) = start-in (contentAfter (suc k) s)
 
 -- a refused answer comes with no starts
 pub refused-count : (s : List ℕ) (x y : Answer) → (x .reason ≡ 0 → ⊥) → y ≡ x → (n : ℕ) → n ≡ 0 → n ≡ cond (eqb (y .reason) 0) (length (startsOf (sheetOf s))) 0
@@ -74,6 +91,10 @@ module _ (s first given : List ℕ) (a : Arrays) (p : Progress) (at : ℕ) (g : 
   line-now : linesOf s k ≡ lineSeen s at
   unfolding linesOf
   line-now = sym (ap seen (line-seen s at ∙ ap contentOf (g .here .here) ∙ ap (λ (n : ℕ). contentOf (after n s)) (g .going .line-is)))
+
+  column-now : (q : Position) → columnSeen s at q ≡ columnsOf s (suc k) q
+  unfolding columnsOf
+  column-now q = ap (λ (c : Content). columnIn c q) (line-seen s at ∙ ap contentOf (g .here .here) ∙ ap (λ (n : ℕ). contentOf (after n s)) (g .going .line-is))
 
   -- a layout fault is refused
   fault-2 : lineAt s at .ok ≡ false → reasonBy ours (linesOf s) k ≡ 2
@@ -96,8 +117,8 @@ module _ (s first given : List ℕ) (a : Arrays) (p : Progress) (at : ℕ) (g : 
       places = places e;
     }
 
-    module _ (r : Advanced) (nextGiven : List ℕ) (next : Arrays) (w : Went (lineSeen s at) given a p r nextGiven next) where
-      gives : Next (linesOf s) k first given a p r nextGiven next
+    module _ (r : Advanced) (nextGiven : List ℕ) (next : Arrays) (w : Went (lineSeen s at) (columnSeen s at) given a p r nextGiven next) where
+      gives : Next (linesOf s) k (columnSeen s at) first given a p r nextGiven next
       gives = w (linesOf s) k first (g .going) line-now
 
       -- refused: the sheet stops here
@@ -113,15 +134,16 @@ module _ (s first given : List ℕ) (a : Arrays) (p : Progress) (at : ℕ) (g : 
             not-gt : k < stopBy ours (linesOf s) (lineCount s - 1) → ⊥
             not-gt q = z (gives .reasons ∙ stop-before ours (linesOf s) (lineCount s - 1) k q)
 
-        pub refuses : (room : ℕ) → headed s ≡ true → answer (r .reason) (r .progress .line) (r .progress .held) (r .progress .peak) ≡ answerOf (sheetOf s) room
+        pub refuses : (room : ℕ) → headed s ≡ true → answer (r .reason) (r .progress .line) (r .column) (r .progress .held) (r .progress .peak) ≡ answerOf (sheetOf s) room
         refuses room h =
             let e = gives .stops z .0 in
             let n : r .progress .line ≡ k + 2 = omega (arith, ap (λ (x : Progress). x .line) e, g .going .line-is) in
             let held = ap (λ (x : Progress). x .held) e ∙ g .going .held-is in
             let peak = ap (λ (x : Progress). x .peak) e ∙ g .going .peak-is in
             let b : stopBy ours (linesOf s) (lineCount s - 1) < lineCount s - 1 = omega (arith, stops, inside) in
-            (λ i. answer (gives .reasons i) (n i) (held i) (peak i))
-            ∙ sym (at-stop ours (sheetOf s) room h b ∙ ap (λ (j : ℕ). answer (reasonBy ours (linesOf s) j) (j + 2) (heldAfter (linesOf s) j) (peakUpTo (linesOf s) j)) stops)
+            let column = gives .points z ∙ column-now (positionBy ours (linesOf s) k) in
+            (λ i. answer (gives .reasons i) (n i) (column i) (held i) (peak i))
+            ∙ sym (at-stop ours (sheetOf s) room h b ∙ ap (λ (j : ℕ). answer (reasonBy ours (linesOf s) j) (j + 2) (columnsOf s (suc j) (positionBy ours (linesOf s) j)) (heldAfter (linesOf s) j) (peakUpTo (linesOf s) j)) stops)
 
         pub same-places : length first ≡ 4096 → length nextGiven ≡ 4096
         same-places e = ap length (gives .stops z .1 .0) ∙ places e
@@ -168,7 +190,7 @@ module _ (s first given : List ℕ) (a : Arrays) (p : Progress) (at : ℕ) (g : 
         ∙ take-append-seam w (drop (0 + length w) first)
         ∙ ap (startsUpTo (linesOf s)) done-all
 
-    pub ends : (room : ℕ) → headed s ≡ true → closing (p .status .exited) (p .requests) room (p .line) (p .held) (p .peak) ≡ answerOf (sheetOf s) room
+    pub ends : (room : ℕ) → headed s ≡ true → closing (p .status .exited) (p .requests) room (p .line) startColumn (p .held) (p .peak) ≡ answerOf (sheetOf s) room
     unfolding closing
     ends room h =
         let zeros : (j : ℕ) → j < lineCount s - 1 → reasonBy ours (linesOf s) j ≡ 0 = λ j q. g .going .accepted j (omega (arith, q, done-all)) in
@@ -176,7 +198,8 @@ module _ (s first given : List ℕ) (a : Arrays) (p : Progress) (at : ℕ) (g : 
         let x = g .going .kept .exited ∙ ap (λ (j : ℕ). stateAfter (linesOf s) j .exited) done-all in
         let y = g .going .held-is ∙ ap (heldAfter (linesOf s)) done-all in
         let q = g .going .peak-is ∙ ap (peakUpTo (linesOf s)) done-all in
-        (λ i. closing (x i) (ends-count i) room (l i) (y i) (q i)) ∙ sym (at-end ours (sheetOf s) room h (stop-none ours (linesOf s) (lineCount s - 1) zeros))
+        let c = sym (start-of s (lineCount s - 1)) in
+        (λ i. closing (x i) (ends-count i) room (l i) (c i) (y i) (q i)) ∙ sym (at-end ours (sheetOf s) room h (stop-none ours (linesOf s) (lineCount s - 1) zeros))
 
     -- the starts that come with the answer: all of them, or none
     counted-by : (b : Bool) (n : ℕ) → n ≡ cond b (p .requests) 0 → lineCount s ≤ 4096 → (n ≡ cond b (length (startsOf (sheetOf s))) 0) × (n ≤ 4096)

@@ -17,6 +17,7 @@ use Rattle.rules.specs.Claims.{Passing}
 use Rattle.rules.proofs.RulesProved.{bad-header}
 use Rattle.rules.proofs.FiguresProved.{figures-exact}
 use Rattle.run.proofs.Demand3Proved.{demand3}
+use Rattle.judge.proofs.Standing.{start-of}
 use Rattle.judge.specs.Judged.{sheetOf, judgedOf, startCount, startsAfter, RunKept}
 use Rattle.judge.specs.declared.Judged.{Judged}
 
@@ -45,10 +46,10 @@ module _ (s old : List ℕ) where
   counts r e n = n ∙ ap (With s) e
 
   -- reason 1
-  pub too-large : oversize s ≡ true → (r : Judged) → (r .answer ≡ answer 1 0 0 0) × (r .starts ≡ 0) → Whole s old r old
+  pub too-large : oversize s ≡ true → (r : Judged) → (r .answer ≡ answer 1 0 0 0 0) × (r .starts ≡ 0) → Whole s old r old
   unfolding judgedOf startsAfter
   too-large o r e =
-      let q = e .0 ∙ sym (ap (λ (b : Bool). cond b (answer 1 0 0 0) (answerOf (sheetOf s) (length old))) o) in (
+      let q = e .0 ∙ sym (ap (λ (b : Bool). cond b (answer 1 0 0 0 0) (answerOf (sheetOf s) (length old))) o) in (
         q,
         (
           counts r q (e .1 ∙ sym (ap (With s) (e .0))),
@@ -60,7 +61,7 @@ module _ (s old : List ℕ) where
   module _ (o : oversize s ≡ false) (r : Judged) (e : r .answer ≡ answerOf (sheetOf s) (length old)) (n : r .starts ≡ With s (r .answer)) where
     answered : r .answer ≡ judgedOf s (length old)
     unfolding judgedOf
-    answered = e ∙ sym (ap (λ (b : Bool). cond b (answer 1 0 0 0) (answerOf (sheetOf s) (length old))) o)
+    answered = e ∙ sym (ap (λ (b : Bool). cond b (answer 1 0 0 0 0) (answerOf (sheetOf s) (length old))) o)
 
     -- the list is what the rules leave
     new-is : (new : List ℕ) → new ≡ startsAfter s old → new ≡ placesAfter (sheetOf s) old
@@ -100,7 +101,7 @@ module _ (s old : List ℕ) where
     passed-whole z w new f g = whole new (g ∙ ap (sets old 0) f ∙ after-by true (eq-eqb (r .answer .reason) 0 z))
 
   -- line 1 is wrong
-  pub headless : oversize s ≡ false → headed s ≡ false → (r : Judged) → (r .answer ≡ answer 2 1 0 0) × (r .starts ≡ 0) → Whole s old r old
+  pub headless : oversize s ≡ false → headed s ≡ false → (r : Judged) → (r .answer ≡ answer 2 1 1 0 0) × (r .starts ≡ 0) → Whole s old r old
   headless o h r e =
-      refused-whole o r (e .0 ∙ sym (bad-header ours (sheetOf s) (length old) h)) (e .1 ∙ sym (ap (With s) (e .0)))
+      refused-whole o r (e .0 ∙ ap (λ (c : ℕ). answer 2 1 c 0 0) (sym (start-of s 0)) ∙ sym (bad-header ours (sheetOf s) (length old) h)) (e .1 ∙ sym (ap (With s) (e .0)))
       (λ z. omega (arith, ap (λ (x : Answer). x .reason) (e .0), z))

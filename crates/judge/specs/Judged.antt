@@ -1,15 +1,17 @@
 -- The answer for any bytes: the bytes are a sheet of the rules, and reason 1 comes first. Assumes nothing.
-use Prim.Native.Nat.{ℕ, suc, _-_}
+use Prim.Native.Nat.{ℕ, zero, suc, _-_}
 use mathlib.Core.Path.{_≡_}
 use mathlib.Core.Bool.{false, cond}
 use mathlib.Core.List.{List}
 use lib.Dec.{eqb}
 use lib.ListN.{length, take}
 use Rattle.lines.specs.Sheet.{contentAfter, lineCount, headed, oversize}
+use Rattle.statement.specs.declared.Position.{Position}
+use Rattle.statement.specs.Positions.{startColumn}
 use Rattle.rules.specs.declared.Answer.{Answer}
 use Rattle.rules.specs.Sheet.{Line, Sheet, ours, answer, answerOf, startsOf, placesAfter}
 use Rattle.rules.specs.Claims.{Passing, Passed}
-use Rattle.progress.specs.Going.{seen}
+use Rattle.progress.specs.Going.{seen, columnIn}
 use Rattle.run.specs.Run.{peakOf}
 use Rattle.run.specs.Demand3.{turnsOf, Demand3}
 
@@ -17,12 +19,17 @@ use Rattle.run.specs.Demand3.{turnsOf, Demand3}
 unfoldable pub linesOf : List ℕ → ℕ → Line
 linesOf s k = seen (contentAfter (suc k) s)
 
+-- the column of a position in its line, line 1 counted as 0
+unfoldable pub columnsOf : List ℕ → ℕ → Position → ℕ
+columnsOf s zero p = startColumn
+columnsOf s (suc k) p = columnIn (contentAfter (suc k) s) p
+
 abbrev pub sheetOf : List ℕ → Sheet
-sheetOf s = record { header = headed s; line = linesOf s; count = lineCount s - 1 }
+sheetOf s = record { header = headed s; line = linesOf s; count = lineCount s - 1; column = columnsOf s }
 
 -- reason 1 first, then the answer of the rules
 unfoldable pub judgedOf : List ℕ → ℕ → Answer
-judgedOf s room = cond (oversize s) (answer 1 0 0 0) (answerOf (sheetOf s) room)
+judgedOf s room = cond (oversize s) (answer 1 0 0 0 0) (answerOf (sheetOf s) room)
 
 -- the bytes are a passed sheet: not too large, the header is right, no rule is broken at any line, and exit is the last
 abbrev pub PassedBytes : List ℕ → Type 0

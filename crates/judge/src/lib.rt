@@ -10,6 +10,7 @@ ghost use lib.Dec.{eqb};
 ghost use lib.ListN.{length, take};
 ghost use lib.Seq.{sets};
 ghost use Rattle.lines.specs.Sheet.{mostLines, headed, lineCount};
+ghost use Rattle.statement.specs.Positions.{startColumn};
 ghost use Rattle.rules.specs.Sheet.{answer, closing, answerOf, startsOf};
 ghost use Rattle.judge.specs.Judged.{sheetOf, judgedOf, startCount, startsAfter, RunKept};
 
@@ -20,12 +21,13 @@ pub struct Judged {
 }
 
 // An answer with no starts.
-fn refused(reason: u32, line: usize, held: u32, peak: u32) -> Judged
-    ensures { λ r. ⌜ (r .answer ≡ answer reason line held peak) × (r .starts ≡ 0) ⌝ }
+fn refused(reason: u32, line: usize, column: usize, held: u32, peak: u32) -> Judged
+    ensures { λ r. ⌜ (r .answer ≡ answer reason line column held peak) × (r .starts ≡ 0) ⌝ }
 {
     let answer = Answer {
         reason,
         line,
+        column,
         held,
         peak,
     };
@@ -34,18 +36,19 @@ fn refused(reason: u32, line: usize, held: u32, peak: u32) -> Judged
 
 // No line is refused: exit is asked for, then room.
 fn finish(p: Progress, room: usize) -> Judged
-    ensures answer { λ r. ⌜ r .answer ≡ closing (p .status .exited) (p .requests) room (p .line) (p .held) (p .peak) ⌝ }
+    ensures answer { λ r. ⌜ r .answer ≡ closing (p .status .exited) (p .requests) room (p .line) startColumn (p .held) (p .peak) ⌝ }
     ensures starts { λ r. ⌜ r .starts ≡ cond (eqb (r .answer .reason) 0) (p .requests) 0 ⌝ }
 {
     if !p.status.exited {
-        return refused(reasons::EXIT, p.line, p.held, p.peak);
+        return refused(reasons::EXIT, p.line, 1, p.held, p.peak);
     }
     if room < p.requests {
-        return refused(reasons::STARTS, p.line, 0, p.peak);
+        return refused(reasons::STARTS, p.line, 1, 0, p.peak);
     }
     let answer = Answer {
         reason: reasons::PASSED,
         line: p.line,
+        column: 0,
         held: 0,
         peak: p.peak,
     };
@@ -90,7 +93,7 @@ fn judge_lines(sheet: &[u8], room: usize, given: &mut [u16; lines::LINES]) -> Ju
         );
         p = done.progress;
         if done.reason != reasons::PASSED {
-            return refused(done.reason, p.line, p.held, p.peak);
+            return refused(done.reason, p.line, done.column, p.held, p.peak);
         }
         at = done.next;
     }
@@ -118,10 +121,10 @@ pub fn judge(sheet: &[u8], starts: &mut [u16]) -> Judged
     ensures run { λ r. ⌜ RunKept (now (sheet .entry)) (r .answer) (now (starts .exit)) ⌝ }
 {
     if lines::size_fault(sheet) {
-        return refused(reasons::SIZE, 0, 0, 0);
+        return refused(reasons::SIZE, 0, 0, 0, 0);
     }
     if !lines::is_headed(sheet) {
-        return refused(reasons::LAYOUT, 1, 0, 0);
+        return refused(reasons::LAYOUT, 1, 1, 0, 0);
     }
     let mut given = [0u16; lines::LINES];
     let judged = judge_lines(sheet, starts.len(), &mut given);

@@ -33,6 +33,7 @@ use Rattle.statement.specs.Canonical.{sparse}
 use Rattle.statement.specs.Views as act
 use Rattle.statement.specs.Views.{Act, actOf, requestIn, exitIn, of}
 use Rattle.statement.specs.Cells as cells
+use Rattle.rules.specs.Rows.{outcomes}
 use Rattle.rules.specs.State as s
 use Rattle.rules.specs.State.{State, Allocation, Binding, Placer}
 use Rattle.rules.specs.Reasons as reasons
@@ -267,26 +268,26 @@ unfoldable pub freeFor : List Holding → Act → Option ℕ → Bool
 freeFor l t o = of (requestIn t) (λ r. mayUse l (r .columns) o) true
 
 -- what the rules say of an mma
-module _ (st : State) (m : Mma) (names : all (reasons.mmaNamed st m) ≡ true) where
+module _ (st : State) (m : Mma) (names : all (outcomes (reasons.mmaNamed st m)) ≡ true) where
   -- the number under idesc
   idesc-is : (r : Run) → Agree st r → run.numberOf (m .idesc) (r .notes) ≡ some (s.numberOf (m .idesc) (st .values))
   idesc-is r g =
-      let e = each (reasons.mmaNamed st m) names in
+      let e = each (outcomes (reasons.mmaNamed st m)) names in
       let width : s.widthOf (m .idesc) (st .values) ≡ 32 = eqb-true (s.widthOf (m .idesc) (st .values)) 32 (e .1 .1 .1 .1 .0) in
       g .numbers (m .idesc) ∙ lookup-some (m .idesc) (st .values) (omega (arith, width))
 
-  module _ (words : all (reasons.mmaReads st m) ≡ true) (ends : all (reasons.allEnd st m) ≡ true) where
+  module _ (words : all (outcomes (reasons.mmaReads st m)) ≡ true) (ends : all (outcomes (reasons.allEnd st m)) ≡ true) where
     mma-n : reasons.instructionOf st m .descriptor .n ≡ nOf (s.numberOf (m .idesc) (st .values))
     unfolding reasons.instructionOf
     mma-n =
         n-is (m .kind) (m .ws) (sparse (m .metadata)) (s.numberOf (m .idesc) (st .values))
-        (eqb-true (instruction.decoded (m .kind) (m .ws) (sparse (m .metadata)) (s.numberOf (m .idesc) (st .values)) .reason) 0 (each (reasons.mmaReads st m) words .1 .1 .0))
+        (eqb-true (instruction.decoded (m .kind) (m .ws) (sparse (m .metadata)) (s.numberOf (m .idesc) (st .values)) .reason) 0 (each (outcomes (reasons.mmaReads st m)) words .1 .1 .0))
 
     mma-all : (r : Run) → Agree st r
         → allLie (region (m .d) 128 (nOf (s.numberOf (m .idesc) (st .values))) ∷ (operandRegions (m .a) ++ metadataRegions (m .metadata))) (r .live) ≡ true
     mma-all r g =
-        let n = each (reasons.mmaNamed st m) names in
-        let i = each (reasons.allEnd st m) ends in
+        let n = each (outcomes (reasons.mmaNamed st m)) names in
+        let i = each (outcomes (reasons.allEnd st m)) ends in
         let v = nOf (s.numberOf (m .idesc) (st .values)) in
         allLie-cons (region (m .d) 128 v) (operandRegions (m .a) ++ metadataRegions (m .metadata)) (r .live)
         (mma-lies st (m .d) v (r .live) (g .alike) (n .0) (subst (λ c. reasons.mmaEnds st (m .d) c ≡ true) mma-n (i .0)))

@@ -39,13 +39,13 @@ lines =
     ∷ []
 
 sheet : Sheet
-sheet = record { header = true; line = λ k. getD lines k noForm; count = 8 }
+sheet = record { header = true; line = λ k. getD lines k noForm; count = 8; column = λ l p. 0 }
 
-passes : answerOf sheet 3 ≡ answer 0 9 0 96
+passes : answerOf sheet 3 ≡ answer 0 9 0 0 96
 unfolding t0 t1 t2 lines sheet count every least s.isLive s.columnsOf s.without s.total s.covers s.isFree s.freeFrom s.slot s.lowest s.isBound
-    s.widthOf s.numberOf s.bind cells.counted reasons.named reasons.roomed reasons.laneOfWarp reasons.warped reasons.sized reasons.permitted
-    reasons.placed reasons.reads reasons.mListed reasons.nListed reasons.typesListed reasons.inside reasons.cleared reasons.openRules
-    reasons.closedRules reasons.rules answerAt answerBy closing stopBy reasonBy stateBy startsBy given effect requested released sum heldAfter
+    s.widthOf s.numberOf s.bind cells.counted reasons.named reasons.roomed reasons.laneOfWarp reasons.laned reasons.warped reasons.sized reasons.permitted
+    reasons.placed reasons.reads reasons.mListed reasons.nListed reasons.typesListed reasons.inside reasons.cleared reasons.openRows
+    reasons.closedRows reasons.rows answerAt answerBy closing stopBy reasonBy stateBy startsBy given effect requested released sum heldAfter
     peakUpTo ones onesIn cells.registersFor cells.lanesFor cells.columnsFor cells.miscounted
 passes = refl
 
