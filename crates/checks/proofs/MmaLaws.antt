@@ -6,7 +6,6 @@ use mathlib.Core.Bool.{Bool, true, false, not, _&&_, cond}
 use mathlib.Core.List.{List}
 use lib.Dec.{leb, eqb}
 use borrow.Author.Tests.{eqb-true}
-use Rattle.laws.specs.Tests.{all}
 use Rattle.laws.specs.Rules.{firstBroken}
 use Rattle.tokens.specs.declared.Name.{Name}
 use Rattle.instruction.specs.declared.Judged.{Judged}
@@ -20,6 +19,7 @@ use Rattle.statement.specs.declared.Mma.{Mma}
 use Rattle.statement.specs.declared.Statement.the-variants.{Multiply}
 use Rattle.statement.specs.Canonical.{sparse}
 use Rattle.rules.specs.State.{State, lowest, isLive, widthOf, numberOf}
+use Rattle.rules.specs.Rows.{kept}
 use Rattle.rules.specs.Reasons.{laneOf, columnOf, sharedReads, mmaEnds, operandNamed, metadataNamed, operandReads, operandEnds, metadataEnds, mmaNamed, mmaReads, allEnd, instructionOf, fieldsOf, openRules}
 use Rattle.rules.proofs.ByAct.{mmaOrder, mma-listed}
 use Rattle.laws.proofs.BoolLaws.{and-r}
@@ -100,7 +100,7 @@ module _ (s : State) (held w : ℕ) (m : Mma) (columns : ℕ) (a b e : Tested) (
   abbrev names : Bool
   names = (((not (eqb columns 0) && a .named) && b .named) && e .named) && eqb (v .width) 32
 
-  named-is : names ≡ all (mmaNamed s m)
+  named-is : names ≡ kept (mmaNamed s m)
   named-is =
       both _ _ _ _
       (both _ _ _ _
@@ -112,7 +112,7 @@ module _ (s : State) (held w : ℕ) (m : Mma) (columns : ℕ) (a b e : Tested) (
 
   pub mma-6 : names ≡ false → 6 ≡ firstBroken (openRules lowest s held w (Multiply m))
   mma-6 t =
-      ap (λ (x : Bool). mmaOrder x (all (mmaReads s m)) listingOf (all (allEnd s m))) (sym t ∙ named-is) ∙ sym (mma-listed lowest s held w m)
+      ap (λ (x : Bool). mmaOrder x (kept (mmaReads s m)) listingOf (kept (allEnd s m))) (sym t ∙ named-is) ∙ sym (mma-listed lowest s held w m)
 
   -- reason 12: a 32-bit value is the word
   module _ (n : names ≡ true) (word : ℕ) (pw : word ≡ v .number % 2 ^ 32) (sp : Bool) (ps : sp ≡ sparse (m .metadata))
@@ -137,21 +137,21 @@ module _ (s : State) (held w : ℕ) (m : Mma) (columns : ℕ) (a b e : Tested) (
     abbrev descriptors : Bool
     descriptors = (a .reads && b .reads) && not (eqb (i .reason) 12)
 
-    reads-is : descriptors ≡ all (mmaReads s m)
+    reads-is : descriptors ≡ kept (mmaReads s m)
     reads-is =
         both _ _ _ _
         (both _ _ _ _ (ap (λ (x : Tested). x .reads) (o .operand)) (ap (λ (x : Tested). x .reads) (o .descriptor)))
         reading-is
 
-    after-6 : (x : ℕ) → x ≡ mmaOrder true descriptors listingOf (all (allEnd s m)) → x ≡ firstBroken (openRules lowest s held w (Multiply m))
+    after-6 : (x : ℕ) → x ≡ mmaOrder true descriptors listingOf (kept (allEnd s m)) → x ≡ firstBroken (openRules lowest s held w (Multiply m))
     after-6 x p =
         p
-        ∙ ap (λ (y : Bool). mmaOrder y descriptors listingOf (all (allEnd s m))) (sym n ∙ named-is)
-        ∙ ap (λ (y : Bool). mmaOrder (all (mmaNamed s m)) y listingOf (all (allEnd s m))) reads-is
+        ∙ ap (λ (y : Bool). mmaOrder y descriptors listingOf (kept (allEnd s m))) (sym n ∙ named-is)
+        ∙ ap (λ (y : Bool). mmaOrder (kept (mmaNamed s m)) y listingOf (kept (allEnd s m))) reads-is
         ∙ sym (mma-listed lowest s held w m)
 
     pub mma-12 : descriptors ≡ false → 12 ≡ firstBroken (openRules lowest s held w (Multiply m))
-    mma-12 t = after-6 12 (ap (λ (y : Bool). mmaOrder true y listingOf (all (allEnd s m))) (sym t))
+    mma-12 t = after-6 12 (ap (λ (y : Bool). mmaOrder true y listingOf (kept (allEnd s m))) (sym t))
 
     -- the word has a reading, so its reason is that of its listing, whatever the numbers of those rules are
     module _ (r : descriptors ≡ true) where
@@ -167,14 +167,14 @@ module _ (s : State) (held w : ℕ) (m : Mma) (columns : ℕ) (a b e : Tested) (
           ∙ judged-lists (m .kind) (m .ws) sp word read-0
           ∙ ap (λ (x : InstructionRead). firstBroken (instruction.listing (m .kind) (m .ws) (instruction.fields (x .descriptor)))) decoded-is
 
-      after-12 : (x : ℕ) → x ≡ mmaOrder true true (i .reason) (all (allEnd s m)) → x ≡ firstBroken (openRules lowest s held w (Multiply m))
+      after-12 : (x : ℕ) → x ≡ mmaOrder true true (i .reason) (kept (allEnd s m)) → x ≡ firstBroken (openRules lowest s held w (Multiply m))
       after-12 x p =
           after-6 x (p
-          ∙ ap (λ (y : Bool). mmaOrder true y (i .reason) (all (allEnd s m))) (sym r)
-          ∙ ap (λ (y : ℕ). mmaOrder true descriptors y (all (allEnd s m))) listing-is)
+          ∙ ap (λ (y : Bool). mmaOrder true y (i .reason) (kept (allEnd s m))) (sym r)
+          ∙ ap (λ (y : ℕ). mmaOrder true descriptors y (kept (allEnd s m))) listing-is)
 
       pub mma-listing : eqb (i .reason) 0 ≡ false → i .reason ≡ firstBroken (openRules lowest s held w (Multiply m))
-      mma-listing t = after-12 (i .reason) (ap (λ (y : Bool). cond y (cond (all (allEnd s m)) 0 14) (i .reason)) (sym t))
+      mma-listing t = after-12 (i .reason) (ap (λ (y : Bool). cond y (cond (kept (allEnd s m)) 0 14) (i .reason)) (sym t))
 
       -- reason 14, or none
       module _ (within : Bool) (q : within ≡ eqb (laneOf (m .d)) 0 && leb (columnOf (m .d) + i .n) columns) where
@@ -185,11 +185,11 @@ module _ (s : State) (held w : ℕ) (m : Mma) (columns : ℕ) (a b e : Tested) (
             ∙ ap (λ (x : InstructionRead). eqb (laneOf (m .d)) 0 && leb (columnOf (m .d) + x .descriptor .n) columns) decoded-is
             ∙ ap (λ (x : ℕ). eqb (laneOf (m .d)) 0 && leb (columnOf (m .d) + instructionOf s m .descriptor .n) x) (o .size)
 
-        inside-is : (within && a .ends) && e .ends ≡ all (allEnd s m)
+        inside-is : (within && a .ends) && e .ends ≡ kept (allEnd s m)
         inside-is = both _ _ _ _ (both _ _ _ _ within-is (ap (λ (x : Tested). x .ends) (o .operand))) (ap (λ (x : Tested). x .ends) (o .metadata))
 
         pub mma-end : eqb (i .reason) 0 ≡ true → (t : Bool) → (within && a .ends) && e .ends ≡ t → cond t 0 14 ≡ firstBroken (openRules lowest s held w (Multiply m))
         mma-end l t p =
             after-12 (cond t 0 14)
             (ap (λ (y : Bool). cond y 0 14) (sym p ∙ inside-is)
-            ∙ ap (λ (y : Bool). cond y (cond (all (allEnd s m)) 0 14) (i .reason)) (sym l))
+            ∙ ap (λ (y : Bool). cond y (cond (kept (allEnd s m)) 0 14) (i .reason)) (sym l))

@@ -103,7 +103,7 @@ pub fn closed_reason(t: Statement) -> u32
 }
 
 // An address of an mma that needs some columns.
-fn address_tested<'a>(
+pub fn address_tested<'a>(
     hi: &'a [u64; 16],
     lo: &'a [u64; 16],
     columns: &'a [u16; 16],
@@ -122,7 +122,7 @@ fn address_tested<'a>(
 }
 
 // The name of a shared memory descriptor.
-fn descriptor_tested<'a>(
+pub fn descriptor_tested<'a>(
     hi: &'a [u64; 128],
     lo: &'a [u64; 128],
     numbers: &'a [u64; 128],
@@ -141,7 +141,7 @@ fn descriptor_tested<'a>(
 }
 
 // Operand a.
-fn operand_tested<'a>(
+pub fn operand_tested<'a>(
     hi: &'a [u64; 16],
     lo: &'a [u64; 16],
     columns: &'a [u16; 16],
@@ -160,7 +160,7 @@ fn operand_tested<'a>(
 }
 
 // The metadata of a sparse a.
-fn metadata_tested<'a>(
+pub fn metadata_tested<'a>(
     hi: &'a [u64; 16],
     lo: &'a [u64; 16],
     columns: &'a [u16; 16],
@@ -178,7 +178,7 @@ fn metadata_tested<'a>(
     }
 }
 
-fn is_sparse(metadata: Metadata) -> bool
+pub fn is_sparse(metadata: Metadata) -> bool
     ensures { λ r. ⌜ r ≡ sparse metadata ⌝ }
 {
     match metadata {
@@ -188,7 +188,7 @@ fn is_sparse(metadata: Metadata) -> bool
 }
 
 // The low 32 bits.
-fn low(number: u64) -> u32
+pub fn low(number: u64) -> u32
     ensures { λ r. ⌜ r ≡ number % 2 ^ 32 ⌝ }
 {
     (number % 4294967296) as u32

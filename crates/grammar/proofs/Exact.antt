@@ -1,5 +1,5 @@
 -- A text reads as a statement exactly where it spells it: its opcode's word is recognised, and its row of operands is read to its end. Assumes nothing.
-use Prim.Native.Nat.{ℕ, _-_, _≤_}
+use Prim.Native.Nat.{ℕ, _-_, _≤_, _<_}
 use native.Mathlib.Omega.{arith}
 use mathlib.Core.Path.{_≡_, refl, sym, ap, _∙_, pathJ}
 use mathlib.Core.List.{List, [], _∷_, _++_}
@@ -20,9 +20,10 @@ use Rattle.statement.specs.declared.Found.the-variants.{Is, Nothing}
 use Rattle.statement.specs.declared.Reading.the-variants.{Got, NoForm, TooLarge}
 use Rattle.statement.specs.Forms.{word, Slot, name, number, inBrackets, address, operand, names, Value, Values, maxOffset, row, Whole, make}
 use Rattle.statement.specs.Opcodes.{recognise}
-use Rattle.statement.specs.Reading.{operandsC, start, wholeBy, opcodeLen, wholeC, answerOf, readOf, reasonOf, registersOf}
+use Rattle.statement.specs.Reading.{operandsC, start, wholeBy, opcodeLen, wholeC, answerOf, formOf, overlong, readOf, reasonOf, registersOf}
 use Rattle.grammar.specs.Spells.{RowText, Spells, sizedSlot, sizedRow, sized}
 use Rattle.grammar.specs.Claims.{Exact}
+use Rattle.statement.proofs.Readings.{read-long, overlong-three}
 use Rattle.statement.proofs.Words.{recognised, recognises, clean}
 use Rattle.statement.proofs.Each.{each-opcode}
 use Rattle.laws.proofs.BoolLaws.{never}
@@ -91,7 +92,7 @@ module _ (o : Opcode) (rest : List ℕ) (ends : runLen opcodeByte rest ≡ 0) wh
   opcode-found : recognise (take (opcodeLen (word o ++ rest)) (word o ++ rest)) ≡ Is o
   opcode-found = rw (opcode-len, take-append-seam (word o) rest) (recognised o)
 
-  opcode-rest : drop (opcodeLen (word o ++ rest)) (word o ++ rest) ≡ rest
+  pub opcode-rest : drop (opcodeLen (word o ++ rest)) (word o ++ rest) ≡ rest
   opcode-rest = rw opcode-len (drop-append-seam (word o) rest)
 
   pub whole-at : wholeC (word o ++ rest) ≡ operandsC o (start rest)
@@ -137,7 +138,7 @@ read-by text (Is o) e h =
     )
 read-by text Nothing e h = never h
 
-read-spells : (text : List ℕ) → wholeC text .next .ok ≡ true → (w : Whole) × Spells w text
+pub read-spells : (text : List ℕ) → wholeC text .next .ok ≡ true → (w : Whole) × Spells w text
 unfolding wholeC
 read-spells text h = read-by text (recognise (take (opcodeLen text) text)) refl h
 
@@ -164,15 +165,19 @@ over-four w text h =
     let m = spells-met w text (h .0) in
     rw (le-leb (length text) 4096 (h .2), m .next, h .1)
 
+-- no form goes on where reading stopped
+pub form-stopped : (text : List ℕ) → wholeC text .next .ok ≡ false → formOf text ≡ NoForm (length text - length (wholeC text .next .rest))
+unfolding answerOf
+form-stopped text e = rw e
+
 none-three : (text : List ℕ) → None text → reasonOf (readOf text) ≡ 3
-unfolding readOf answerOf
+unfolding readOf
 none-three text h = go (leb (length text) 4096) (wholeC text .next .ok) refl refl
   where
-    go : (b c : Bool) → leb (length text) 4096 ≡ b → wholeC text .next .ok ≡ c
-        → reasonOf (cond b (cond c (cond (wholeC text .next .over) (TooLarge (length text - length (wholeC text .next .far))) (Got (wholeC text .value .statement))) (NoForm (length text - length (wholeC text .next .rest)))) (NoForm 4096)) ≡ 3
+    go : (b c : Bool) → leb (length text) 4096 ≡ b → wholeC text .next .ok ≡ c → reasonOf (cond b (formOf text) (overlong (length text) (formOf text))) ≡ 3
     go true true p q = let s = read-spells text q in absurd (h (leb-true (length text) 4096 p) (s .0) (s .1))
-    go true false p q = refl
-    go false c p q = refl
+    go true false p q = ap reasonOf (form-stopped text q)
+    go false c p q = overlong-three (length text) (formOf text)
 
 -- every text has one of them
 data Verdict (text : List ℕ) : Type 0 where
@@ -247,6 +252,18 @@ one-reading text v w a b =
   where
     is-same : (c d : Opcode) → Is c ≡ Is d → c ≡ d
     is-same c d h = cc
+
+-- ---- over 4,096 bytes
+form-spelled : (text : List ℕ) (w : Whole) → Spells w text → overlong (length text) (formOf text) ≡ NoForm (length text)
+unfolding answerOf
+form-spelled text w s = let m = spells-met w text s in rw (m .next) (go (sized (w .statement)))
+  where
+    go : (b : Bool) → overlong (length text) (cond (not b) (TooLarge (length text - length (spells-met w text s .far))) (Got (wholeC text .value .statement))) ≡ NoForm (length text)
+    go true = refl
+    go false = refl
+
+pub long : (text : List ℕ) (w : Whole) → Spells w text → 4096 < length text → readOf text ≡ NoForm (length text)
+long text w s h = read-long text h ∙ form-spelled text w s
 
 pub exact : (text : List ℕ) → Exact text
 exact text =

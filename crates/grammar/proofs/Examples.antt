@@ -15,6 +15,7 @@ use Rattle.statement.specs.declared.Statement.{Statement}
 use Rattle.statement.specs.Forms.{word}
 use Rattle.statement.specs.Opcodes.{opcodes, recognise}
 use Rattle.statement.specs.Reading.{inBracketsC, offsetC, insideC, addressC, operandC, moreC, namesC, moreRowC, rowC, answerOf, operandsC, wholeC, readOf, registersOf}
+use Rattle.statement.specs.Positions.{afterComma, afterCommas, operandFrom, nameFrom, operandPlace, namePlace}
 use Rattle.statement.specs.Canonical.{addressText, operandText, moreNamesText, namesText, moreRowText, rowText, textOf, rowGiven, given}
 use Rattle.grammar.specs.Claims.{Reads}
 use Rattle.grammar.proofs.Trip.{trip}
@@ -50,4 +51,5 @@ statements-read = all-read (typed ++ (accesses ++ mmas)) refl refl
 pub examples : Examples
 unfolding readOf registersOf wholeC answerOf operandsC rowC moreRowC nameC numberC inBracketsC offsetC insideC addressC operandC moreC namesC endC markC recognise opcodes word opcodeByte wordByte letter afterBlanks blank tokenOf tokenLen afterToken isName sigil packed isNumber valueOf hexMark zeroLed someDigits isDigit digitOf
     lowBytes strip nameBytes lowDigits trimmed decimal addressText operandText moreNamesText namesText moreRowText rowText textOf
-examples = record { reasons = refl; statements = statements-read; stops = refl; canonicals-are = refl }
+    afterComma afterCommas operandFrom nameFrom operandPlace namePlace
+examples = record { reasons = refl; statements = statements-read; stops = refl; long = refl; operands = refl; canonicals-are = refl }

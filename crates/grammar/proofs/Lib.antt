@@ -10,5 +10,6 @@ pub mod Overs
 pub mod PlanTokens
 pub mod Places
 pub mod OnePlace
+pub mod Operands
 pub mod Theorems
 pub mod Examples

@@ -1,6 +1,6 @@
 -- The place of reason 3 is that of the first token at which no statement can go on, that of reason 4 the first at which none with its numbers in range
 -- can: an opcode's operands are read as a row of tokens is, and such a row stops there. Assumes nothing.
-use Prim.Native.Nat.{ℕ, _-_, _≤_}
+use Prim.Native.Nat.{ℕ, _-_}
 use native.Mathlib.Omega.{arith}
 use mathlib.Core.Path.{_≡_, refl, sym, ap, _∙_}
 use mathlib.Core.List.{List, _++_, append-assoc}
@@ -8,23 +8,25 @@ use mathlib.Core.Bool.{Bool, true, false, _&&_, true≢false, cond}
 use lib.ListN.{length, getD, take, drop, length-append, take-append-drop}
 use lib.Seq.{take-append-seam, drop-append-seam}
 use lib.Dec.{leb}
-use borrow.Author.Tests.{le-leb, not-false}
+use borrow.Author.Tests.{not-false}
 use Rattle.tokens.specs.Bytes.{letter, wordByte, opcodeByte, runLen, tokenOf}
 use Rattle.tokens.specs.Cursors.{Rest, Took}
 use Rattle.statement.specs.declared.Statement.{Statement}
 use Rattle.statement.specs.declared.Opcode.{Opcode}
 use Rattle.statement.specs.declared.Found.{Found}
 use Rattle.statement.specs.declared.Found.the-variants.{Is, Nothing}
+use Rattle.statement.specs.declared.Reading.{Reading}
 use Rattle.statement.specs.declared.Reading.the-variants.{Got, NoForm, TooLarge}
 use Rattle.statement.specs.Forms.{number, row, Whole, word, make}
 use Rattle.statement.specs.Opcodes.{recognise}
-use Rattle.statement.specs.Reading.{operandsC, start, opcodeLen, wholeBy, wholeC, answerOf, readOf}
+use Rattle.statement.specs.Reading.{operandsC, start, opcodeLen, wholeBy, wholeC, answerOf, formOf, overlong, readOf, reasonOf}
 use Rattle.grammar.specs.Spells.{Spells, sized}
 use Rattle.grammar.specs.Claims.{Stops, Place, Over}
+use Rattle.statement.proofs.Readings.{overlong-three}
 use Rattle.statement.proofs.Words.{recognised, recognises}
 use Rattle.grammar.proofs.Rows.{row-sound}
-use Rattle.grammar.proofs.Exact.{whole-at, Met, spells-met}
-use Rattle.laws.proofs.BoolLaws.{never}
+use Rattle.grammar.proofs.Exact.{whole-at, Met, spells-met, read-spells, form-stopped}
+use Rattle.laws.proofs.BoolLaws.{never, cond-same}
 use Rattle.grammar.proofs.Overs.{whole-far}
 use Rattle.grammar.proofs.Readers.{ends, rowPlan, row-runs}
 use Rattle.grammar.proofs.Stops.{Stand, bad, Row, reads, takes, Stop, stop, head-none, run-stops, same-head, heads, lights}
@@ -89,7 +91,7 @@ module _ (text front l : List ℕ) (parts : text ≡ front ++ l) where
   place-take : take (length text - length l) text ≡ front
   place-take = rw (place-is, parts) (take-append-seam front l)
 
-  place-drop : drop (length text - length l) text ≡ l
+  pub place-drop : drop (length text - length l) text ≡ l
   place-drop = rw (place-is, parts) (drop-append-seam front l)
 
 stops-at : (s : Bool) (text : List ℕ) (o : Opcode) (l : List ℕ) → take (opcodeLen text) text ≡ word o → Stop (tokenRow s o) (drop (opcodeLen text) text) l → Stops (fitsBy s) text (length text - length l) × (drop (length text - length l) text ≡ l)
@@ -122,17 +124,18 @@ later-place s text o l e k =
     stops-at s text o l e (stop (tokenRow s o) rest l (row-good s (row o)) b)
 
 -- ---- reason 3
-three-by : (b o : Bool) (k q p : ℕ) (t : Statement) → cond b (cond o (TooLarge k) (Got t)) (NoForm q) ≡ NoForm p → (b ≡ false) × (p ≡ q)
-three-by true true k q p t h = absurd (let z : _≡_ {A = ℕ} 0 1 = cc in omega arith)
-three-by true false k q p t h = absurd (let z : _≡_ {A = ℕ} 0 1 = cc in omega arith)
-three-by false o k q p t h = (refl, cc)
+-- reading stopped, as nothing is spelled
+unread : (text : List ℕ) → ((w : Whole) → Spells w text → ⊥) → wholeC text .next .ok ≡ false
+unread text none = go (wholeC text .next .ok) refl
+  where
+    go : (b : Bool) → wholeC text .next .ok ≡ b → b ≡ false
+    go true e = let s = read-spells text e in absurd (none (s .0) (s .1))
+    go false e = refl
 
--- reading stopped there
-stopped : (text : List ℕ) (p : ℕ) → length text ≤ 4096 → readOf text ≡ NoForm p → (wholeC text .next .ok ≡ false) × (p ≡ length text - length (wholeC text .next .rest))
-unfolding readOf answerOf
-stopped text p n h =
-    let r = wholeC text .next in
-    three-by (r .ok) (r .over) (length text - length (r .far)) (length text - length (r .rest)) p (wholeC text .value .statement) (rw (le-leb (length text) 4096 n) at h)
+-- and it stopped there, whether or not the text is too long
+stopped : (text : List ℕ) (p : ℕ) → wholeC text .next .ok ≡ false → readOf text ≡ NoForm p → p ≡ length text - length (wholeC text .next .rest)
+unfolding readOf
+stopped text p e h = let g : readOf text ≡ NoForm (length text - length (wholeC text .next .rest)) = rw (form-stopped text e) (cond-same (leb (length text) 4096) _) in let z = sym h ∙ g in cc
 
 no-opcode : (text : List ℕ) (found : Found) → recognise (take (opcodeLen text) text) ≡ found → ((o : Opcode) → take (opcodeLen text) text ≡ word o → ⊥) → wholeBy text (drop (opcodeLen text) text) found .next .rest ≡ text
 no-opcode text (Is o) e h = absurd (h o (recognises (take (opcodeLen text) text) o e))
@@ -142,27 +145,32 @@ first-place : (text : List ℕ) → ((o : Opcode) → take (opcodeLen text) text
 unfolding wholeC
 first-place text h = no-opcode text (recognise (take (opcodeLen text) text)) refl h
 
-pub places : (text : List ℕ) (p : ℕ) → length text ≤ 4096 → readOf text ≡ NoForm p → Place text p
-places text p n h =
+pub places : (text : List ℕ) (p : ℕ) → ((w : Whole) → Spells w text → ⊥) → readOf text ≡ NoForm p → Place text p
+places text p none h =
+    let n = unread text none in
     let z = stopped text p n h in
     let l = wholeC text .next .rest in
     record {
-      first = λ k. z .1 ∙ (rw (first-place text k) (omega arith));
-      later = λ o e. rw (z .1) (later-place false text o l e (ap (λ (c : Bool). record { rest = l; ok = c }) (z .0)) .0);
+      first = λ k. z ∙ (rw (first-place text k) (omega arith));
+      later = λ o e. rw z (later-place false text o l e (ap (λ (c : Bool). record { rest = l; ok = c }) n) .0);
     }
 
 -- ---- reason 4
-four-by : (a b o : Bool) (k q p : ℕ) (t : Statement) → cond a (cond b (cond o (TooLarge k) (Got t)) (NoForm q)) (NoForm 4096) ≡ TooLarge p → (b ≡ true) × (o ≡ true) × (p ≡ k)
-four-by true true true k q p t h = (refl, refl, cc)
-four-by true true false k q p t h = absurd (let z : _≡_ {A = ℕ} 0 1 = cc in omega arith)
-four-by true false o k q p t h = absurd (let z : _≡_ {A = ℕ} 0 1 = cc in omega arith)
-four-by false b o k q p t h = absurd (let z : _≡_ {A = ℕ} 0 1 = cc in omega arith)
+four-by : (b o : Bool) (k q p : ℕ) (t : Statement) → cond b (cond o (TooLarge k) (Got t)) (NoForm q) ≡ TooLarge p → (b ≡ true) × (o ≡ true) × (p ≡ k)
+four-by true true k q p t h = (refl, refl, cc)
+four-by true false k q p t h = absurd (let z : _≡_ {A = ℕ} 0 1 = cc in omega arith)
+four-by false o k q p t h = absurd (let z : _≡_ {A = ℕ} 0 1 = cc in omega arith)
+
+-- it is given by the form alone
+four-form : (a : Bool) (n p : ℕ) (r : Reading) → cond a r (overlong n r) ≡ TooLarge p → r ≡ TooLarge p
+four-form true n p r h = h
+four-form false n p r h = absurd (let z : _≡_ {A = ℕ} 3 4 = sym (overlong-three n r) ∙ ap reasonOf h in omega arith)
 
 over-at : (text : List ℕ) (p : ℕ) → readOf text ≡ TooLarge p → (wholeC text .next .ok ≡ true) × (wholeC text .next .over ≡ true) × (p ≡ length text - length (wholeC text .next .far))
 unfolding readOf answerOf
 over-at text p h =
     let r = wholeC text .next in
-    four-by (leb (length text) 4096) (r .ok) (r .over) (length text - length (r .far)) (length text - length (r .rest)) p (wholeC text .value .statement) h
+    four-by (r .ok) (r .over) (length text - length (r .far)) (length text - length (r .rest)) p (wholeC text .value .statement) (four-form (leb (length text) 4096) (length text) p (formOf text) h)
 
 some-opcode : (text : List ℕ) (found : Found) → recognise (take (opcodeLen text) text) ≡ found → wholeBy text (drop (opcodeLen text) text) found .next .ok ≡ true → (o : Opcode) × (take (opcodeLen text) text ≡ word o)
 some-opcode text (Is o) e h = (o, recognises (take (opcodeLen text) text) o e)

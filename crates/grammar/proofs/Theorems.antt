@@ -10,13 +10,13 @@ use Rattle.statement.specs.declared.Num.the-variants.{X1, X2, X4, X8, X16, X32,
 use Rattle.tokens.specs.Text.{bytes}
 use Rattle.statement.specs.Forms.{numText}
 use Rattle.statement.specs.Cells.{times}
-use Rattle.statement.proofs.Readings.{read-long}
 use Rattle.grammar.specs.Claims.{Theorems}
 use Rattle.grammar.proofs.Back.{name-back}
-use Rattle.grammar.proofs.Exact.{exact}
+use Rattle.grammar.proofs.Exact.{exact, long}
 use Rattle.grammar.proofs.Trip.{trip, writable, canonical}
 use Rattle.grammar.proofs.Places.{places, overs}
 use Rattle.grammar.proofs.OnePlace.{ones}
+use Rattle.grammar.proofs.Operands.{operands}
 
 names : (v w : List ℕ) → isName v ≡ true → isName w ≡ true → packed v ≡ packed w → v ≡ w
 names v w p q e = sym (name-back v p) ∙ ap nameBytes e ∙ name-back w q
@@ -33,4 +33,4 @@ nums X64 = refl
 nums X128 = refl
 
 pub theorems : Theorems
-theorems = record { exact = exact; trip = trip; writable = writable; canonical = canonical; three = places; long = read-long; four = overs; one = ones; names = names; nums = nums }
+theorems = record { exact = exact; trip = trip; writable = writable; canonical = canonical; three = places; long = long; four = overs; one = ones; operands = operands; names = names; nums = nums }

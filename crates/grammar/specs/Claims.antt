@@ -18,6 +18,7 @@ use Rattle.statement.specs.Forms.{numText, word, Whole}
 use Rattle.statement.specs.Cells.{times}
 use Rattle.statement.specs.Reading.{opcodeLen, readOf, reasonOf, registersOf}
 use Rattle.grammar.specs.Spells.{Spells, sized}
+use Rattle.grammar.specs.Operands.{OperandsPlaced}
 use Rattle.statement.specs.Canonical.{textOf, given}
 
 -- ---- reading is exact
@@ -82,7 +83,7 @@ pub record Stops (fits : Statement → Bool) (text : List ℕ) (place : ℕ) : T
 abbrev pub any : Statement → Bool
 any t = true
 
--- of a text of at most 4,096 bytes that reason 3 is given for
+-- of a text that spells no statement
 pub record Place (text : List ℕ) (place : ℕ) : Type 0 where
   -- Where its first word is no opcode's, the place is 0,
   pub first : ((o : Opcode) → take (opcodeLen text) text ≡ word o → ⊥) → place ≡ 0
@@ -106,11 +107,14 @@ pub record Theorems : Type 0 where
   pub trip : (t : Statement) (regs : List Name) → given t regs ≡ true → Trip t regs
   pub writable : (t : Statement) (regs : List Name) → Writable t regs
   pub canonical : (text : List ℕ) (t : Statement) → readOf text ≡ Got t → Canonical text t
-  pub three : (text : List ℕ) (place : ℕ) → length text ≤ 4096 → readOf text ≡ NoForm place → Place text place
-  -- Over 4,096 bytes no form matches, and the place is 4,096.
-  pub long : (text : List ℕ) → 4096 < length text → readOf text ≡ NoForm 4096
+  -- The place of reason 3 in a text of any length that spells no statement,
+  pub three : (text : List ℕ) (place : ℕ) → ((w : Whole) → Spells w text → ⊥) → readOf text ≡ NoForm place → Place text place
+  -- and in one that spells one in over 4,096 bytes: its end.
+  pub long : (text : List ℕ) (w : Whole) → Spells w text → 4096 < length text → readOf text ≡ NoForm (length text)
   pub four : (text : List ℕ) (place : ℕ) → readOf text ≡ TooLarge place → Over text place
   pub one : (fits : Statement → Bool) (text : List ℕ) → One fits text
+  -- The places of operands and of their names, which columns are counted from, are those of the spelling, wherever spaces stand.
+  pub operands : (text : List ℕ) → OperandsPlaced text
   -- Names that are held as equal numbers have the same bytes: so two statements are equal exactly when forms, numbers and the bytes of names are.
   pub names : (v w : List ℕ) → isName v ≡ true → isName w ≡ true → packed v ≡ packed w → v ≡ w
   -- NUM is spelled as `.x` and the decimal of the N that it stands for.

@@ -1,9 +1,10 @@
--- Worked examples, as tables: texts with their reasons, with the typed statements that they read as, with places, and with canonical texts.
--- Assumes nothing.
+-- Worked examples, as tables: texts with their reasons, with the typed statements that they read as, with places, with those of their operands, and with
+-- canonical texts. Assumes nothing.
 use Prim.Native.Nat.{ℕ}
 use Prim.Native.String.{String}
-use mathlib.Core.List.{List, [], _∷_, _++_}
+use mathlib.Core.List.{List, [], _∷_, _++_, map}
 use mathlib.Core.Bool.{Bool, true, false}
+use lib.ListN.{drop}
 use Rattle.laws.specs.Worked.{Gives}
 use Rattle.instruction.specs.declared.Kind.{Kind}
 use Rattle.instruction.specs.declared.Kind.the-variants.{F16, Tf32, F8f6f4, I8}
@@ -24,7 +25,9 @@ use Rattle.statement.specs.declared.Reading.{Reading}
 use Rattle.statement.specs.declared.Reading.the-variants.{Got, NoForm, TooLarge}
 use Rattle.tokens.specs.Text.{bytes}
 use Rattle.statement.specs.Reading.{readOf, reasonOf, registersOf}
+use Rattle.statement.specs.Positions.{operandPlace, namePlace}
 use Rattle.statement.specs.Canonical.{textOf}
+use Rattle.grammar.specs.Spells.{spaces}
 use Rattle.grammar.specs.Claims.{Reads}
 
 -- the reason of a text, 0 if it reads
@@ -223,6 +226,48 @@ places =
     ("tcgen05.ld.sync.aligned.32x32b.x128.b32 {r,r,r,r,r,r,r,r,r,r,r,r,r,r,r,r,r,r,r,r,r,r,r,r,r,r,r,r,r,r,r,r,r,r,r,r,r,r,r,r,r,r,r,r,r,r,r,r,r,r,r,r,r,r,r,r,r,r,r,r,r,r,r,r,r,r,r,r,r,r,r,r,r,r,r,r,r,r,r,r,r,r,r,r,r,r,r,r,r,r,r,r,r,r,r,r,r,r,r,r,r,r,r,r,r,r,r,r,r,r,r,r,r,r,r,r,r,r,r,r,r,r,r,r,r,r,r,r,r}, [t];", NoForm 296) ∷
     []
 
+-- In a text of over 4,096 bytes it is that of the token too, or, where there is none, the end. Four texts with n spaces in them.
+abbrev pub spaced : ℕ → List (List ℕ)
+spaced n =
+    (bytes "exit" ++ (spaces n ++ bytes ";")) ∷
+    (bytes "exit" ++ (spaces n ++ bytes "x;")) ∷
+    (bytes "mov.b32 x y" ++ (spaces n ++ bytes ";")) ∷
+    (bytes "mov.b32 x, 4294967296" ++ (spaces n ++ bytes ";")) ∷
+    []
+
+abbrev pub lengths : List (ℕ × List Reading)
+lengths =
+    (4074, Got Exit ∷ NoForm 4078 ∷ NoForm 10 ∷ TooLarge 11 ∷ []) ∷
+    (4075, Got Exit ∷ NoForm 4079 ∷ NoForm 10 ∷ NoForm 4097 ∷ []) ∷
+    (4091, Got Exit ∷ NoForm 4095 ∷ NoForm 10 ∷ NoForm 4113 ∷ []) ∷
+    (4092, NoForm 4097 ∷ NoForm 4096 ∷ NoForm 10 ∷ NoForm 4114 ∷ []) ∷
+    []
+
+-- The place of an operand, and of its name, each with what stands from there on. Only the commas outside of braces part operands.
+abbrev pub placesOf : String × ℕ → ℕ × List ℕ × ℕ × List ℕ
+placesOf (text, i) = (operandPlace (bytes text) i, drop (operandPlace (bytes text) i) (bytes text), namePlace (bytes text) i, drop (namePlace (bytes text) i) (bytes text))
+
+abbrev pub operandPlaces : List ((String × ℕ) × (ℕ × List ℕ × ℕ × List ℕ))
+operandPlaces =
+    (("mov.b32%x,1;", 0), (7, bytes "%x,1;", 7, bytes "%x,1;")) ∷
+    (("mov.b64   %r1 ,  0xFF ;", 0), (10, bytes "%r1 ,  0xFF ;", 10, bytes "%r1 ,  0xFF ;")) ∷
+    (("mov.b64   %r1 ,  0xFF ;", 1), (17, bytes "0xFF ;", 17, bytes "0xFF ;")) ∷
+    (("tcgen05.alloc.cta_group::1.sync.aligned.b32[  t ] ,32;", 0), (43, bytes "[  t ] ,32;", 46, bytes "t ] ,32;")) ∷
+    (("tcgen05.alloc.cta_group::1.sync.aligned.b32[  t ] ,32;", 1), (51, bytes "32;", 51, bytes "32;")) ∷
+    (("tcgen05.ld.sync.aligned.32x32b.x2.b32 {r0 , r1} , [ t + 3 ] ;", 0), (38, bytes "{r0 , r1} , [ t + 3 ] ;", 38, bytes "{r0 , r1} , [ t + 3 ] ;")) ∷
+    (("tcgen05.ld.sync.aligned.32x32b.x2.b32 {r0 , r1} , [ t + 3 ] ;", 1), (50, bytes "[ t + 3 ] ;", 52, bytes "t + 3 ] ;")) ∷
+    (("tcgen05.st.sync.aligned.32x32b.x2.b32  [t+3],{ r0,r1 };", 0), (39, bytes "[t+3],{ r0,r1 };", 40, bytes "t+3],{ r0,r1 };")) ∷
+    (("tcgen05.st.sync.aligned.32x32b.x2.b32  [t+3],{ r0,r1 };", 1), (45, bytes "{ r0,r1 };", 45, bytes "{ r0,r1 };")) ∷
+    (("tcgen05.mma.sp.cta_group::1.kind::i8 [ d+1 ] ,a ,  b,[m + 3 ],i , p;", 0), (37, bytes "[ d+1 ] ,a ,  b,[m + 3 ],i , p;", 39, bytes "d+1 ] ,a ,  b,[m + 3 ],i , p;")) ∷
+    (("tcgen05.mma.sp.cta_group::1.kind::i8 [ d+1 ] ,a ,  b,[m + 3 ],i , p;", 1), (46, bytes "a ,  b,[m + 3 ],i , p;", 46, bytes "a ,  b,[m + 3 ],i , p;")) ∷
+    (("tcgen05.mma.sp.cta_group::1.kind::i8 [ d+1 ] ,a ,  b,[m + 3 ],i , p;", 2), (51, bytes "b,[m + 3 ],i , p;", 51, bytes "b,[m + 3 ],i , p;")) ∷
+    (("tcgen05.mma.sp.cta_group::1.kind::i8 [ d+1 ] ,a ,  b,[m + 3 ],i , p;", 3), (53, bytes "[m + 3 ],i , p;", 54, bytes "m + 3 ],i , p;")) ∷
+    (("tcgen05.mma.sp.cta_group::1.kind::i8 [ d+1 ] ,a ,  b,[m + 3 ],i , p;", 4), (62, bytes "i , p;", 62, bytes "i , p;")) ∷
+    (("tcgen05.mma.sp.cta_group::1.kind::i8 [ d+1 ] ,a ,  b,[m + 3 ],i , p;", 5), (66, bytes "p;", 66, bytes "p;")) ∷
+    (("tcgen05.mma.ws.cta_group::1.kind::f16[d],[ a+2 ], b,i,p ;", 1), (41, bytes "[ a+2 ], b,i,p ;", 43, bytes "a+2 ], b,i,p ;")) ∷
+    (("tcgen05.mma.ws.cta_group::1.kind::f16[d],[ a+2 ], b,i,p ;", 4), (54, bytes "p ;", 54, bytes "p ;")) ∷
+    []
+
 -- One space after the opcode and after each comma, decimals, no +0, no .shared::cta.
 abbrev pub canonicals : List (String × List ℕ)
 canonicals =
@@ -239,4 +284,6 @@ pub record Examples : Type 0 where
   pub reasons : Gives reasonFor (spacing ++ (words ++ (numbers ++ forms)))
   pub statements : AllRead (typed ++ (accesses ++ mmas))
   pub stops : Gives reading places
+  pub long : Gives (λ n. map readOf (spaced n)) lengths
+  pub operands : Gives placesOf operandPlaces
   pub canonicals-are : Gives canonical canonicals

@@ -1,3 +1,4 @@
 pub mod Spells
+pub mod Operands
 pub mod Claims
 pub mod Examples

@@ -5,32 +5,30 @@ use mathlib.Core.Bool.{Bool, true, false, cond}
 use mathlib.Core.List.{List, [], _∷_}
 use mathlib.Core.Option.{Option, none, some}
 use native.Mathlib.Omega.{arith}
-use lib.Dec.{ltb, eqb}
+use lib.Dec.{ltb}
 use lib.ListN.{length, length-append}
 use borrow.Author.Tests.{ltb-true}
 use Rattle.laws.specs.Tests.{isSome}
-use Rattle.laws.proofs.BoolLaws.{and-r}
 use Rattle.laws.proofs.TestLaws.{bit-le}
 use Rattle.request.specs.Request.{legal}
 use Rattle.request.proofs.RequestLaws.{request-exact}
-use Rattle.statement.specs.Views.{Ask, requestIn, requestOf, releaseOf, for, holds, of}
-use Rattle.rules.specs.State.{State, slot, lowest, columnsOf}
-use Rattle.rules.specs.Reasons.{sized}
+use Rattle.statement.specs.Views.{Ask, requestIn, requestOf, of}
+use Rattle.rules.specs.State.{State, slot, lowest}
 use Rattle.rules.specs.Sheet.{Line, actIn, lineRules, startList, given, requested, sum, heldAfter, ours, stateAfter, startsBy, startsUpTo, rulesBy}
 use Rattle.rules.specs.Claims.{AllKept}
-use Rattle.rules.proofs.RuleLaws.{accepted-line}
+use Rattle.rules.proofs.RuleLaws.{accepted-line, request-kept}
 use Rattle.rules.proofs.StateLaws.{one-start}
 
 -- ---- what is asked for
-asked-by : (s : State) (o p : Option Ask) → holds (for o (λ r. legal (r .columns)) ∷ for p (λ r. eqb (columnsOf (r .name) (s .live)) (r .columns)) ∷ []) ≡ true → of o (λ r. r .columns) 0 ≤ 512
-asked-by s none p e = omega arith
-asked-by s (some r) p e =
-    request-exact (r .columns) .power (and-r (holds (for p (λ r. eqb (columnsOf (r .name) (s .live)) (r .columns)) ∷ [])) (legal (r .columns)) e) .most
+asked-by : (o : Option Ask) → ((r : Ask) → o ≡ some r → legal (r .columns) ≡ true) → of o (λ r. r .columns) 0 ≤ 512
+asked-by none h = omega arith
+asked-by (some r) h = request-exact (r .columns) .power (h r refl) .most
 
 -- an accepted line asks for at most 512 columns
 pub asked-most : (s : State) (held : ℕ) (x : Line) → AllKept (lineRules lowest s held x) → requested x ≤ 512
-unfolding requested sized
-asked-most s held x h = accepted-line lowest s held x h (λ x. requested x ≤ 512) (λ w t p a. asked-by s (requestOf t) (releaseOf t) (a .sizes))
+unfolding requested
+asked-most s held x h =
+    accepted-line lowest s held x h (λ x. requested x ≤ 512) (λ w t p a. asked-by (requestOf t) (λ r e. request-kept lowest s held w t a r e .0))
 
 -- k accepted lines hold at most 512 columns for each
 sum-most : (line : ℕ → Line) (k : ℕ) → ((j : ℕ) → j < k → AllKept (rulesBy ours line j)) → sum requested line k ≤ 512 * k

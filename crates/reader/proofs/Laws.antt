@@ -30,8 +30,9 @@ use Rattle.statement.specs.declared.Reading.{Reading}
 use Rattle.statement.specs.declared.Reading.the-variants.{Got, NoForm}
 use Rattle.statement.specs.Forms.{name, number, Values, Whole, plain}
 use Rattle.statement.specs.Opcodes.{recognise}
-use Rattle.statement.specs.Reading.{addressC, operandC, moreC, tally, his, los, answerOf, moreRowC, rowC, operandsC, start, opcodeLen, wholeBy, wholeC, readOf, fine, registersOf, told}
-use Rattle.statement.proofs.Readings.{Unread}
+use Rattle.statement.specs.Reading.{addressC, operandC, moreC, tally, his, los, answerOf, moreRowC, rowC, operandsC, start, opcodeLen, wholeBy, wholeC, overlong, readOf, fine, registersOf, told}
+use Rattle.laws.proofs.BoolLaws.{cond-same}
+use Rattle.statement.proofs.Readings.{Unread, read-short, read-long}
 use Rattle.opcode.specs.declared.Head.{Head}
 use Rattle.opcode.specs.Heads.{headSeen, headBy, headOf}
 use Rattle.statement.proofs.Opcode.{enum, the-type}
@@ -140,13 +141,15 @@ module _ (s : List ℕ) (h : Head) (is : headSeen s h ≡ headOf s) where
   whole-none e = head-whole s ∙ rw (← is, e)
 
 -- ---- the answer
-pub read-none : (s : List ℕ) → length s ≤ 4096 → wholeC s ≡ record { value = plain Exit; next = off (start s) s } → NoForm 0 ≡ readOf s
+pub read-none : (s : List ℕ) → wholeC s ≡ record { value = plain Exit; next = off (start s) s } → NoForm 0 ≡ readOf s
 unfolding readOf answerOf
-read-none s h w = rw (le-leb (length s) 4096 h, w, sub-self (length s))
+read-none s w = rw (w, sub-self (length s)) (sym (cond-same (leb (length s) 4096) (NoForm 0)))
 
 pub read-told : (s : List ℕ) (t : Took Whole) → length s ≤ 4096 → wholeC s ≡ t → told s t ≡ readOf s
-unfolding readOf
-read-told s t h w = rw (le-leb (length s) 4096 h, w)
+read-told s t h w = sym (read-short s h ∙ ap (told s) w)
+
+pub read-refused : (s : List ℕ) (t : Took Whole) → 4096 < length s → wholeC s ≡ t → overlong (length s) (told s t) ≡ readOf s
+read-refused s t h w = sym (read-long s h ∙ ap (λ (u : Took Whole). overlong (length s) (told s u)) w)
 
 fine-by : (text : List ℕ) (r : Rest) (t u : Statement) (ok over : Bool) → r .ok ≡ ok → r .over ≡ over → answerOf text r t ≡ Got u → fine r ≡ true
 unfolding answerOf

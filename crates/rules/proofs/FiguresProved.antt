@@ -9,6 +9,7 @@ use lib.Dec.{leb, ltb}
 use lib.ListN.{length}
 use borrow.Author.Tests.{ltb-true, ltb-false, leb-true, leb-false}
 use Rattle.statement.specs.Views.{actOf}
+use Rattle.statement.specs.declared.Position.the-variants.{Start}
 use Rattle.rules.specs.declared.Answer.{Answer}
 use Rattle.rules.specs.State.{State, Placer, total}
 use Rattle.rules.specs.Sheet.{Line, Sheet, Placing, lineRules, lineEffect, effect, stateBy, startsBy, reasonBy, stopBy, sum, heldAfter, peakUpTo, answer, answerBy}
@@ -100,7 +101,7 @@ module _ (placing : Placing) (sheet : Sheet) (room : ℕ) where
       at : (stateBy placing lines size .exited ≡ true) ⊎ (stateBy placing lines size .exited ≡ false)
           → (ltb room (length (startsBy placing lines size)) ≡ true) ⊎ (ltb room (length (startsBy placing lines size)) ≡ false) → Stands size
       at (inl e) (inl f) =
-          let g : given ≡ answer 16 (size + 1) 0 (peakUpTo lines size) = at-end placing sheet room h q ∙ rw (e, f) in
+          let g : given ≡ answer 16 (size + 1) (sheet .column size Start) 0 (peakUpTo lines size) = at-end placing sheet room h q ∙ rw (e, f) in
           record {
             few = omega (arith, q);
             held = ap (λ (a : Answer). a .held) g ∙ sym (clear-nothing (clear e));
@@ -108,7 +109,7 @@ module _ (placing : Placing) (sheet : Sheet) (room : ℕ) where
             roomy = λ z. absurd (omega (arith, z, ap (λ (a : Answer). a .reason) g));
           }
       at (inl e) (inr f) =
-          let g : given ≡ answer 0 (size + 1) 0 (peakUpTo lines size) = at-end placing sheet room h q ∙ rw (e, f) in
+          let g : given ≡ answer 0 (size + 1) 0 0 (peakUpTo lines size) = at-end placing sheet room h q ∙ rw (e, f) in
           record {
             few = omega (arith, q);
             held = ap (λ (a : Answer). a .held) g ∙ sym (clear-nothing (clear e));
@@ -116,7 +117,7 @@ module _ (placing : Placing) (sheet : Sheet) (room : ℕ) where
             roomy = λ z. ltb-false room (length (startsBy placing lines size)) f;
           }
       at (inr e) f =
-          let g : given ≡ answer 15 (size + 1) (heldAfter lines size) (peakUpTo lines size) = at-end placing sheet room h q ∙ rw e in
+          let g : given ≡ answer 15 (size + 1) (sheet .column size Start) (heldAfter lines size) (peakUpTo lines size) = at-end placing sheet room h q ∙ rw e in
           record {
             few = omega (arith, q);
             held = ap (λ (a : Answer). a .held) g ∙ live-held size size (omega (arith, q)) (omega arith);

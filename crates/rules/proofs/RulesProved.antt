@@ -3,23 +3,26 @@
 use Prim.Native.Nat.{ℕ, zero, suc, _+_, _≤_, _<_}
 use mathlib.Core.Path.{_≡_, refl, sym, ap, _∙_, subst}
 use mathlib.Core.Bool.{Bool, true, false, not, _||_, cond}
-use mathlib.Core.List.{[], _∷_}
+use mathlib.Core.List.{List, [], _∷_, _++_}
 use mathlib.Core.Logic.{_⊎_, inl, inr}
 use native.Mathlib.Omega.{arith}
 use lib.Dec.{leb, ltb, eqb}
 use lib.ListN.{length}
 use borrow.Author.Tests.{not-true, not-false, eqb-true, eqb-false, ltb-true, ltb-false, leb-true, leb-false, lt-ltb, le-ltb, eq-eqb, ne-eqb}
 use Rattle.laws.specs.Rules.{rule, firstBroken}
+use Rattle.statement.specs.declared.Position.{Position}
+use Rattle.statement.specs.declared.Position.the-variants.{Start}
 use Rattle.statement.specs.Views.{Act, exitIn}
+use Rattle.rules.specs.Rows.{atStart, whole, Row, row, rulesOf, firstPosition}
 use Rattle.rules.specs.Counting.{least}
 use Rattle.rules.specs.State.{State, Placer}
-use Rattle.rules.specs.Sheet.{Line, turnOf, actIn, Sheet, Placing, lineRules, lineEffect, effect, stateBy, startsBy, rulesBy, reasonBy, stopBy, heldAfter, peakUpTo, answer, closing, answerAt, answerBy}
-use Rattle.rules.specs.Claims.{AllKept, exits, Passing, Passed, endRules, ownRules, rulesAt, Refused, RulesExact}
+use Rattle.rules.specs.Sheet.{Line, turnOf, actIn, Sheet, Placing, lineRules, lineEffect, effect, stateBy, startsBy, rulesBy, reasonBy, positionBy, stopBy, heldAfter, peakUpTo, answer, closing, answerAt, answerBy}
+use Rattle.rules.specs.Claims.{AllKept, exits, Passing, Passed, endRows, ownRows, rowsAt, rulesAt, Refused, RulesExact}
 use Rattle.rules.specs.declared.Answer.{Answer}
 use Rattle.laws.proofs.BoolLaws.{bool, clash}
 use Rattle.statement.proofs.Each.{each-act}
 use Rattle.rules.proofs.CountingLaws.{least-le, least-hit, least-below}
-use Rattle.rules.proofs.RuleLaws.{lacks, accepted-line, kept-none, none-kept, never, first-is, is-first, lacks-both, in-turn-kept, in-turn-broken, line-numbered}
+use Rattle.rules.proofs.RuleLaws.{lacks, accepted-line, kept-none, none-kept, never, first-is, is-first, rules-both, position-kept, position-broken, lacks-both, in-turn-kept, in-turn-broken, line-numbered}
 
 -- ---- lines and exit
 -- an act ends the sheet, or leaves it as it was
@@ -157,18 +160,22 @@ module _ (placing : Placing) (sheet : Sheet) (room : ℕ) where
   abbrev starts : ℕ
   starts = length (startsBy placing lines size)
 
+  -- the column of the last line's start
+  abbrev first-byte : ℕ
+  first-byte = sheet .column size Start
+
   abbrev closes : Bool → Bool → Answer
-  closes exited full = cond exited (cond full (answer 16 (size + 1) 0 (peakUpTo lines size)) (answer 0 (size + 1) 0 (peakUpTo lines size))) (answer 15 (size + 1) (heldAfter lines size) (peakUpTo lines size))
+  closes exited full = cond exited (cond full (answer 16 (size + 1) first-byte 0 (peakUpTo lines size)) (answer 0 (size + 1) 0 0 (peakUpTo lines size))) (answer 15 (size + 1) first-byte (heldAfter lines size) (peakUpTo lines size))
 
-  pub bad-header : sheet .header ≡ false → given ≡ answer 2 1 0 0
+  pub bad-header : sheet .header ≡ false → given ≡ answer 2 1 (sheet .column 0 Start) 0 0
   unfolding answerBy
-  bad-header e = ap (λ h. cond h (answerAt placing lines size room stop) (answer 2 1 0 0)) e
+  bad-header e = ap (λ h. cond h (answerAt placing sheet room stop) (answer 2 1 (sheet .column 0 Start) 0 0)) e
 
-  good-header : sheet .header ≡ true → given ≡ answerAt placing lines size room stop
+  good-header : sheet .header ≡ true → given ≡ answerAt placing sheet room stop
   unfolding answerBy
-  good-header e = ap (λ h. cond h (answerAt placing lines size room stop) (answer 2 1 0 0)) e
+  good-header e = ap (λ h. cond h (answerAt placing sheet room stop) (answer 2 1 (sheet .column 0 Start) 0 0)) e
 
-  pub at-stop : sheet .header ≡ true → stop < size → given ≡ answer (reasonBy placing lines stop) (stop + 2) (heldAfter lines stop) (peakUpTo lines stop)
+  pub at-stop : sheet .header ≡ true → stop < size → given ≡ answer (reasonBy placing lines stop) (stop + 2) (sheet .column (suc stop) (positionBy placing lines stop)) (heldAfter lines stop) (peakUpTo lines stop)
   unfolding answerAt
   at-stop e h = good-header e ∙ rw (lt-ltb stop size h)
 
@@ -222,30 +229,47 @@ module _ (placing : Placing) (sheet : Sheet) (room : ℕ) where
   abbrev first : ℕ → ℕ
   first l = firstBroken (rulesAt placing sheet room l)
 
-  own-above : (l : ℕ) → lacks 0 (ownRules placing sheet room l) ≡ true
+  abbrev ownFirst : ℕ → ℕ
+  ownFirst l = firstBroken (rulesOf (ownRows placing sheet room l))
+
+  -- where it is broken
+  abbrev where′ : ℕ → Position
+  where′ l = firstPosition (rowsAt placing sheet room l)
+
+  abbrev last-rows : ℕ → List Row
+  last-rows l = cond (eqb l size) (endRows placing sheet room) []
+
+  both : (l : ℕ) → rulesAt placing sheet room l ≡ rulesOf (ownRows placing sheet room l) ++ rulesOf (last-rows l)
+  both l = rules-both (ownRows placing sheet room l) (last-rows l)
+
+  own-above : (l : ℕ) → lacks 0 (rulesOf (ownRows placing sheet room l)) ≡ true
   own-above zero = refl
   own-above (suc k) = line-numbered (placing k) (stateBy placing lines k) (heldAfter lines k) (lines k) .0
 
-  own-zero : (l : ℕ) → sheet .header ≡ true → ((k : ℕ) → k < l → reasonBy placing lines k ≡ 0) → firstBroken (ownRules placing sheet room l) ≡ 0
+  own-zero : (l : ℕ) → sheet .header ≡ true → ((k : ℕ) → k < l → reasonBy placing lines k ≡ 0) → ownFirst l ≡ 0
   unfolding reasonBy
   own-zero zero h z = ap (λ b. cond b 0 2) h
   own-zero (suc k) h z = z k (omega arith)
 
-  own-same : reasonBy placing lines stop ≡ firstBroken (ownRules placing sheet room (suc stop))
+  where-same : positionBy placing lines stop ≡ firstPosition (ownRows placing sheet room (suc stop))
+  unfolding positionBy
+  where-same = refl
+
+  own-same : reasonBy placing lines stop ≡ ownFirst (suc stop)
   unfolding reasonBy
   own-same = refl
 
-  first-own : (l : ℕ) → 0 < firstBroken (ownRules placing sheet room l) → first l ≡ firstBroken (ownRules placing sheet room l)
-  first-own l h = in-turn-broken (ownRules placing sheet room l) (cond (eqb l size) (endRules placing sheet room) []) (own-above l) h
+  first-own : (l : ℕ) → 0 < ownFirst l → first l ≡ ownFirst l
+  first-own l h = ap firstBroken (both l) ∙ in-turn-broken (rulesOf (ownRows placing sheet room l)) (rulesOf (last-rows l)) (own-above l) h
 
-  first-then : (l : ℕ) → firstBroken (ownRules placing sheet room l) ≡ 0 → first l ≡ firstBroken (cond (eqb l size) (endRules placing sheet room) [])
-  first-then l h = in-turn-kept (ownRules placing sheet room l) (cond (eqb l size) (endRules placing sheet room) []) (own-above l) h
+  first-then : (l : ℕ) → ownFirst l ≡ 0 → first l ≡ firstBroken (rulesOf (last-rows l))
+  first-then l h = ap firstBroken (both l) ∙ in-turn-kept (rulesOf (ownRows placing sheet room l)) (rulesOf (last-rows l)) (own-above l) h
 
-  first-middle : (l : ℕ) → l < size → firstBroken (ownRules placing sheet room l) ≡ 0 → first l ≡ 0
-  first-middle l p h = first-then l h ∙ ap (λ b. firstBroken (cond b (endRules placing sheet room) [])) (ne-eqb l size (omega (arith, p)))
+  first-middle : (l : ℕ) → l < size → ownFirst l ≡ 0 → first l ≡ 0
+  first-middle l p h = first-then l h ∙ ap (λ b. firstBroken (rulesOf (cond b (endRows placing sheet room) []))) (ne-eqb l size (omega (arith, p)))
 
-  first-end : firstBroken (ownRules placing sheet room size) ≡ 0 → first size ≡ firstBroken (endRules placing sheet room)
-  first-end h = first-then size h ∙ ap (λ b. firstBroken (cond b (endRules placing sheet room) [])) (eq-eqb size size refl)
+  first-end : ownFirst size ≡ 0 → first size ≡ firstBroken (rulesOf (endRows placing sheet room))
+  first-end h = first-then size h ∙ ap (λ b. firstBroken (rulesOf (cond b (endRows placing sheet room) []))) (eq-eqb size size refl)
 
   -- the sheet is refused under l, or nowhere
   record Stops : Type 0 where
@@ -255,11 +279,13 @@ module _ (placing : Placing) (sheet : Sheet) (room : ℕ) where
     here : given .reason ≡ first l
     broken : 0 < first l
     line : given .line ≡ suc l
+    column : given .column ≡ sheet .column l (where′ l)
 
   record Goes : Type 0 where
     none : (l : ℕ) → l ≤ size → first l ≡ 0
     reason : given .reason ≡ 0
     line : given .line ≡ suc size
+    column : given .column ≡ 0
 
   full-leb : (n : ℕ) → ltb room n ≡ not (leb n room)
   full-leb n = by (bool (leb n room))
@@ -274,20 +300,41 @@ module _ (placing : Placing) (sheet : Sheet) (room : ℕ) where
   closes-first true false = (refl, omega arith)
   closes-first false fits = (refl, omega arith)
 
+  -- its column is 0 on a pass, else that of the line's start, where each of them points
+  closes-column : (exited fits : Bool) → closes exited (not fits) .column ≡ cond (eqb (closes exited (not fits) .reason) 0) 0 first-byte
+  closes-column true true = refl
+  closes-column true false = refl
+  closes-column false fits = refl
+
+  end-where : (exited fits : Bool) → firstPosition (row 15 atStart (whole exited) ∷ row 16 atStart (whole fits) ∷ []) ≡ Start
+  end-where true true = refl
+  end-where true false = refl
+  end-where false fits = refl
+
+  -- where a line's own rules are broken, it is there; else, under the last line, it is its start
+  where-own : (l : ℕ) → 0 < ownFirst l → where′ l ≡ firstPosition (ownRows placing sheet room l)
+  where-own l h = position-broken (ownRows placing sheet room l) (last-rows l) h
+
+  where-end : ownFirst size ≡ 0 → where′ size ≡ Start
+  where-end h =
+      position-kept (ownRows placing sheet room size) (last-rows size) (own-above size) h
+      ∙ ap (λ b. firstPosition (cond b (endRows placing sheet room) [])) (eq-eqb size size refl)
+      ∙ end-where (stateBy placing lines size .exited) (leb starts room)
+
   told : Goes ⊎ Stops
   told = by (bool (sheet .header))
     where
       ending : sheet .header ≡ true → stop ≡ size → Goes ⊎ Stops
       ending h q = last (bool (eqb (first size) 0))
         where
-          zeros : (l : ℕ) → l ≤ size → firstBroken (ownRules placing sheet room l) ≡ 0
+          zeros : (l : ℕ) → l ≤ size → ownFirst l ≡ 0
           zeros l p = own-zero l h (λ k i. stop-before placing lines size k (omega (arith, q, i, p)))
 
-          is : (given .reason ≡ first size) × (given .line ≡ suc size)
+          is : (given .reason ≡ first size) × (given .line ≡ suc size) × (given .column ≡ cond (eqb (given .reason) 0) 0 first-byte)
           is =
               let f = closes-first (stateBy placing lines size .exited) (leb starts room) in
               let g : given ≡ closes (stateBy placing lines size .exited) (not (leb starts room)) = at-end h q ∙ ap (λ b. closes (stateBy placing lines size .exited) b) (full-leb starts) in
-              (ap (λ (a : Answer). a .reason) g ∙ f .0 ∙ sym (first-end (zeros size (omega arith))), ap (λ (a : Answer). a .line) g ∙ f .1)
+              (ap (λ (a : Answer). a .reason) g ∙ f .0 ∙ sym (first-end (zeros size (omega arith))), ap (λ (a : Answer). a .line) g ∙ f .1, subst (λ (a : Answer). a .column ≡ cond (eqb (a .reason) 0) 0 first-byte) (sym g) (closes-column (stateBy placing lines size .exited) (leb starts room)))
 
           middle : (l : ℕ) → l < size → first l ≡ 0
           middle l p = first-middle l p (zeros l (omega (arith, p)))
@@ -300,8 +347,8 @@ module _ (placing : Placing) (sheet : Sheet) (room : ℕ) where
               each (inr i) = subst (λ n. first n ≡ 0) (let z : size ≡ l = omega (arith, p, ltb-false l size i) in z) e
 
           last : (eqb (first size) 0 ≡ true) ⊎ (eqb (first size) 0 ≡ false) → Goes ⊎ Stops
-          last (inl e) = let z = eqb-true (first size) 0 e in inl (record { none = none z; reason = is .0 ∙ z; line = is .1 })
-          last (inr e) = inr (record { l = size; there = omega arith; earlier = middle; here = is .0; broken = omega (arith, eqb-false (first size) 0 e); line = is .1 })
+          last (inl e) = let z = eqb-true (first size) 0 e in inl (record { none = none z; reason = is .0 ∙ z; line = is .1; column = is .2 ∙ rw (eq-eqb (given .reason) 0 (is .0 ∙ z)) })
+          last (inr e) = inr (record { l = size; there = omega arith; earlier = middle; here = is .0; broken = omega (arith, eqb-false (first size) 0 e); line = is .1; column = is .2 ∙ rw (ne-eqb (given .reason) 0 (λ z. eqb-false (first size) 0 e (sym (is .0) ∙ z)), where-end (zeros size (omega arith))) })
 
       stopping : sheet .header ≡ true → stop < size → Stops
       stopping h q =
@@ -315,9 +362,10 @@ module _ (placing : Placing) (sheet : Sheet) (room : ℕ) where
             here = ap (λ (z : Answer). z .reason) a ∙ own-same ∙ sym f;
             broken = subst (λ n. 0 < n) (sym f) (own-is p);
             line = ap (λ (z : Answer). z .line) a ∙ omega arith;
+            column = ap (λ (z : Answer). z .column) a ∙ ap (sheet .column (suc stop)) (where-same ∙ sym (where-own (suc stop) (own-is p)));
           }
         where
-          own-is : 0 < reasonBy placing lines stop → 0 < firstBroken (ownRules placing sheet room (suc stop))
+          own-is : 0 < reasonBy placing lines stop → 0 < ownFirst (suc stop)
           own-is p = subst (λ n. 0 < n) own-same p
 
       running : sheet .header ≡ true → (ltb stop size ≡ true) ⊎ (ltb stop size ≡ false) → Goes ⊎ Stops
@@ -327,7 +375,7 @@ module _ (placing : Placing) (sheet : Sheet) (room : ℕ) where
       headless : sheet .header ≡ false → Stops
       headless h =
           let a = bad-header h in
-          let o : firstBroken (ownRules placing sheet room 0) ≡ 2 = ap (λ b. cond b 0 2) h in
+          let o : ownFirst 0 ≡ 2 = ap (λ b. cond b 0 2) h in
           let f = first-own 0 (omega (arith, o)) in
           record {
             l = 0;
@@ -336,6 +384,7 @@ module _ (placing : Placing) (sheet : Sheet) (room : ℕ) where
             here = ap (λ (z : Answer). z .reason) a ∙ sym (f ∙ o);
             broken = omega (arith, f, o);
             line = ap (λ (z : Answer). z .line) a;
+            column = ap (λ (z : Answer). z .column) a ∙ ap (sheet .column 0) (sym (where-own 0 (omega (arith, o)) ∙ ap (λ b. cond b Start Start) h));
           }
 
       by : (sheet .header ≡ true) ⊎ (sheet .header ≡ false) → Goes ⊎ Stops
@@ -344,9 +393,9 @@ module _ (placing : Placing) (sheet : Sheet) (room : ℕ) where
 
   -- ---- the claims
   at-above : (l : ℕ) → lacks 0 (rulesAt placing sheet room l) ≡ true
-  at-above l = lacks-both 0 (ownRules placing sheet room l) (cond (eqb l size) (endRules placing sheet room) []) (own-above l) (end (eqb l size))
+  at-above l = ap (lacks 0) (both l) ∙ lacks-both 0 (rulesOf (ownRows placing sheet room l)) (rulesOf (last-rows l)) (own-above l) (end (eqb l size))
     where
-      end : (b : Bool) → lacks 0 (cond b (endRules placing sheet room) []) ≡ true
+      end : (b : Bool) → lacks 0 (rulesOf (cond b (endRows placing sheet room) [])) ≡ true
       end true = refl
       end false = refl
 
@@ -354,28 +403,36 @@ module _ (placing : Placing) (sheet : Sheet) (room : ℕ) where
   all-kept l e = none-kept (rulesAt placing sheet room l) (at-above l) e
 
   -- a refusal is the one that the answer tells
-  told-refused : (number l : ℕ) → 0 < number → Goes ⊎ Stops → given .reason ≡ number → given .line ≡ suc l → Refused placing sheet room number l
-  told-refused number l p (inl g) e f = absurd (omega (arith, g .reason, e))
-  told-refused number l p (inr s) e f =
+  told-refused : (number l column : ℕ) → 0 < number → Goes ⊎ Stops → given .reason ≡ number → given .line ≡ suc l → given .column ≡ column
+      → Refused placing sheet room number l column
+  told-refused number l column p (inl g) e f c = absurd (omega (arith, g .reason, e))
+  told-refused number l column p (inr s) e f c =
       let same : s .l ≡ l = omega (arith, s .line, f) in
-      subst (λ j. Refused placing sheet room number j) same
+      subst (λ j. Refused placing sheet room number j column) same
       (record {
         there = s .there;
         earlier = λ j i. all-kept j (s .earlier j i);
-        here = first-is number (rulesAt placing sheet room (s .l)) (sym (s .here) ∙ e) p;
+        position = where′ (s .l);
+        here = first-is number (rowsAt placing sheet room (s .l)) (sym (s .here) ∙ e) p;
+        stands = sym (s .column) ∙ c;
       })
 
-  refused-told : (number l : ℕ) → 0 < number → Refused placing sheet room number l → Goes ⊎ Stops → (given .reason ≡ number) × (given .line ≡ suc l)
-  refused-told number l p r (inl g) = absurd (omega (arith, g .none l (r .there), is-first number (rulesAt placing sheet room l) (r .here)))
-  refused-told number l p r (inr s) =
+  refused-told : (number l column : ℕ) → 0 < number → Refused placing sheet room number l column → Goes ⊎ Stops
+      → (given .reason ≡ number) × (given .line ≡ suc l) × (given .column ≡ column)
+  refused-told number l column p r (inl g) = absurd (omega (arith, g .none l (r .there), is-first number (r .position) (rowsAt placing sheet room l) (r .here) .0))
+  refused-told number l column p r (inr s) =
       let same : s .l ≡ l = omega (arith, not-lt, not-gt) in
-      (s .here ∙ ap first same ∙ is-first number (rulesAt placing sheet room l) (r .here), s .line ∙ ap suc same)
+      let f = is-first number (r .position) (rowsAt placing sheet room l) (r .here) in (
+        s .here ∙ ap first same ∙ f .0,
+        s .line ∙ ap suc same,
+        s .column ∙ ap (λ j. sheet .column j (where′ j)) same ∙ ap (sheet .column l) (f .1) ∙ r .stands,
+      )
     where
       not-lt : s .l < l → ⊥
       not-lt i = omega (arith, s .broken, kept-none (rulesAt placing sheet room (s .l)) (r .earlier (s .l) i))
 
       not-gt : l < s .l → ⊥
-      not-gt i = omega (arith, s .earlier l i, is-first number (rulesAt placing sheet room l) (r .here))
+      not-gt i = omega (arith, s .earlier l i, is-first number (r .position) (rowsAt placing sheet room l) (r .here) .0)
 
   none-broken : Goes ⊎ Stops → given .reason ≡ 0 → (l : ℕ) → l ≤ size → AllKept (rulesAt placing sheet room l)
   none-broken (inl g) e l p = all-kept l (g .none l p)
@@ -385,15 +442,15 @@ module _ (placing : Placing) (sheet : Sheet) (room : ℕ) where
   none-told (inl g) h = g .reason
   none-told (inr s) h = absurd (omega (arith, s .broken, kept-none (rulesAt placing sheet room (s .l)) (h (s .l) (s .there))))
 
-  last-line : Goes ⊎ Stops → given .reason ≡ 0 → given .line ≡ suc size
-  last-line (inl g) e = g .line
+  last-line : Goes ⊎ Stops → given .reason ≡ 0 → (given .line ≡ suc size) × (given .column ≡ 0)
+  last-line (inl g) e = (g .line, g .column)
   last-line (inr s) e = absurd (omega (arith, s .here, s .broken, e))
 
   -- under any placing, for every sheet and every number of places lent
   pub rules-exact : RulesExact placing sheet room
   rules-exact =
       record {
-        refuses = λ number l p. ((λ e. told-refused number l p told (e .0) (e .1)), (λ r. refused-told number l p r told));
+        refuses = λ number l column p. ((λ e. told-refused number l column p told (e .0) (e .1) (e .2)), (λ r. refused-told number l column p r told));
         passes = (none-broken told, none-told told);
         last = last-line told;
         passed = ((λ p. clear-passed placing sheet (passing-clear p)), (λ p. clear-passing (passed-clear placing sheet p)));

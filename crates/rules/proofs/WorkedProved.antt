@@ -7,14 +7,23 @@ use Rattle.statement.specs.Cells as cells
 use Rattle.rules.specs.Counting.{every, least}
 use Rattle.rules.specs.State as s
 use Rattle.rules.specs.Reasons as reasons
-use Rattle.rules.specs.Sheet.{answerAt, answerBy, closing, stopBy, reasonBy, stateBy, startsBy, given, effect, requested, released, sum, heldAfter, peakUpTo}
-use Rattle.rules.specs.Worked.{Worked}
+use Rattle.rules.specs.Sheet.{answerAt, answerBy, closing, stopBy, reasonBy, positionBy, stateBy, startsBy, given, effect, requested, released, sum, heldAfter, peakUpTo}
+use Rattle.laws.specs.Worked.{Gives}
+use Rattle.rules.specs.Worked.{blamed, positionCases, Worked}
+
+positions : Gives blamed positionCases
+unfolding every least s.isLive s.columnsOf s.without s.total s.covers s.isFree s.freeFrom s.slot s.lowest s.isBound s.widthOf s.numberOf s.bind
+    cells.counted reasons.named reasons.roomed reasons.laneOfWarp reasons.laned reasons.warped reasons.sized reasons.permitted reasons.placed
+    reasons.instructionOf reasons.reads reasons.mListed reasons.nListed reasons.typesListed reasons.inside reasons.cleared reasons.openRows
+    reasons.closedRows reasons.rows reasons.openRules answerAt answerBy closing stopBy reasonBy positionBy stateBy startsBy given effect requested released sum heldAfter
+    peakUpTo ones onesIn cells.registersFor cells.lanesFor cells.columnsFor cells.miscounted instruction.decoded shared.decoded
+positions = refl
 
 pub worked : Worked
 unfolding every least s.isLive s.columnsOf s.without s.total s.covers s.isFree s.freeFrom s.slot s.lowest s.isBound s.widthOf s.numberOf s.bind
-    cells.counted reasons.named reasons.roomed reasons.laneOfWarp reasons.warped reasons.sized reasons.permitted reasons.placed
-    reasons.instructionOf reasons.reads reasons.mListed reasons.nListed reasons.typesListed reasons.inside reasons.cleared reasons.openRules
-    reasons.closedRules reasons.rules answerAt answerBy closing stopBy reasonBy stateBy startsBy given effect requested released sum heldAfter
+    cells.counted reasons.named reasons.roomed reasons.laneOfWarp reasons.laned reasons.warped reasons.sized reasons.permitted reasons.placed
+    reasons.instructionOf reasons.reads reasons.mListed reasons.nListed reasons.typesListed reasons.inside reasons.cleared reasons.openRows
+    reasons.closedRows reasons.rows reasons.openRules answerAt answerBy closing stopBy reasonBy positionBy stateBy startsBy given effect requested released sum heldAfter
     peakUpTo ones onesIn cells.registersFor cells.lanesFor cells.columnsFor cells.miscounted instruction.decoded shared.decoded
 worked =
     record {
@@ -24,5 +33,6 @@ worked =
       columns = refl;
       lanes = refl;
       mmas = refl;
+      positions = positions;
       states = refl;
     }

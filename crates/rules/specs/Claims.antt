@@ -1,5 +1,5 @@
--- What the answer of a sheet means: it names the first broken rule of the first line that breaks one, and its figures are those of the allocations
--- live there. proofs/RulesProved.antt and proofs/FiguresProved.antt have the proofs. Assumes nothing.
+-- What the answer of a sheet means: it names the first broken rule of the first line that breaks one, and where it is broken in the line; its figures are those of
+-- the allocations live there. proofs/RulesProved.antt and proofs/FiguresProved.antt have the proofs. Assumes nothing.
 use Prim.Native.Nat.{ℕ, zero, suc, _+_, _%_, _≤_, _<_}
 use mathlib.Core.Path.{_≡_}
 use mathlib.Core.Bool.{Bool, true, false, cond}
@@ -11,9 +11,11 @@ use lib.ListN.{length}
 use Rattle.laws.specs.Rules.{Rule, rule}
 use Rattle.tokens.specs.declared.Name.{Name}
 use Rattle.statement.specs.declared.Statement.{Statement}
+use Rattle.statement.specs.declared.Position.{Position}
 use Rattle.rules.specs.State.{State, Placer, Allocation, isLive, isBound, isFree, lowest, total}
 use Rattle.statement.specs.Views.{exitIn}
-use Rattle.rules.specs.Sheet.{Line, statement, actIn, lineRules, Sheet, Placing, stateBy, startsBy, rulesBy, stopBy, heldAfter, peakUpTo, answerBy}
+use Rattle.rules.specs.Rows.{Sort, atStart, atOpcode, atName, atOperand, pointed, Test, test, kept, whole, Row, row, rulesOf}
+use Rattle.rules.specs.Sheet.{Line, statement, actIn, lineRows, Sheet, Placing, stateBy, startsBy, rowsBy, rulesBy, stopBy, heldAfter, peakUpTo, answerBy}
 
 -- ---- lists of rules
 -- every rule is kept
@@ -21,23 +23,56 @@ abbrev pub AllKept : List Rule → Type 0
 AllKept [] = Unit {0}
 AllKept (rule number kept ∷ rs) = (kept ≡ true) × AllKept rs
 
--- a rule of that number is broken, and every rule before it is kept
-pub record FirstIs (number : ℕ) (rs : List Rule) : Type 0 where
-  pub before : List Rule
-  pub after : List Rule
-  pub parts : rs ≡ before ++ (rule number false ∷ after)
-  pub kept : AllKept before
+-- ---- lists of tests
+-- a test of that operand is broken, and every test left of it is kept
+pub record LeftmostIs (operand : ℕ) (tests : List Test) : Type 0 where
+  pub left : List Test
+  pub right : List Test
+  pub parts : tests ≡ left ++ (test operand false ∷ right)
+  pub kept : kept left ≡ true
 
--- the numbers of the rules
-abbrev pub numbers : List Rule → List ℕ
-numbers [] = []
-numbers (rule number kept ∷ rs) = number ∷ numbers rs
+-- ---- lists of rows
+-- a row of that number is broken, and points at that position by its leftmost broken test; and every row before it is kept
+pub record FirstIs (number : ℕ) (position : Position) (rs : List Row) : Type 0 where
+  pub before : List Row
+  pub sort : Sort
+  pub tests : List Test
+  pub after : List Row
+  pub parts : rs ≡ before ++ (row number sort tests ∷ after)
+  pub kept : AllKept (rulesOf before)
+  pub operand : ℕ
+  pub broken : LeftmostIs operand tests
+  pub points : pointed sort operand ≡ position
 
--- the published order of a line that reads, before exit and after it
+-- the numbers of rows, and what they point at
+abbrev pub heads : List Row → List (ℕ × Sort)
+heads [] = []
+heads (row number sort tests ∷ rs) = (number, sort) ∷ heads rs
+
+-- the published order of a line that reads, before exit and after it: each reason with what its column points at
 pub record InOrder (place : Placer) (s : State) (held w : ℕ) (t : Statement) : Type 0 where
   pub before : s .exited ≡ false
-      → numbers (lineRules place s held (statement w t)) ≡ 2 ∷ 5 ∷ 6 ∷ 7 ∷ 8 ∷ 9 ∷ 10 ∷ 11 ∷ 12 ∷ 13 ∷ 13 ∷ 13 ∷ 14 ∷ 15 ∷ []
-  pub after : s .exited ≡ true → numbers (lineRules place s held (statement w t)) ≡ 2 ∷ 5 ∷ 15 ∷ []
+      → heads (lineRows place s held (statement w t))
+      ≡ (2, atStart)
+      ∷ (5, atOpcode)
+      ∷ (6, atName)
+      ∷ (7, atName)
+      -- the address of a ld or st; else the warp
+      ∷ (8, atOperand)
+      ∷ (8, atStart)
+      -- the number
+      ∷ (9, atOperand)
+      ∷ (10, atOpcode)
+      ∷ (11, atOpcode)
+      ∷ (12, atName)
+      ∷ (13, atName)
+      ∷ (20, atName)
+      ∷ (21, atName)
+      -- the address
+      ∷ (14, atOperand)
+      ∷ (15, atStart)
+      ∷ []
+  pub after : s .exited ≡ true → heads (lineRows place s held (statement w t)) ≡ (2, atStart) ∷ (5, atOpcode) ∷ (15, atStart) ∷ []
 
 -- ---- the placing
 -- each of that many columns from a start on is below 512 and in no live allocation
@@ -79,33 +114,39 @@ pub record Passed (placing : Placing) (sheet : Sheet) : Type 0 where
 -- ---- the rules of a sheet, by line
 module _ (placing : Placing) (sheet : Sheet) (room : ℕ) where
   -- after the last line: exit is there (15), and the lent list has a place for each request (16)
-  abbrev pub endRules : List Rule
-  endRules =
-      rule 15 (stateBy placing (sheet .line) (sheet .count) .exited)
-      ∷ rule 16 (leb (length (startsBy placing (sheet .line) (sheet .count))) room)
+  abbrev pub endRows : List Row
+  endRows =
+      row 15 atStart (whole (stateBy placing (sheet .line) (sheet .count) .exited))
+      ∷ row 16 atStart (whole (leb (length (startsBy placing (sheet .line) (sheet .count))) room))
       ∷ []
 
   -- line 1 has its layout; any other line its rules (line l + 1 of the sheet stands under l)
-  abbrev pub ownRules : ℕ → List Rule
-  ownRules zero = rule 2 (sheet .header) ∷ []
-  ownRules (suc k) = rulesBy placing (sheet .line) k
+  abbrev pub ownRows : ℕ → List Row
+  ownRows zero = row 2 atStart (whole (sheet .header)) ∷ []
+  ownRows (suc k) = rowsBy placing (sheet .line) k
+
+  abbrev pub rowsAt : ℕ → List Row
+  rowsAt l = ownRows l ++ cond (eqb l (sheet .count)) endRows []
 
   abbrev pub rulesAt : ℕ → List Rule
-  rulesAt l = ownRules l ++ cond (eqb l (sheet .count)) endRules []
+  rulesAt l = rulesOf (rowsAt l)
 
-  -- the first broken rule of the sheet has that number and stands under l
-  pub record Refused (number l : ℕ) : Type 0 where
+  -- the first broken rule of the sheet has that number, and is broken under l in that column
+  pub record Refused (number l column : ℕ) : Type 0 where
     pub there : l ≤ sheet .count
     pub earlier : (j : ℕ) → j < l → AllKept (rulesAt j)
-    pub here : FirstIs number (rulesAt l)
+    pub position : Position
+    pub here : FirstIs number position (rowsAt l)
+    pub stands : sheet .column l position ≡ column
 
   -- the claim
   pub record RulesExact : Type 0 where
-    -- the answer names a reason and a line exactly when that rule is broken there, and no earlier one of that line nor any of an earlier line
-    pub refuses : (number l : ℕ) → 0 < number → ((answerBy placing sheet room .reason ≡ number) × (answerBy placing sheet room .line ≡ suc l)) ↔ Refused number l
-    -- the answer is 0 exactly when no rule is broken at any line; it names the last line
+    -- the answer names a reason, a line and a column exactly when that rule is broken there, and no earlier one of that line nor any of an earlier line
+    pub refuses : (number l column : ℕ) → 0 < number
+        → ((answerBy placing sheet room .reason ≡ number) × (answerBy placing sheet room .line ≡ suc l) × (answerBy placing sheet room .column ≡ column)) ↔ Refused number l column
+    -- the answer is 0 exactly when no rule is broken at any line; it names the last line and column 0
     pub passes : (answerBy placing sheet room .reason ≡ 0) ↔ ((l : ℕ) → l ≤ sheet .count → AllKept (rulesAt l))
-    pub last : answerBy placing sheet room .reason ≡ 0 → answerBy placing sheet room .line ≡ suc (sheet .count)
+    pub last : answerBy placing sheet room .reason ≡ 0 → (answerBy placing sheet room .line ≡ suc (sheet .count)) × (answerBy placing sheet room .column ≡ 0)
     -- the sheet is a passed one exactly when no rule is broken at any line, it ends in exit, and no line follows
     pub passed : Passing (answerBy placing sheet room .reason) ↔ Passed placing sheet
 

@@ -1,5 +1,6 @@
 pub mod Counting
 pub mod State
+pub mod Rows
 pub mod Reasons
 pub mod Sheet
 pub mod Claims

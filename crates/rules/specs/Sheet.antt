@@ -6,17 +6,20 @@ use mathlib.Core.Option.{Option, none, some}
 use lib.Dec.{ltb, eqb}
 use lib.ListN.{length}
 use lib.Seq.{sets}
-use Rattle.laws.specs.Rules.{Rule, rule, firstBroken}
+use Rattle.laws.specs.Rules.{Rule, firstBroken}
 use Rattle.tokens.specs.declared.Name.{Name}
 use Rattle.statement.specs.declared.Reading.{Reading}
 use Rattle.statement.specs.declared.Reading.the-variants.{Got, NoForm, TooLarge}
 use Rattle.statement.specs.declared.Statement.{Statement}
+use Rattle.statement.specs.declared.Position.{Position}
+use Rattle.statement.specs.declared.Position.the-variants.{Start}
 use Rattle.rules.specs.declared.Answer.{Answer}
 use Rattle.rules.specs.Counting.{least}
 use Rattle.statement.specs.Views as act
 use Rattle.statement.specs.Views.{Act, Turn, actOf, requestIn, releaseIn, of}
 use Rattle.rules.specs.State.{State, opened, Allocation, Placer, lowest, without, bind}
-use Rattle.rules.specs.Reasons.{rules}
+use Rattle.rules.specs.Rows.{atStart, atToken, whole, broken, Row, row, rulesOf, firstPosition}
+use Rattle.rules.specs.Reasons.{rows}
 
 -- ---- lines
 -- a line after line 1: its layout is wrong; no form matches; a number is too large; or a statement, with its warp
@@ -42,18 +45,23 @@ turnOf (statement w t) = record { warp = w; act = actOf t }
 abbrev pub actIn : Line → Act
 actIn x = turnOf x .act
 
--- line 1 is right or not; the lines after it, counted from 0 (so `line 0` is line 2 of the sheet), and how many they are
+-- line 1 is right or not; the lines after it, counted from 0 (so `line 0` is line 2 of the sheet), and how many they are; and the column of each position in a
+-- line, line 1 counted as 0
 pub record Sheet : Type 0 where
   pub header : Bool
   pub line : ℕ → Line
   pub count : ℕ
+  pub column : ℕ → Position → ℕ
 
 -- the rules of a line, with the columns held before it: a line that gives no statement breaks 2, 3 or 4; the warp of one that does is 0 to 3 (2)
+abbrev pub lineRows : Placer → State → (held : ℕ) → Line → List Row
+lineRows place s held badLayout = row 2 atStart broken ∷ []
+lineRows place s held noForm = row 3 atToken broken ∷ []
+lineRows place s held tooLarge = row 4 atToken broken ∷ []
+lineRows place s held (statement w t) = row 2 atStart (whole (ltb w 4)) ∷ rows place s held w t
+
 abbrev pub lineRules : Placer → State → (held : ℕ) → Line → List Rule
-lineRules place s held badLayout = rule 2 false ∷ []
-lineRules place s held noForm = rule 3 false ∷ []
-lineRules place s held tooLarge = rule 4 false ∷ []
-lineRules place s held (statement w t) = rule 2 (ltb w 4) ∷ rules place s held w t
+lineRules place s held x = rulesOf (lineRows place s held x)
 
 -- ---- what an accepted line does
 -- the first alloc or relinquish fixes the warp
@@ -130,38 +138,45 @@ unfoldable pub startsBy : Placing → (ℕ → Line) → ℕ → List ℕ
 startsBy placing line zero = []
 startsBy placing line (suc k) = startsBy placing line k ++ given (placing k) (stateBy placing line k) (line k)
 
--- the rules of line k, and the reason for which it is refused, or 0
+-- the rules of line k, the reason for which it is refused, or 0, and where in the line
+abbrev pub rowsBy : Placing → (ℕ → Line) → ℕ → List Row
+rowsBy placing line k = lineRows (placing k) (stateBy placing line k) (heldAfter line k) (line k)
+
 abbrev pub rulesBy : Placing → (ℕ → Line) → ℕ → List Rule
-rulesBy placing line k = lineRules (placing k) (stateBy placing line k) (heldAfter line k) (line k)
+rulesBy placing line k = rulesOf (rowsBy placing line k)
 
 unfoldable pub reasonBy : Placing → (ℕ → Line) → ℕ → ℕ
 reasonBy placing line k = firstBroken (rulesBy placing line k)
+
+unfoldable pub positionBy : Placing → (ℕ → Line) → ℕ → Position
+positionBy placing line k = firstPosition (rowsBy placing line k)
 
 -- ---- the answer
 -- the first line that is refused, or the number of lines
 unfoldable pub stopBy : Placing → (ℕ → Line) → ℕ → ℕ
 stopBy placing line count = least (λ k. not (eqb (reasonBy placing line k) 0)) count
 
-abbrev pub answer : ℕ → ℕ → ℕ → ℕ → Answer
-answer reason line held peak = record { reason = reason; line = line; held = held; peak = peak }
+abbrev pub answer : ℕ → ℕ → ℕ → ℕ → ℕ → Answer
+answer reason line column held peak = record { reason = reason; line = line; column = column; held = held; peak = peak }
 
--- no line is refused: exit is missing (15); or the lent list has fewer places than requests (16); or passed
-unfoldable pub closing : Bool → (requests room line held peak : ℕ) → Answer
-closing exited requests room line held peak =
-    cond exited (cond (ltb room requests) (answer 16 line 0 peak) (answer 0 line 0 peak)) (answer 15 line held peak)
+-- no line is refused: exit is missing (15); or the lent list has fewer places than requests (16), both at the start of the last line; or passed, with column 0
+unfoldable pub closing : Bool → (requests room line column held peak : ℕ) → Answer
+closing exited requests room line column held peak =
+    cond exited (cond (ltb room requests) (answer 16 line column 0 peak) (answer 0 line 0 0 peak)) (answer 15 line column held peak)
 
 -- by the first refused line
-unfoldable pub answerAt : Placing → (ℕ → Line) → (count room stop : ℕ) → Answer
-answerAt placing line count room stop =
-    cond (ltb stop count) (answer (reasonBy placing line stop) (stop + 2) (heldAfter line stop) (peakUpTo line stop))
-    (closing (stateBy placing line count .exited) (length (startsBy placing line count)) room (count + 1) (heldAfter line count) (peakUpTo line count))
+unfoldable pub answerAt : Placing → Sheet → (room stop : ℕ) → Answer
+answerAt placing sheet room stop =
+    cond (ltb stop (sheet .count))
+    (answer (reasonBy placing (sheet .line) stop) (stop + 2) (sheet .column (suc stop) (positionBy placing (sheet .line) stop)) (heldAfter (sheet .line) stop)
+    (peakUpTo (sheet .line) stop))
+    (closing (stateBy placing (sheet .line) (sheet .count) .exited) (length (startsBy placing (sheet .line) (sheet .count))) room (sheet .count + 1)
+    (sheet .column (sheet .count) Start) (heldAfter (sheet .line) (sheet .count)) (peakUpTo (sheet .line) (sheet .count)))
 
--- the answer under a placing, with that many places lent
+-- the answer under a placing, with that many places lent; a wrong line 1 is refused at its start
 unfoldable pub answerBy : Placing → Sheet → ℕ → Answer
 answerBy placing sheet room =
-    cond (sheet .header)
-    (answerAt placing (sheet .line) (sheet .count) room (stopBy placing (sheet .line) (sheet .count)))
-    (answer 2 1 0 0)
+    cond (sheet .header) (answerAt placing sheet room (stopBy placing (sheet .line) (sheet .count))) (answer 2 1 (sheet .column 0 Start) 0 0)
 
 -- ---- under our placing
 abbrev pub stateAfter : (ℕ → Line) → ℕ → State

@@ -11,6 +11,7 @@ use Rattle.laws.specs.Worked.{Gives}
 use Rattle.tokens.specs.declared.Name.{Name}
 use Rattle.instruction.specs.declared.Kind.the-variants.{F16}
 use Rattle.statement.specs.declared.Address.{Address}
+use Rattle.statement.specs.declared.Access.{Access}
 use Rattle.statement.specs.declared.Shape.{Shape}
 use Rattle.statement.specs.declared.Shape.the-variants.{S32x32, S16x64, S16x128, S16x256}
 use Rattle.statement.specs.declared.Num.{Num}
@@ -19,6 +20,9 @@ use Rattle.statement.specs.declared.Operand.{Operand}
 use Rattle.statement.specs.declared.Operand.the-variants as operand
 use Rattle.statement.specs.declared.Metadata.{Metadata}
 use Rattle.statement.specs.declared.Metadata.the-variants.{Dense, Sparse}
+use Rattle.statement.specs.declared.Position.{Position}
+use Rattle.statement.specs.declared.Position.the-variants as position
+use Rattle.statement.specs.declared.Position.the-variants.{Start, Token, Opcode}
 use Rattle.statement.specs.declared.Statement.{Statement}
 use Rattle.statement.specs.declared.Statement.the-variants.{Mov32, Mov64, Alloc, Dealloc, Relinquish, Load, Store, Multiply, Exit}
 use Rattle.rules.specs.declared.Answer.{Answer}
@@ -42,46 +46,58 @@ dealloc n columns = statement 0 (Dealloc (name n) columns)
 abbrev pub exit : Line
 exit = statement 0 Exit
 
+-- columns that tell positions apart
+abbrev pub mark : Position → ℕ
+mark Start = 1
+mark Token = 2
+mark Opcode = 3
+mark (position.Name i) = 10 + i
+mark (position.Operand i) = 20 + i
+
 -- the answer of these lines after a good line 1, with four places lent
 abbrev pub judged : List Line → Answer
-judged lines = answerOf (record { header = true; line = λ k. getD lines k noForm; count = length lines }) 4
+judged lines = answerOf (record { header = true; line = λ k. getD lines k noForm; count = length lines; column = λ l p. mark p }) 4
 
--- ---- whole sheets: reason, line, held and peak
+-- the reason, and the position
+abbrev pub blamed : List Line → ℕ × ℕ
+blamed lines = (judged lines .reason, judged lines .column)
+
+-- ---- whole sheets: reason, line, position, held and peak
 abbrev pub sheetCases : List (List Line × Answer)
 sheetCases =
     -- header alone; header and exit; a line of wrong layout, of no form and of too large a number after one of 32 columns
-    ([], answer 15 1 0 0)
-    ∷ (exit ∷ [], answer 0 2 0 0)
-    ∷ (alloc 1 32 ∷ badLayout ∷ [], answer 2 3 32 32)
-    ∷ (alloc 1 32 ∷ noForm ∷ [], answer 3 3 32 32)
-    ∷ (alloc 1 32 ∷ tooLarge ∷ [], answer 4 3 32 32)
+    ([], answer 15 1 1 0 0)
+    ∷ (exit ∷ [], answer 0 2 0 0 0)
+    ∷ (alloc 1 32 ∷ badLayout ∷ [], answer 2 3 1 32 32)
+    ∷ (alloc 1 32 ∷ noForm ∷ [], answer 3 3 2 32 32)
+    ∷ (alloc 1 32 ∷ tooLarge ∷ [], answer 4 3 2 32 32)
     -- exit with columns held; missing exit; a line after exit
-    ∷ (alloc 1 32 ∷ exit ∷ [], answer 15 3 32 32)
-    ∷ (alloc 1 32 ∷ [], answer 15 2 32 32)
-    ∷ (exit ∷ dealloc 1 32 ∷ [], answer 15 3 0 0)
+    ∷ (alloc 1 32 ∷ exit ∷ [], answer 15 3 1 32 32)
+    ∷ (alloc 1 32 ∷ [], answer 15 2 1 32 32)
+    ∷ (exit ∷ dealloc 1 32 ∷ [], answer 15 3 1 0 0)
     -- the warp stays fixed, for a dealloc and a second relinquish too; alloc after relinquish; dealloc after it passes
-    ∷ (alloc 1 32 ∷ dealloc 1 32 ∷ statement 1 (Alloc (name 1) 32) ∷ [], answer 8 4 0 32)
-    ∷ (alloc 1 32 ∷ statement 1 (Dealloc (name 1) 32) ∷ [], answer 8 3 32 32)
-    ∷ (statement 2 Relinquish ∷ statement 1 Relinquish ∷ exit ∷ [], answer 8 3 0 0)
-    ∷ (statement 2 Relinquish ∷ statement 2 (Alloc (name 1) 32) ∷ exit ∷ [], answer 10 3 0 0)
-    ∷ (alloc 1 32 ∷ statement 0 Relinquish ∷ dealloc 1 32 ∷ exit ∷ [], answer 0 5 0 32)
+    ∷ (alloc 1 32 ∷ dealloc 1 32 ∷ statement 1 (Alloc (name 1) 32) ∷ [], answer 8 4 1 0 32)
+    ∷ (alloc 1 32 ∷ statement 1 (Dealloc (name 1) 32) ∷ [], answer 8 3 1 32 32)
+    ∷ (statement 2 Relinquish ∷ statement 1 Relinquish ∷ exit ∷ [], answer 8 3 1 0 0)
+    ∷ (statement 2 Relinquish ∷ statement 2 (Alloc (name 1) 32) ∷ exit ∷ [], answer 10 3 3 0 0)
+    ∷ (alloc 1 32 ∷ statement 0 Relinquish ∷ dealloc 1 32 ∷ exit ∷ [], answer 0 5 0 0 32)
     -- the lowest number of a line: the warp before the size, the size before the permit
-    ∷ (alloc 1 32 ∷ statement 1 (Alloc (name 2) 96) ∷ [], answer 8 3 32 32)
-    ∷ (statement 0 Relinquish ∷ alloc 1 96 ∷ [], answer 9 3 0 0)
+    ∷ (alloc 1 32 ∷ statement 1 (Alloc (name 2) 96) ∷ [], answer 8 3 1 32 32)
+    ∷ (statement 0 Relinquish ∷ alloc 1 96 ∷ [], answer 9 3 21 0 0)
     -- a dealloc of part, and of more; a name that is live, and one that is not
-    ∷ (alloc 1 64 ∷ dealloc 1 32 ∷ [], answer 9 3 64 64)
-    ∷ (alloc 1 64 ∷ dealloc 1 128 ∷ [], answer 9 3 64 64)
-    ∷ (alloc 1 64 ∷ alloc 1 32 ∷ [], answer 6 3 64 64)
-    ∷ (alloc 1 64 ∷ dealloc 2 64 ∷ [], answer 6 3 64 64)
+    ∷ (alloc 1 64 ∷ dealloc 1 32 ∷ [], answer 9 3 21 64 64)
+    ∷ (alloc 1 64 ∷ dealloc 1 128 ∷ [], answer 9 3 21 64 64)
+    ∷ (alloc 1 64 ∷ alloc 1 32 ∷ [], answer 6 3 10 64 64)
+    ∷ (alloc 1 64 ∷ dealloc 2 64 ∷ [], answer 6 3 10 64 64)
     -- a name is a value or an allocation
-    ∷ (alloc 1 64 ∷ statement 0 (Mov32 (name 1) 0) ∷ [], answer 6 3 64 64)
-    ∷ (statement 0 (Mov32 (name 1) 0) ∷ alloc 1 64 ∷ [], answer 6 3 0 0)
+    ∷ (alloc 1 64 ∷ statement 0 (Mov32 (name 1) 0) ∷ [], answer 6 3 10 64 64)
+    ∷ (statement 0 (Mov32 (name 1) 0) ∷ alloc 1 64 ∷ [], answer 6 3 10 0 0)
     -- five requests and four places; the most held is answered
-    ∷ (alloc 1 32 ∷ alloc 2 32 ∷ alloc 3 32 ∷ alloc 4 32 ∷ dealloc 1 32 ∷ dealloc 2 32 ∷ dealloc 3 32 ∷ dealloc 4 32 ∷ exit ∷ [], answer 0 10 0 128)
-    ∷ (alloc 1 32 ∷ dealloc 1 32 ∷ alloc 2 64 ∷ dealloc 2 64 ∷ alloc 3 32 ∷ dealloc 3 32 ∷ alloc 4 32 ∷ dealloc 4 32 ∷ alloc 5 32 ∷ dealloc 5 32 ∷ exit ∷ [], answer 16 12 0 64)
+    ∷ (alloc 1 32 ∷ alloc 2 32 ∷ alloc 3 32 ∷ alloc 4 32 ∷ dealloc 1 32 ∷ dealloc 2 32 ∷ dealloc 3 32 ∷ dealloc 4 32 ∷ exit ∷ [], answer 0 10 0 0 128)
+    ∷ (alloc 1 32 ∷ dealloc 1 32 ∷ alloc 2 64 ∷ dealloc 2 64 ∷ alloc 3 32 ∷ dealloc 3 32 ∷ alloc 4 32 ∷ dealloc 4 32 ∷ alloc 5 32 ∷ dealloc 5 32 ∷ exit ∷ [], answer 16 12 1 0 64)
     -- no free run: the memory is full, or what is free is in parts
-    ∷ (alloc 1 512 ∷ alloc 2 32 ∷ [], answer 11 3 512 512)
-    ∷ (alloc 1 256 ∷ alloc 2 128 ∷ alloc 3 128 ∷ dealloc 2 128 ∷ alloc 4 256 ∷ [], answer 11 6 384 512)
+    ∷ (alloc 1 512 ∷ alloc 2 32 ∷ [], answer 11 3 3 512 512)
+    ∷ (alloc 1 256 ∷ alloc 2 128 ∷ alloc 3 128 ∷ dealloc 2 128 ∷ alloc 4 256 ∷ [], answer 11 6 3 384 512)
     ∷ []
 
 -- the reason of lines between an alloc of name 1 and its end
@@ -226,13 +242,59 @@ mmaCases =
     -- N 32 is listed without `.ws` alone, M 32 with it alone; N 264 and M 192 never
     ∷ ((true, 64, m128n64, at 1 0 0, a3, Dense), 0)
     ∷ ((false, 64, 0x08080010, at 1 0 0, a3, Dense), 0)
-    ∷ ((true, 64, 0x08080010, at 1 0 0, a3, Dense), 13)
+    ∷ ((true, 64, 0x08080010, at 1 0 0, a3, Dense), 20)
     ∷ ((true, 64, 0x02100010, at 1 0 0, a3, Dense), 0)
     ∷ ((false, 64, 0x02100010, at 1 0 0, a3, Dense), 13)
-    ∷ ((false, 512, 0x08420010, at 1 0 0, a3, Dense), 13)
+    ∷ ((false, 512, 0x08420010, at 1 0 0, a3, Dense), 20)
     ∷ ((false, 64, 0x0C100010, at 1 0 0, a3, Dense), 13)
     -- the listing comes before the columns
     ∷ ((false, 32, 0x02100010, at 1 0 0, a3, Dense), 13)
+    ∷ []
+
+-- ---- positions. An mma after an alloc of 64 columns, with the words of idesc, a and b, under names 2, 3 and 4
+abbrev pub ofMma : (idesc a b : ℕ) → Statement → List Line
+ofMma idesc a b t = alloc 1 64 ∷ statement 0 (Mov32 (name 2) idesc) ∷ statement 0 (Mov64 (name 3) a) ∷ statement 0 (Mov64 (name 4) b) ∷ statement 0 t ∷ []
+
+abbrev pub mma : Address → Operand → (b : ℕ) → Metadata → (idesc : ℕ) → Statement
+mma d a b e idesc = Multiply (record { ws = false; kind = F16; d = d; a = a; b = name b; metadata = e; idesc = name idesc; predicate = name 9 })
+
+abbrev pub access : Address → Access
+access a = record { shape = S32x32; num = X1; registers = 1; address = a }
+
+abbrev pub positionCases : List (List Line × (ℕ × ℕ))
+positionCases =
+    -- a ld has its address second, a st first: the name, the bracket for the lane, the bracket for the columns, and the opcode for the registers
+    (alloc 1 32 ∷ statement 0 (Load (access (at 2 0 0))) ∷ [], (6, 11))
+    ∷ (alloc 1 32 ∷ statement 0 (Store (access (at 2 0 0))) ∷ [], (6, 10))
+    ∷ (alloc 1 32 ∷ statement 1 (Load (access (at 1 0 0))) ∷ [], (8, 21))
+    ∷ (alloc 1 32 ∷ statement 1 (Store (access (at 1 0 0))) ∷ [], (8, 20))
+    ∷ (alloc 1 32 ∷ statement 0 (Load (access (at 1 0 32))) ∷ [], (14, 21))
+    ∷ (alloc 1 32 ∷ statement 0 (Store (access (at 1 0 32))) ∷ [], (14, 20))
+    ∷ (alloc 1 32 ∷ statement 0 (Load (record { shape = S32x32; num = X1; registers = 2; address = at 1 0 0 })) ∷ [], (5, 3))
+    -- 6 of an mma: d, a, b, the metadata and idesc, each as the first of two
+    ∷ (ofMma m128n64 shared shared (mma (at 6 0 0) a3 6 Dense 2), (6, 10))
+    ∷ (ofMma m128n64 shared shared (mma (at 1 0 0) (operand.Descriptor (name 6)) 6 Dense 2), (6, 11))
+    ∷ (ofMma m128n64 shared shared (mma (at 1 0 0) (operand.Address (at 6 0 0)) 4 Dense 6), (6, 11))
+    ∷ (ofMma m128n64 shared shared (mma (at 1 0 0) a3 6 Dense 6), (6, 12))
+    ∷ (ofMma (m128n64 + 4) shared shared (mma (at 1 0 0) a3 4 (Sparse (at 6 0 0)) 6), (6, 13))
+    ∷ (ofMma m128n64 shared shared (mma (at 1 0 0) a3 4 Dense 6), (6, 13))
+    ∷ (ofMma (m128n64 + 4) shared shared (mma (at 1 0 0) a3 4 (Sparse (at 1 0 0)) 6), (6, 14))
+    -- 12: a, b and idesc; one name twice is the first
+    ∷ (ofMma 3 0 0 (mma (at 1 0 0) a3 4 Dense 2), (12, 11))
+    ∷ (ofMma m128n64 shared 0 (mma (at 1 0 0) (operand.Descriptor (name 4)) 4 Dense 2), (12, 11))
+    ∷ (ofMma 3 shared 0 (mma (at 1 0 0) a3 4 Dense 2), (12, 12))
+    ∷ (ofMma 3 shared 0 (mma (at 1 0 0) (operand.Address (at 1 0 0)) 4 Dense 2), (12, 12))
+    ∷ (ofMma 3 shared shared (mma (at 1 0 0) a3 4 Dense 2), (12, 13))
+    ∷ (ofMma 3 shared shared (mma (at 1 0 0) a3 4 (Sparse (at 1 0 0)) 2), (12, 14))
+    -- M, N and types not listed; N and types; types; each before the columns
+    ∷ (ofMma 0x0C000020 shared shared (mma (at 1 0 1) a3 4 Dense 2), (13, 13))
+    ∷ (ofMma 0x08000020 shared shared (mma (at 1 0 1) a3 4 Dense 2), (20, 13))
+    ∷ (ofMma 0x08100020 shared shared (mma (at 1 0 1) a3 4 Dense 2), (21, 13))
+    ∷ (ofMma 0x08100024 shared shared (mma (at 1 0 1) a3 4 (Sparse (at 1 0 0)) 2), (21, 14))
+    -- 14: d, a and the metadata
+    ∷ (ofMma m128n64 shared shared (mma (at 1 0 1) (operand.Address (at 1 0 57)) 4 Dense 2), (14, 20))
+    ∷ (ofMma (m128n64 + 4) shared shared (mma (at 1 0 0) (operand.Address (at 1 0 57)) 4 (Sparse (at 1 0 63)) 2), (14, 21))
+    ∷ (ofMma (m128n64 + 4) shared shared (mma (at 1 0 0) a3 4 (Sparse (at 1 0 63)) 2), (14, 23))
     ∷ []
 
 -- ---- states too long for a sheet here
@@ -279,10 +341,11 @@ stateCases =
 -- ---- the claim
 pub record Worked : Type 0 where
   -- a wrong line 1
-  pub header : answerOf (record { header = false; line = λ k. exit; count = 1 }) 0 ≡ answer 2 1 0 0
+  pub header : answerOf (record { header = false; line = λ k. exit; count = 1; column = λ l p. mark p }) 0 ≡ answer 2 1 1 0 0
   pub whole : Gives judged sheetCases
   pub requests : Gives (λ columns. reasonIn columns []) requestCases
   pub columns : Gives columnReason columnCases
   pub lanes : Gives laneReason laneCases
   pub mmas : Gives mmaReason mmaCases
+  pub positions : Gives blamed positionCases
   pub states : Gives stateReason stateCases

@@ -2,7 +2,7 @@
 -- Assumes nothing.
 use Prim.Native.Nat.{ℕ, zero, suc, _+_, _-_}
 use mathlib.Core.List.{List, [], _∷_}
-use mathlib.Core.Bool.{Bool, false, not, _&&_, _||_, cond}
+use mathlib.Core.Bool.{Bool, true, false, not, _&&_, _||_, cond}
 use lib.ListN.{length, drop}
 use lib.Dec.{eqb}
 use Rattle.tokens.specs.Text.{byte}
@@ -11,7 +11,11 @@ use Rattle.statement.specs.declared.Reading.{Reading}
 use Rattle.statement.specs.declared.Reading.the-variants.{Got, NoForm, TooLarge}
 use Rattle.statement.specs.declared.Position.{Position}
 use Rattle.statement.specs.declared.Position.the-variants.{Start, Token, Opcode, Name, Operand}
+use Rattle.statement.specs.declared.Mma.{Mma}
+use Rattle.statement.specs.declared.Statement.{Statement}
+use Rattle.statement.specs.Forms.{Slot, name, number, inBrackets, address, operand, names, row}
 use Rattle.statement.specs.Reading.{opcodeLen, readOf}
+use Rattle.statement.specs.Canonical.{sparse, opcodeOf}
 
 -- ---- operands in a text
 -- after a byte we are inside braces: an opening one was met, or we were and it closes none
@@ -46,6 +50,28 @@ operandPlace text i = length text - length (operandFrom text i)
 
 unfoldable pub namePlace : List ℕ → ℕ → ℕ
 namePlace text i = length text - length (nameFrom text i)
+
+-- ---- operands of a statement
+abbrev pub isAddress : Slot → Bool
+isAddress name = false
+isAddress (number limit) = false
+isAddress inBrackets = false
+isAddress address = true
+isAddress operand = false
+isAddress names = false
+
+-- how many operands stand before the first address of a row
+abbrev pub beforeAddress : List Slot → ℕ
+beforeAddress [] = 0
+beforeAddress (k ∷ ks) = cond (isAddress k) 0 (suc (beforeAddress ks))
+
+-- which operand the address of a ld or st is
+abbrev pub addressAt : Statement → ℕ
+addressAt t = beforeAddress (row (opcodeOf t))
+
+-- which operand idesc is: the metadata stands before it
+abbrev pub idescAt : Mma → ℕ
+idescAt m = cond (sparse (m .metadata)) 4 3
 
 -- ---- columns
 -- where reading stopped; 0 for a text that reads

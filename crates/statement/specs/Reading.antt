@@ -120,9 +120,19 @@ wholeC text = wholeBy text (drop (opcodeLen text) text) (recognise (take (opcode
 abbrev pub longestText : ℕ
 longestText = 4096
 
--- what a text reads as: a longer one as nothing
+-- what a text reads as, its length aside
+abbrev pub formOf : List ℕ → Reading
+formOf text = answerOf text (wholeC text .next) (wholeC text .value .statement)
+
+-- and as one that is too long: no form goes on where none did, or past its end
+abbrev pub overlong : (end : ℕ) → Reading → Reading
+overlong end (Got t) = NoForm end
+overlong end (NoForm at) = NoForm at
+overlong end (TooLarge at) = NoForm end
+
+-- what a text reads as
 unfoldable pub readOf : List ℕ → Reading
-readOf text = cond (leb (length text) longestText) (answerOf text (wholeC text .next) (wholeC text .value .statement)) (NoForm longestText)
+readOf text = cond (leb (length text) longestText) (formOf text) (overlong (length text) (formOf text))
 
 -- the number of an answer
 abbrev pub reasonOf : Reading → ℕ

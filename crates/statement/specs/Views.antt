@@ -139,13 +139,13 @@ isExit t = exitIn (actOf t)
 abbrev pub isBooking : Statement → Bool
 isBooking t = bookingIn (actOf t)
 
--- a test of what a view shows
-abbrev pub for : {A : Type 0} → Option A → (A → Bool) → Option Bool
+-- what is asked of what a view shows
+abbrev pub for : {A B : Type 0} → Option A → (A → B) → Option B
 for none f = none
 for (some a) f = some (f a)
 
--- a test that is asked only of what is so
-abbrev pub when : Bool → Bool → Option Bool
+-- what is asked only of what is so
+abbrev pub when : {A : Type 0} → Bool → A → Option A
 when false b = none
 when true b = some b
 

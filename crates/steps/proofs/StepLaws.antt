@@ -21,7 +21,8 @@ use Rattle.statement.specs.Views.{actOf, nothing}
 use Rattle.statement.proofs.Statement.{enum, the-type}
 use Rattle.statement.proofs.Variants.{at-each}
 use Rattle.rules.specs.State.{State, Binding, lowest, isLive, isBound, bind}
-use Rattle.rules.specs.Reasons.{openRules, closedRules, rules}
+use Rattle.rules.specs.Rows.{rulesOf}
+use Rattle.rules.specs.Reasons.{openRows, openRules, closedRows, closedRules, rows, rules}
 use Rattle.rules.proofs.ByAct.{movRules, first-broken, alloc-legal}
 use Rattle.statement.specs.Cells.{counted}
 use Rattle.rules.specs.Sheet.{statement, effect, given, requested, released, moved, startList}
@@ -73,9 +74,9 @@ quiet-gives a status s k R reason e = record {
 -- ---- before and after exit
 open-is : (held w : ℕ) (t : Statement) (a : Arrays) (status : Status) (r : Step) (after : Arrays) → status .exited ≡ false → OpenDone held w t a status r after
     → StatementDone held w t a status r after
-unfolding rules
+unfolding rules rows openRules closedRules
 open-is held w t a status r after e d s k =
-    subst (λ (b : Bool). Gives (firstBroken (cond b (closedRules t) (openRules lowest s held w t))) (effect lowest s w (actOf t)) (given lowest s (statement w t)) (requested (statement w t)) (released (statement w t)) a status r after)
+    subst (λ (b : Bool). Gives (firstBroken (rulesOf (cond b (closedRows t) (openRows lowest s held w t)))) (effect lowest s w (actOf t)) (given lowest s (statement w t)) (requested (statement w t)) (released (statement w t)) a status r after)
     (sym e ∙ k .exited) (d s k)
 
 -- an arm of the match
@@ -89,14 +90,14 @@ five-or-fifteen true e = absurd (omega arith)
 five-or-fifteen false e = absurd (omega arith)
 
 closed-not : (t : Statement) → firstBroken (closedRules t) ≡ 0 → ⊥
-unfolding closedRules
+unfolding closedRules closedRows
 closed-not t e = five-or-fifteen (counted t) e
 
 closed-only : (held w : ℕ) (t : Statement) (a : Arrays) (status : Status) (reason : ℕ) → status .exited ≡ true → reason ≡ firstBroken (closedRules t)
     → StatementDone held w t a status (only status reason) a
-unfolding rules
+unfolding rules rows openRules closedRules
 closed-only held w t a status reason e f s k =
-    subst (λ (b : Bool). Gives (firstBroken (cond b (closedRules t) (openRules lowest s held w t))) (effect lowest s w (actOf t)) (given lowest s (statement w t)) (requested (statement w t)) (released (statement w t)) a status (only status reason) a)
+    subst (λ (b : Bool). Gives (firstBroken (rulesOf (cond b (closedRows t) (openRows lowest s held w t)))) (effect lowest s w (actOf t)) (given lowest s (statement w t)) (requested (statement w t)) (released (statement w t)) a status (only status reason) a)
     (sym e ∙ k .exited)
     (refused-gives a status (firstBroken (closedRules t)) reason (effect lowest s w (actOf t)) (given lowest s (statement w t)) (requested (statement w t)) (released (statement w t)) f (λ y. closed-not t (sym f ∙ y)))
 

@@ -1,5 +1,5 @@
 -- `checks::closed_reason` meets its contract: reason 5's test decides. Assumes nothing.
-use Rattle.rules.specs.Reasons.{closedRules}
+use Rattle.rules.specs.Reasons.{closedRows, closedRules}
 use borrow.Author.Needs.{needs}
 use Rattle.checks.proofs.closed_reason.Statement.{statement}
 use Rattle.checks.proofs.closed_reason.Tie as tie
@@ -8,11 +8,11 @@ is-counted-requires : tie.Need-is-counted-requires
 is-counted-requires c κs = search needs
 
 returns : tie.Need-returns
-unfolding closedRules
+unfolding closedRules closedRows
 returns c = rw (← c .before .is-counted .ensures, c .if1 .taken)
 
 returns-2 : tie.Need-returns-2
-unfolding closedRules
+unfolding closedRules closedRows
 returns-2 c = rw (← c .before .is-counted .ensures, c .if1 .left)
 
 pub closed-reason-spec : {M : Type 1} → statement M

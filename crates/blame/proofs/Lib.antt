@@ -1,0 +1,2 @@
+-- The laws of what a reason points at.
+pub mod BlameLaws

@@ -1,0 +1,105 @@
+-- Where the operands of a statement stand in its text, in every text that spells it. The spelling has each operand's own bytes: the first operand's after the
+-- opcode, each other's after its comma. `Placed` says that the places which a column is counted from are those of these bytes. Assumes nothing.
+use Prim.Native.Nat.{ℕ, suc, _<_}
+use mathlib.Core.Path.{_≡_}
+use mathlib.Core.List.{List, [], _∷_}
+use mathlib.Core.Bool.{true}
+use lib.ListN.{length, drop}
+use Rattle.tokens.specs.Text.{byte}
+use Rattle.tokens.specs.declared.Name.{Name}
+use Rattle.tokens.specs.Bytes.{afterBlanks, tokenOf}
+use Rattle.tokens.specs.Names.{isName, packed}
+use Rattle.tokens.specs.Numbers.{isNumber, valueOf}
+use Rattle.statement.specs.declared.Operand.{Operand}
+use Rattle.statement.specs.declared.Operand.the-variants as operand
+use Rattle.statement.specs.Forms.{Slot, name, number, inBrackets, address, operand, names, Value, Values, row, Whole}
+use Rattle.statement.specs.Canonical.{opcodeOf, valuesOf}
+use Rattle.statement.specs.Positions.{operandPlace, namePlace}
+use Rattle.grammar.specs.Spells.{OperandText, byName, byAddress, SlotText, MoreRow, RowText, Spells}
+
+-- ---- the operands of a spelling
+-- one of them: its slot and value, and that `from` starts with its spelling
+pub record Part : Type 0 where
+  pub slot : Slot
+  pub value : Value slot
+  pub from : List ℕ
+  pub rest : List ℕ
+  pub spelled : SlotText slot value from rest
+
+abbrev pub moreParts : (ks : List Slot) (v : Values ks) (l : List ℕ) → MoreRow ks v l → List Part
+moreParts [] v l t = []
+moreParts (k ∷ ks) v l t = record { slot = k; value = v .0; from = t .0; rest = t .1; spelled = t .3 } ∷ moreParts ks (v .1) (t .1) (t .4)
+
+abbrev pub rowParts : (ks : List Slot) (v : Values ks) (l : List ℕ) → RowText ks v l → List Part
+rowParts [] v l t = []
+rowParts (k ∷ ks) v l t = record { slot = k; value = v .0; from = l; rest = t .0; spelled = t .1 } ∷ moreParts ks (v .1) (t .0) (t .2)
+
+-- in the order of the text
+abbrev pub partsOf : {w : Whole} {text : List ℕ} → Spells w text → List Part
+partsOf s = rowParts (row (s .opcode)) (s .values) (s .rest) (s .operands)
+
+-- where the name of an operand starts: after the bracket, if one opens it; of one without a name, where the operand does
+abbrev pub operandName : {v : Operand} {l r : List ℕ} → OperandText v l r → List ℕ
+operandName {l = l} (byName t) = l
+operandName (byAddress t) = t .l₁
+
+abbrev pub nameIn : (k : Slot) (v : Value k) (l r : List ℕ) → SlotText k v l r → List ℕ
+nameIn name v l r t = l
+nameIn (number limit) v l r t = l
+nameIn inBrackets v l r t = t .l₁
+nameIn address v l r t = t .l₁
+nameIn operand v l r t = operandName t
+nameIn names v l r t = l
+
+-- ---- what stands at a place
+-- the token there is this name, this number, this mark
+abbrev pub NameAt : Name → List ℕ → Type 0
+NameAt n l = (isName (tokenOf l) ≡ true) × (packed (tokenOf l) ≡ n)
+
+abbrev pub NumberAt : ℕ → List ℕ → Type 0
+NumberAt v l = (isNumber (tokenOf l) ≡ true) × (valueOf (tokenOf l) ≡ v)
+
+abbrev pub MarkAt : ℕ → List ℕ → Type 0
+MarkAt m l = tokenOf l ≡ m ∷ []
+
+-- at an operand's place, and at that of its name
+abbrev pub OperandShows : Operand → (here inner : List ℕ) → Type 0
+OperandShows (operand.Descriptor n) here inner = (here ≡ inner) × NameAt n inner
+OperandShows (operand.Address a) here inner = MarkAt (byte "[") here × NameAt (a .base) inner
+
+abbrev pub Shows : (k : Slot) → Value k → (here inner : List ℕ) → Type 0
+Shows name v here inner = (here ≡ inner) × NameAt v inner
+Shows (number limit) v here inner = NumberAt v here
+Shows inBrackets v here inner = MarkAt (byte "[") here × NameAt v inner
+Shows address v here inner = MarkAt (byte "[") here × NameAt (v .base) inner
+Shows operand v here inner = OperandShows v here inner
+Shows names v here inner = MarkAt (byte "{") here
+
+-- ---- the claim
+-- of operand i of a text, by its spelling
+pub record Placed (text : List ℕ) (i : ℕ) (p : Part) : Type 0 where
+  -- At its place, which is in the text, stands the first byte of its spelling that is no space,
+  pub inside : operandPlace text i < length text
+  pub from : drop (operandPlace text i) text ≡ afterBlanks (p .from)
+  -- at the place of its name the first byte of its name,
+  pub nameInside : namePlace text i < length text
+  pub named : drop (namePlace text i) text ≡ afterBlanks (nameIn (p .slot) (p .value) (p .from) (p .rest) (p .spelled))
+  -- and the tokens at both are what its slot and its value say.
+  pub shows : Shows (p .slot) (p .value) (drop (operandPlace text i) text) (drop (namePlace text i) text)
+
+-- of each of them, the first of which is operand i
+abbrev pub AllPlaced : List ℕ → ℕ → List Part → Type 0
+AllPlaced text i [] = Unit {0}
+AllPlaced text i (p ∷ ps) = Placed text i p × AllPlaced text (suc i) ps
+
+-- at the place of each operand, the first of which is operand i, and at that of its name, stands what these slots and values say
+abbrev pub AllShown : List ℕ → ℕ → (ks : List Slot) → Values ks → Type 0
+AllShown text i [] v = Unit {0}
+AllShown text i (k ∷ ks) v = Shows k (v .0) (drop (operandPlace text i) text) (drop (namePlace text i) text) × AllShown text (suc i) ks (v .1)
+
+-- of a text, of whatever statement it spells, and however
+pub record OperandsPlaced (text : List ℕ) : Type 0 where
+  -- Each operand of its spelling is placed,
+  pub each : (w : Whole) (s : Spells w text) → AllPlaced text 0 (partsOf s)
+  -- so at each place stands that operand of the statement.
+  pub shown : (w : Whole) → Spells w text → AllShown text 0 (row (opcodeOf (w .statement))) (valuesOf (w .statement) (w .registers))
