@@ -9,7 +9,8 @@ use Rattle.statement.specs.declared.Reading.the-variants.{Got, NoForm, TooLarge
 use Rattle.statement.specs.declared.Written.the-variants.{Refused}
 use Rattle.statement.specs.Reading.{readOf, reasonOf}
 use Rattle.statement.specs.Positions.{stopIn}
-use Rattle.statement.proofs.Readings.{Unread, stop-le}
+use Rattle.statement.proofs.Readings.{Unread}
+use Rattle.statement.proofs.Stops.{stop-le}
 use Rattle.canonical.specs.Alone.{rewritten, leftOf}
 
 -- where reading stopped is within the text, or at its end

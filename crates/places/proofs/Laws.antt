@@ -18,7 +18,7 @@ use Rattle.statement.specs.declared.Reading.{Reading}
 use Rattle.statement.specs.declared.Reading.the-variants.{NoForm}
 use Rattle.statement.specs.declared.Position.the-variants.{Token, Name, Operand}
 use Rattle.statement.specs.Reading.{opcodeLen, wholeC, answerOf, longestText, readOf}
-use Rattle.statement.proofs.Readings.{stop-le}
+use Rattle.statement.proofs.Stops.{stop-le}
 use Rattle.statement.specs.Positions.{within, afterComma, afterCommas, operandFrom, afterBracket, nameFrom, operandPlace, namePlace, stopIn, statementColumn, columnOf}
 
 -- ---- commas
