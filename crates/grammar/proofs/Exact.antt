@@ -7,7 +7,7 @@ use mathlib.Core.Bool.{Bool, true, false, _&&_, not, cond}
 use lib.ListN.{length, take, drop, take-append-drop}
 use lib.Seq.{take-append-seam, drop-append-seam}
 use lib.Dec.{leb}
-use borrow.Author.Tests.{le-leb, leb-true}
+use borrow.Author.Tests.{le-leb, lt-leb, leb-true}
 use Rattle.tokens.specs.declared.Name.{Name}
 use Rattle.tokens.specs.Bytes.{opcodeByte, runLen}
 use Rattle.tokens.specs.Cursors.{Rest, Took}
@@ -17,13 +17,12 @@ use Rattle.statement.specs.declared.Statement.{Statement}
 use Rattle.statement.specs.declared.Opcode.{Opcode}
 use Rattle.statement.specs.declared.Found.{Found}
 use Rattle.statement.specs.declared.Found.the-variants.{Is, Nothing}
-use Rattle.statement.specs.declared.Reading.the-variants.{Got, NoForm, TooLarge}
+use Rattle.statement.specs.declared.Reading.the-variants.{Got, NoForm}
 use Rattle.statement.specs.Forms.{word, Slot, name, number, inBrackets, address, operand, names, Value, Values, maxOffset, row, Whole, make}
 use Rattle.statement.specs.Opcodes.{recognise}
-use Rattle.statement.specs.Reading.{operandsC, start, wholeBy, opcodeLen, wholeC, answerOf, formOf, overlong, readOf, reasonOf, registersOf}
+use Rattle.statement.specs.Reading.{operandsC, start, wholeBy, opcodeLen, wholeC, answerOf, readOf, reasonOf, registersOf}
 use Rattle.grammar.specs.Spells.{RowText, Spells, sizedSlot, sizedRow, sized}
 use Rattle.grammar.specs.Claims.{Exact}
-use Rattle.statement.proofs.Readings.{read-long, overlong-three}
 use Rattle.statement.proofs.Words.{recognised, recognises, clean}
 use Rattle.statement.proofs.Each.{each-opcode}
 use Rattle.laws.proofs.BoolLaws.{never}
@@ -165,19 +164,25 @@ over-four w text h =
     let m = spells-met w text (h .0) in
     rw (le-leb (length text) 4096 (h .2), m .next, h .1)
 
--- no form goes on where reading stopped
-pub form-stopped : (text : List ℕ) → wholeC text .next .ok ≡ false → formOf text ≡ NoForm (length text - length (wholeC text .next .rest))
-unfolding answerOf
-form-stopped text e = rw e
+-- reason 3, where reading stopped, and past the end of a longer text
+pub stopped-three : (text : List ℕ) → wholeC text .next .ok ≡ false → readOf text ≡ NoForm (length text - length (wholeC text .next .rest))
+unfolding readOf answerOf
+stopped-three text e = rw e
+
+long-three : (text : List ℕ) → wholeC text .next .ok ≡ true → leb (length text) 4096 ≡ false → readOf text ≡ NoForm (length text)
+unfolding readOf answerOf
+long-three text e n = rw (e, n)
 
 none-three : (text : List ℕ) → None text → reasonOf (readOf text) ≡ 3
-unfolding readOf
 none-three text h = go (leb (length text) 4096) (wholeC text .next .ok) refl refl
   where
-    go : (b c : Bool) → leb (length text) 4096 ≡ b → wholeC text .next .ok ≡ c → reasonOf (cond b (formOf text) (overlong (length text) (formOf text))) ≡ 3
+    go : (b c : Bool) → leb (length text) 4096 ≡ b → wholeC text .next .ok ≡ c → reasonOf (readOf text) ≡ 3
     go true true p q = let s = read-spells text q in absurd (h (leb-true (length text) 4096 p) (s .0) (s .1))
-    go true false p q = ap reasonOf (form-stopped text q)
-    go false c p q = overlong-three (length text) (formOf text)
+    go false true p q = ap reasonOf (long-three text q p)
+    go b false p q = ap reasonOf (stopped-three text q)
+
+pub long : (text : List ℕ) (w : Whole) → Spells w text → 4096 < length text → readOf text ≡ NoForm (length text)
+long text w s h = long-three text (ap (λ (r : Rest). r .ok) (spells-met w text s .next)) (lt-leb (length text) 4096 h)
 
 -- every text has one of them
 data Verdict (text : List ℕ) : Type 0 where
@@ -252,18 +257,6 @@ one-reading text v w a b =
   where
     is-same : (c d : Opcode) → Is c ≡ Is d → c ≡ d
     is-same c d h = cc
-
--- ---- over 4,096 bytes
-form-spelled : (text : List ℕ) (w : Whole) → Spells w text → overlong (length text) (formOf text) ≡ NoForm (length text)
-unfolding answerOf
-form-spelled text w s = let m = spells-met w text s in rw (m .next) (go (sized (w .statement)))
-  where
-    go : (b : Bool) → overlong (length text) (cond (not b) (TooLarge (length text - length (spells-met w text s .far))) (Got (wholeC text .value .statement))) ≡ NoForm (length text)
-    go true = refl
-    go false = refl
-
-pub long : (text : List ℕ) (w : Whole) → Spells w text → 4096 < length text → readOf text ≡ NoForm (length text)
-long text w s h = read-long text h ∙ form-spelled text w s
 
 pub exact : (text : List ℕ) → Exact text
 exact text =

@@ -15,18 +15,16 @@ use Rattle.statement.specs.declared.Statement.{Statement}
 use Rattle.statement.specs.declared.Opcode.{Opcode}
 use Rattle.statement.specs.declared.Found.{Found}
 use Rattle.statement.specs.declared.Found.the-variants.{Is, Nothing}
-use Rattle.statement.specs.declared.Reading.{Reading}
 use Rattle.statement.specs.declared.Reading.the-variants.{Got, NoForm, TooLarge}
 use Rattle.statement.specs.Forms.{number, row, Whole, word, make}
 use Rattle.statement.specs.Opcodes.{recognise}
-use Rattle.statement.specs.Reading.{operandsC, start, opcodeLen, wholeBy, wholeC, answerOf, formOf, overlong, readOf, reasonOf}
+use Rattle.statement.specs.Reading.{operandsC, start, opcodeLen, wholeBy, wholeC, answerOf, readOf}
 use Rattle.grammar.specs.Spells.{Spells, sized}
 use Rattle.grammar.specs.Claims.{Stops, Place, Over}
-use Rattle.statement.proofs.Readings.{overlong-three}
 use Rattle.statement.proofs.Words.{recognised, recognises}
 use Rattle.grammar.proofs.Rows.{row-sound}
-use Rattle.grammar.proofs.Exact.{whole-at, Met, spells-met, read-spells, form-stopped}
-use Rattle.laws.proofs.BoolLaws.{never, cond-same}
+use Rattle.grammar.proofs.Exact.{whole-at, Met, spells-met, read-spells, stopped-three}
+use Rattle.laws.proofs.BoolLaws.{never}
 use Rattle.grammar.proofs.Overs.{whole-far}
 use Rattle.grammar.proofs.Readers.{ends, rowPlan, row-runs}
 use Rattle.grammar.proofs.Stops.{Stand, bad, Row, reads, takes, Stop, stop, head-none, run-stops, same-head, heads, lights}
@@ -132,10 +130,9 @@ unread text none = go (wholeC text .next .ok) refl
     go true e = let s = read-spells text e in absurd (none (s .0) (s .1))
     go false e = refl
 
--- and it stopped there, whether or not the text is too long
+-- and it stopped there
 stopped : (text : List ℕ) (p : ℕ) → wholeC text .next .ok ≡ false → readOf text ≡ NoForm p → p ≡ length text - length (wholeC text .next .rest)
-unfolding readOf
-stopped text p e h = let g : readOf text ≡ NoForm (length text - length (wholeC text .next .rest)) = rw (form-stopped text e) (cond-same (leb (length text) 4096) _) in let z = sym h ∙ g in cc
+stopped text p e h = let z = sym h ∙ stopped-three text e in cc
 
 no-opcode : (text : List ℕ) (found : Found) → recognise (take (opcodeLen text) text) ≡ found → ((o : Opcode) → take (opcodeLen text) text ≡ word o → ⊥) → wholeBy text (drop (opcodeLen text) text) found .next .rest ≡ text
 no-opcode text (Is o) e h = absurd (h o (recognises (take (opcodeLen text) text) o e))
@@ -156,21 +153,17 @@ places text p none h =
     }
 
 -- ---- reason 4
-four-by : (b o : Bool) (k q p : ℕ) (t : Statement) → cond b (cond o (TooLarge k) (Got t)) (NoForm q) ≡ TooLarge p → (b ≡ true) × (o ≡ true) × (p ≡ k)
-four-by true true k q p t h = (refl, refl, cc)
-four-by true false k q p t h = absurd (let z : _≡_ {A = ℕ} 0 1 = cc in omega arith)
-four-by false o k q p t h = absurd (let z : _≡_ {A = ℕ} 0 1 = cc in omega arith)
-
--- it is given by the form alone
-four-form : (a : Bool) (n p : ℕ) (r : Reading) → cond a r (overlong n r) ≡ TooLarge p → r ≡ TooLarge p
-four-form true n p r h = h
-four-form false n p r h = absurd (let z : _≡_ {A = ℕ} 3 4 = sym (overlong-three n r) ∙ ap reasonOf h in omega arith)
+four-by : (a b o : Bool) (k n q p : ℕ) (t : Statement) → cond b (cond a (cond o (TooLarge k) (Got t)) (NoForm n)) (NoForm q) ≡ TooLarge p → (b ≡ true) × (o ≡ true) × (p ≡ k)
+four-by true true true k n q p t h = (refl, refl, cc)
+four-by true true false k n q p t h = absurd (let z : _≡_ {A = ℕ} 0 1 = cc in omega arith)
+four-by false true o k n q p t h = absurd (let z : _≡_ {A = ℕ} 0 1 = cc in omega arith)
+four-by a false o k n q p t h = absurd (let z : _≡_ {A = ℕ} 0 1 = cc in omega arith)
 
 over-at : (text : List ℕ) (p : ℕ) → readOf text ≡ TooLarge p → (wholeC text .next .ok ≡ true) × (wholeC text .next .over ≡ true) × (p ≡ length text - length (wholeC text .next .far))
 unfolding readOf answerOf
 over-at text p h =
     let r = wholeC text .next in
-    four-by (r .ok) (r .over) (length text - length (r .far)) (length text - length (r .rest)) p (wholeC text .value .statement) (four-form (leb (length text) 4096) (length text) p (formOf text) h)
+    four-by (leb (length text) 4096) (r .ok) (r .over) (length text - length (r .far)) (length text) (length text - length (r .rest)) p (wholeC text .value .statement) h
 
 some-opcode : (text : List ℕ) (found : Found) → recognise (take (opcodeLen text) text) ≡ found → wholeBy text (drop (opcodeLen text) text) found .next .ok ≡ true → (o : Opcode) × (take (opcodeLen text) text ≡ word o)
 some-opcode text (Is o) e h = (o, recognises (take (opcodeLen text) text) o e)

@@ -5,13 +5,13 @@ use native.Mathlib.Nat.{sub-self}
 use native.Mathlib.Omega.{arith}
 use mathlib.Core.Path.{_≡_, refl, sym, ap, _∙_}
 use mathlib.Core.List.{List, [], _∷_}
-use mathlib.Core.Bool.{Bool, true, false, cond}
+use mathlib.Core.Bool.{Bool, true, false, _&&_, cond, and-false}
 use lib.ListN.{length, set, take, drop}
 use lib.Seq.{sets}
 use lib.Dec.{leb}
 use types.Run.{OneOf}
 use denote.Enum.Declared.{tagOf}
-use borrow.Author.Tests.{leb-true, le-leb, lt-leb}
+use borrow.Author.Tests.{leb-true}
 use Rattle.tokens.specs.declared.Name.{Name}
 use Rattle.tokens.specs.declared.Cursor.{Cursor}
 use Rattle.tokens.specs.declared.NameRead.{NameRead}
@@ -30,9 +30,8 @@ use Rattle.statement.specs.declared.Reading.{Reading}
 use Rattle.statement.specs.declared.Reading.the-variants.{Got, NoForm}
 use Rattle.statement.specs.Forms.{name, number, Values, Whole, plain}
 use Rattle.statement.specs.Opcodes.{recognise}
-use Rattle.statement.specs.Reading.{addressC, operandC, moreC, tally, his, los, answerOf, moreRowC, rowC, operandsC, start, opcodeLen, wholeBy, wholeC, overlong, readOf, fine, registersOf, told}
-use Rattle.laws.proofs.BoolLaws.{cond-same}
-use Rattle.statement.proofs.Readings.{Unread, read-short, read-long}
+use Rattle.statement.specs.Reading.{addressC, operandC, moreC, tally, his, los, answerOf, moreRowC, rowC, operandsC, start, opcodeLen, wholeBy, wholeC, longestText, readOf, fine, registersOf, told}
+use Rattle.statement.proofs.Readings.{Unread}
 use Rattle.opcode.specs.declared.Head.{Head}
 use Rattle.opcode.specs.Heads.{headSeen, headBy, headOf}
 use Rattle.statement.proofs.Opcode.{enum, the-type}
@@ -143,45 +142,45 @@ module _ (s : List ℕ) (h : Head) (is : headSeen s h ≡ headOf s) where
 -- ---- the answer
 pub read-none : (s : List ℕ) → wholeC s ≡ record { value = plain Exit; next = off (start s) s } → NoForm 0 ≡ readOf s
 unfolding readOf answerOf
-read-none s w = rw (w, sub-self (length s)) (sym (cond-same (leb (length s) 4096) (NoForm 0)))
+read-none s w = rw (w, sub-self (length s))
 
-pub read-told : (s : List ℕ) (t : Took Whole) → length s ≤ 4096 → wholeC s ≡ t → told s t ≡ readOf s
-read-told s t h w = sym (read-short s h ∙ ap (told s) w)
+pub read-told : (s : List ℕ) (t : Took Whole) → wholeC s ≡ t → told s t ≡ readOf s
+unfolding readOf
+read-told s t w = rw w
 
-pub read-refused : (s : List ℕ) (t : Took Whole) → 4096 < length s → wholeC s ≡ t → overlong (length s) (told s t) ≡ readOf s
-read-refused s t h w = sym (read-long s h ∙ ap (λ (u : Took Whole). overlong (length s) (told s u)) w)
+-- a text reads if it is short enough and its reading ended well
+abbrev good : List ℕ → Rest → Bool
+good text r = leb (length text) longestText && fine r
 
-fine-by : (text : List ℕ) (r : Rest) (t u : Statement) (ok over : Bool) → r .ok ≡ ok → r .over ≡ over → answerOf text r t ≡ Got u → fine r ≡ true
+good-by : (text : List ℕ) (r : Rest) (t u : Statement) (short ok over : Bool) → leb (length text) 4096 ≡ short → r .ok ≡ ok → r .over ≡ over → answerOf text r t ≡ Got u → good text r ≡ true
 unfolding answerOf
-fine-by text r t u true false p q h = rw (p, q)
-fine-by text r t u true true p q h = absurd (let g = rw (p, q) at h in let z : _≡_ {A = ℕ} 0 1 = cc in omega arith)
-fine-by text r t u false over p q h = absurd (let g = rw p at h in let z : _≡_ {A = ℕ} 0 1 = cc in omega arith)
+good-by text r t u true true false n p q h = rw (n, p, q)
+good-by text r t u true true true n p q h = absurd (let g = rw (n, p, q) at h in let z : _≡_ {A = ℕ} 0 1 = cc in omega arith)
+good-by text r t u false true over n p q h = absurd (let g = rw (n, p) at h in let z : _≡_ {A = ℕ} 0 1 = cc in omega arith)
+good-by text r t u short false over n p q h = absurd (let g = rw p at h in let z : _≡_ {A = ℕ} 0 1 = cc in omega arith)
 
-not-fine-by : (text : List ℕ) (r : Rest) (t : Statement) (ok over : Bool) → r .ok ≡ ok → r .over ≡ over → Unread (answerOf text r t) → fine r ≡ false
+not-good-by : (text : List ℕ) (r : Rest) (t : Statement) (short ok over : Bool) → leb (length text) 4096 ≡ short → r .ok ≡ ok → r .over ≡ over → Unread (answerOf text r t) → good text r ≡ false
 unfolding answerOf
-not-fine-by text r t true false p q h = absurd (h t (rw (p, q)))
-not-fine-by text r t true true p q h = rw (p, q)
-not-fine-by text r t false over p q h = rw p
+not-good-by text r t true true false n p q h = absurd (h t (rw (n, p, q)))
+not-good-by text r t true true true n p q h = rw (n, p, q)
+not-good-by text r t true false over n p q h = rw (n, p)
+not-good-by text r t false ok over n p q h = rw n
 
 -- ---- the registers
-pub registers-long : (s : List ℕ) → 4096 < length s → registersOf s ≡ []
+pub registers-none : (s : List ℕ) → wholeC s ≡ record { value = plain Exit; next = off (start s) s } → registersOf s ≡ []
 unfolding registersOf
-registers-long s h = rw (lt-leb (length s) 4096 h)
+registers-none s w = rw (w, and-false (leb (length s) 4096))
 
-pub registers-none : (s : List ℕ) → length s ≤ 4096 → wholeC s ≡ record { value = plain Exit; next = off (start s) s } → registersOf s ≡ []
-unfolding registersOf
-registers-none s h w = rw (le-leb (length s) 4096 h, w)
-
-module _ (s : List ℕ) (t : Took Whole) (answer : Reading) (short : length s ≤ 4096) (whole : wholeC s ≡ t) (told-is : answer ≡ told s t) where
+module _ (s : List ℕ) (t : Took Whole) (answer : Reading) (whole : wholeC s ≡ t) (told-is : answer ≡ told s t) where
   pub registers-got : (u : Statement) → answer ≡ Got u → registersOf s ≡ t .value .registers
   unfolding registersOf
   registers-got u g =
-      rw (le-leb (length s) 4096 short, whole, fine-by s (t .next) (t .value .statement) u (t .next .ok) (t .next .over) refl refl (sym told-is ∙ g))
+      rw (whole, good-by s (t .next) (t .value .statement) u (leb (length s) 4096) (t .next .ok) (t .next .over) refl refl refl (sym told-is ∙ g))
 
   pub registers-unread : Unread answer → registersOf s ≡ []
   unfolding registersOf
   registers-unread h =
-      rw (le-leb (length s) 4096 short, whole, not-fine-by s (t .next) (t .value .statement) (t .next .ok) (t .next .over) refl refl (λ u g. h u (told-is ∙ g)))
+      rw (whole, not-good-by s (t .next) (t .value .statement) (leb (length s) 4096) (t .next .ok) (t .next .over) refl refl refl (λ u g. h u (told-is ∙ g)))
 
 -- every opcode but Load (5) and Store (6), by its place in the declaration
 abbrev others : List ℕ

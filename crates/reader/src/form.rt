@@ -19,7 +19,10 @@ ghost use Rattle.statement.specs.declared.Opcode.the-variants as opcode;
 ghost use Rattle.statement.specs.Reading.{answerOf, operandsC, told};
 ghost use Rattle.reader.specs.Rows.{pairedOpcode, bracketedOf, limitOf, madeOf, pairC, pairSeen, metadataC, metadataSeen};
 
-// No form where reading stopped, too large where a number was, else the statement.
+// The most bytes of a text that reads.
+const LONGEST: usize = 4096;
+
+// No form where reading stopped, or past the end of a longer text; too large where a number was; else the statement.
 pub fn answer(s: &[u8], k: Cursor, t: Statement) -> Reading
     ensures { λ r. ⌜ r ≡ answerOf (now (s .entry)) (seen (now (s .entry)) k) t ⌝ }
 {
@@ -27,6 +30,9 @@ pub fn answer(s: &[u8], k: Cursor, t: Statement) -> Reading
     let far = k.far;
     if !k.ok {
         return Reading::NoForm(lexer::cursor::place(s, at));
+    }
+    if LONGEST < s.len() {
+        return Reading::NoForm(s.len());
     }
     if k.over {
         return Reading::TooLarge(lexer::cursor::place(s, far));

@@ -13,11 +13,8 @@ ghost use mathlib.Core.Path.{_≡_};
 ghost use lib.ListN.{length};
 ghost use lib.Seq.{sets};
 ghost use Rattle.tokens.specs.Cursors.{seen};
-ghost use Rattle.statement.specs.Reading.{overlong, readOf, reasonOf, registersOf, his, los, operandsC, told};
+ghost use Rattle.statement.specs.Reading.{readOf, reasonOf, registersOf, his, los, operandsC, told};
 ghost use Rattle.reader.specs.Lists.{listC};
-
-// The most bytes of a text that reads.
-const LONGEST: usize = 4096;
 
 // The forms of a name and a number.
 pub enum Paired {
@@ -62,17 +59,6 @@ pub fn operands(s: &[u8], k: Cursor, o: Opcode) -> Reading
     form::pair(s, k, t)
 }
 
-// The answer where the text is too long: the position that no form goes on at, or the text's end.
-pub fn refused(s: &[u8], k: Cursor, o: Opcode) -> Reading
-    ensures { λ r. ⌜ r ≡ overlong (length (now (s .entry))) (told (now (s .entry)) (operandsC o (seen (now (s .entry)) k))) ⌝ }
-{
-    match operands(s, k, o) {
-        Reading::Got(_) => Reading::NoForm(s.len()),
-        Reading::NoForm(at) => Reading::NoForm(at),
-        Reading::TooLarge(_) => Reading::NoForm(s.len()),
-    }
-}
-
 // A statement, or the position of the token that no form or no number of that size goes on at.
 pub fn read(s: &[u8]) -> Reading
     ensures { λ r. ⌜ r ≡ readOf (now (s .entry)) ⌝ }
@@ -83,16 +69,16 @@ pub fn read(s: &[u8]) -> Reading
     let Found::Is(o) = f else {
         return Reading::NoForm(0);
     };
-    let k = Cursor {
-        at: e,
-        ok: true,
-        over: false,
-        far: e,
-    };
-    if LONGEST < s.len() {
-        return refused(s, k, o);
-    }
-    operands(s, k, o)
+    operands(
+        s,
+        Cursor {
+            at: e,
+            ok: true,
+            over: false,
+            far: e,
+        },
+        o,
+    )
 }
 
 // How many registers the operands of an opcode name; their names go to the first places of hi and lo.
@@ -115,9 +101,6 @@ pub fn registers(s: &[u8], hi: &mut [u64; 128], lo: &mut [u64; 128]) -> usize
     ensures first { λ r. ⌜ now (hi .exit) ≡ sets (now (hi .entry)) 0 (his (registersOf (now (s .entry)))) ⌝ }
     ensures second { λ r. ⌜ now (lo .exit) ≡ sets (now (lo .entry)) 0 (los (registersOf (now (s .entry)))) ⌝ }
 {
-    if LONGEST < s.len() {
-        return 0;
-    }
     let h = opcode::head_of(s);
     let e = h.end;
     let f = h.found;

@@ -93,10 +93,16 @@ rowC (k ∷ ks) r =
     record { value = (v .value, m .value); next = m .next }
 
 -- ---- the answer
--- no form before too large, each with its position in text
+-- the most bytes of a text that reads
+abbrev pub longestText : ℕ
+longestText = 4096
+
+-- no form where reading stopped, or else past the end of a longer text, before too large; each with its position in text
 unfoldable pub answerOf : List ℕ → Rest → Statement → Reading
 answerOf text r t =
-    cond (r .ok) (cond (r .over) (TooLarge (length text - length (r .far))) (Got t)) (NoForm (length text - length (r .rest)))
+    cond (r .ok)
+    (cond (leb (length text) longestText) (cond (r .over) (TooLarge (length text - length (r .far))) (Got t)) (NoForm (length text)))
+    (NoForm (length text - length (r .rest)))
 
 -- the operands of an opcode, read from r on
 unfoldable pub operandsC : Opcode → Rest → Took Whole
@@ -116,23 +122,9 @@ opcodeLen text = runLen opcodeByte text
 unfoldable pub wholeC : List ℕ → Took Whole
 wholeC text = wholeBy text (drop (opcodeLen text) text) (recognise (take (opcodeLen text) text))
 
--- the most bytes of a text that reads
-abbrev pub longestText : ℕ
-longestText = 4096
-
--- what a text reads as, its length aside
-abbrev pub formOf : List ℕ → Reading
-formOf text = answerOf text (wholeC text .next) (wholeC text .value .statement)
-
--- and as one that is too long: no form goes on where none did, or past its end
-abbrev pub overlong : (end : ℕ) → Reading → Reading
-overlong end (Got t) = NoForm end
-overlong end (NoForm at) = NoForm at
-overlong end (TooLarge at) = NoForm end
-
 -- what a text reads as
 unfoldable pub readOf : List ℕ → Reading
-readOf text = cond (leb (length text) longestText) (formOf text) (overlong (length text) (formOf text))
+readOf text = answerOf text (wholeC text .next) (wholeC text .value .statement)
 
 -- the number of an answer
 abbrev pub reasonOf : Reading → ℕ

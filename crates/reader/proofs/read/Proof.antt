@@ -1,6 +1,6 @@
--- `reader::read` meets its contract. One law for each way out: no opcode, too long, and the operands' answer. Assumes nothing.
+-- `reader::read` meets its contract. One law for each way out: no opcode, and the operands' answer. Assumes nothing.
 use mathlib.Core.Path.{_∙_}
-use Rattle.reader.proofs.Laws.{read-none, read-told, read-refused, whole-is, whole-none}
+use Rattle.reader.proofs.Laws.{read-none, read-told, whole-is, whole-none}
 use borrow.Author.Needs.{needs}
 use Rattle.reader.proofs.read.Statement.{statement}
 use Rattle.reader.proofs.read.Tie as tie
@@ -20,35 +20,16 @@ returns c =
     let head-of = c .before .before .head-of in
     read-none (a .s .now) (whole-none (a .s .now) (head-of .result) (head-of .ensures) (c .enum-told .given .1))
 
-refused-requires : tie.Need-refused-requires
-refused-requires c κs = search needs
-
-returns-2 : tie.Need-returns-2
-returns-2 c =
-    let a = c .before .before .before .before .before .before .before .args in
-    let head-of = c .before .before .before .before .before .head-of in
-    c .refused .ensures ∙ read-refused (a .s .now) _ (c .before .if1 .taken) (whole-is (a .s .now) (head-of .result)
-    (head-of .ensures) _ (c .before .before .before .f .given .1))
-
 operands-requires : tie.Need-operands-requires
 operands-requires c κs = search needs
 
-returns-3 : tie.Need-returns-3
-returns-3 c =
-    let a = c .before .before .before .before .before .before .before .args in
-    let head-of = c .before .before .before .before .before .head-of in
-    c .operands .ensures ∙ read-told (a .s .now) _ (c .before .if1 .left) (whole-is (a .s .now) (head-of .result)
-    (head-of .ensures) _ (c .before .before .before .f .given .1))
+returns-2 : tie.Need-returns-2
+returns-2 c =
+    let a = c .before .before .before .before .before .before .args in
+    let head-of = c .before .before .before .before .head-of in
+    c .operands .ensures ∙ read-told (a .s .now) _ (whole-is (a .s .now) (head-of .result) (head-of .ensures) _ (c .before .before .f .given .1))
 
 pub read-spec : {M : Type 1} → statement M
 read-spec =
     tie.close
-    (tie.spec
-    head-of-requires
-    enum-known-f
-    enum-told
-    returns
-    refused-requires
-    returns-2
-    operands-requires
-    returns-3)
+    (tie.spec head-of-requires enum-known-f enum-told returns operands-requires returns-2)

@@ -3,15 +3,10 @@
 use Rattle.statement.specs.Reading.{registersOf}
 use Rattle.statement.proofs.Readings.{unread}
 use Rattle.reader.specs.Lists.{listC}
-use Rattle.reader.proofs.Laws.{none-stored, whole-is, whole-none, registers-long, registers-none, registers-unread, registers-got}
+use Rattle.reader.proofs.Laws.{none-stored, whole-is, whole-none, registers-none, registers-unread, registers-got}
 use borrow.Author.Needs.{needs}
 use Rattle.reader.proofs.registers.Statement.{statement}
 use Rattle.reader.proofs.registers.Tie as tie
-
-returns : tie.Need-returns
-returns c =
-    let a = c .before .before .args in
-    none-stored (a .hi .now) (a .lo .now) (registersOf (a .s .now)) (registers-long (a .s .now) (c .if1 .taken))
 
 head-of-requires : tie.Need-head-of-requires
 head-of-requires c κs = search needs
@@ -22,12 +17,12 @@ enum-known-f c = search needs
 enum-told : tie.Need-enum-told
 enum-told c = search needs
 
-returns-2 : tie.Need-returns-2
-returns-2 c =
-    let a = c .before .before .before .before .before .args in
+returns : tie.Need-returns
+returns c =
+    let a = c .before .before .before .before .args in
     let head-of = c .before .before .head-of in
-    none-stored (a .hi .now) (a .lo .now) (registersOf (a .s .now)) (registers-none (a .s .now) (c .before .before .before .if1 .left) (whole-none
-    (a .s .now) (head-of .result) (head-of .ensures) (c .enum-told .given .1)))
+    none-stored (a .hi .now) (a .lo .now) (registersOf (a .s .now)) (registers-none (a .s .now) (whole-none (a .s .now) (head-of .result)
+    (head-of .ensures) (c .enum-told .given .1)))
 
 operands-requires : tie.Need-operands-requires
 operands-requires c κs = search needs
@@ -35,46 +30,41 @@ operands-requires c κs = search needs
 enum-told-2 : tie.Need-enum-told-2
 enum-told-2 c = search needs
 
-returns-3 : tie.Need-returns-3
-returns-3 c =
+returns-2 : tie.Need-returns-2
+returns-2 c =
     let c₁ = c .before .before .before in
     let c₂ = c₁ .before .before in
-    let c₃ = c₂ .before in
-    let c₄ = c₃ .before .before in
-    let a = c₄ .args in
+    let a = c₂ .before .before .args in
     let head-of = c₂ .head-of in
     let operands = c .before .operands in
-    none-stored (a .hi .now) (a .lo .now) (registersOf (a .s .now)) (registers-unread (a .s .now) _ (operands .result) (c₃ .if1 .left) (whole-is
-    (a .s .now) (head-of .result) (head-of .ensures) _ (c₁ .f .given .1)) (operands .ensures) (unread (operands .result) (c .match2 .keys2)))
+    none-stored (a .hi .now) (a .lo .now) (registersOf (a .s .now)) (registers-unread (a .s .now) _ (operands .result) (whole-is (a .s .now)
+    (head-of .result) (head-of .ensures) _ (c₁ .f .given .1)) (operands .ensures) (unread (operands .result) (c .match2 .keys2)))
 
 list-of-requires : tie.Need-list-of-requires
 list-of-requires c κs = search needs
 
-returns-4 : tie.Need-returns-4
+returns-3 : tie.Need-returns-3
 unfolding listC
-returns-4 c =
+returns-3 c =
     let c₁ = c .before .before .before .before .before in
     let c₂ = c₁ .before .before in
     let c₃ = c₂ .before .before in
-    let c₄ = c₃ .before in
-    let c₅ = c₄ .before .before in
-    let a = c₅ .args in
+    let a = c₃ .before .before .args in
     let head-of = c₃ .head-of in
     let operands = c₁ .operands in
-    rw (registers-got (a .s .now) _ (operands .result) (c₄ .if1 .left) (whole-is (a .s .now) (head-of .result) (head-of .ensures) _ (c₂ .f .given .1))
-    (operands .ensures) _ (c .before .before .before .enum-told2 .given .1)) (c .list-of .ensures)
+    rw (registers-got (a .s .now) _ (operands .result) (whole-is (a .s .now) (head-of .result) (head-of .ensures) _ (c₂ .f .given .1)) (operands .ensures)
+    _ (c .before .before .before .enum-told2 .given .1)) (c .list-of .ensures)
 
 pub registers-spec : {M : Type 1} → statement M
 registers-spec =
     tie.close
     (tie.spec
-    returns
     head-of-requires
     enum-known-f
     enum-told
-    returns-2
+    returns
     operands-requires
     enum-told-2
-    returns-3
+    returns-2
     list-of-requires
-    returns-4)
+    returns-3)
