@@ -1,5 +1,5 @@
 -- A sheet that passes: no line of it has a layout fault, and its starts and columns are at most 512. So the report of any sheet has room in
--- 102,391 bytes: on a pass the first line has at most 30, and there are at most 4,094 rows of 25, since the last line is exit. Assumes nothing.
+-- 102,391 bytes: on a pass the first line has at most 32, and there are at most 4,094 rows of 25, since the last line is exit. Assumes nothing.
 use Prim.Native.Nat.{ℕ, zero, suc, _+_, _-_, _*_, _<_, _≤_}
 use native.Mathlib.Omega.{arith}
 use mathlib.Core.Path.{_≡_, refl, sym, ap, _∙_, subst}
@@ -24,7 +24,7 @@ use Rattle.rules.specs.Sheet.{Line, actIn, ours, given, startList, heldAfter, s
 use Rattle.rules.specs.Claims.{AllKept, Passed, exits}
 use Rattle.statement.proofs.Each.{exit-only}
 use Rattle.rules.proofs.RuleLaws.{accepted-line, request-kept}
-use Rattle.rules.proofs.RulesProved.{Clear, passing-clear, clear-passed, passed-figures}
+use Rattle.rules.proofs.RulesProved.{Clear, rules-exact, passing-clear, clear-passed, passed-figures}
 use Rattle.rules.proofs.FiguresProved.{figures-exact}
 use Rattle.progress.specs.Going.{seen}
 use Rattle.judge.specs.Judged.{linesOf, sheetOf, judgedOf, startsAfter}
@@ -38,7 +38,7 @@ use Rattle.printed.proofs.RowLaws.{rows-count}
 
 -- ---- what a pass says
 
-judged-by : (b : Bool) (a : Answer) → cond b (answer 1 0 0 0) a .reason ≡ 0 → b ≡ false
+judged-by : (b : Bool) (a : Answer) → cond b (answer 1 0 0 0 0) a .reason ≡ 0 → b ≡ false
 judged-by true a e = absurd (omega (arith, e))
 judged-by false a e = refl
 
@@ -53,7 +53,7 @@ module _ (s : List ℕ) (room : ℕ) (h : judgedOf s room .reason ≡ 0) where
 
   judged-is : judgedOf s room ≡ answerOf (sheetOf s) room
   unfolding judgedOf
-  judged-is = ap (λ (b : Bool). cond b (answer 1 0 0 0) (answerOf (sheetOf s) room)) not-large
+  judged-is = ap (λ (b : Bool). cond b (answer 1 0 0 0 0) (answerOf (sheetOf s) room)) not-large
 
   passes : answerOf (sheetOf s) room .reason ≡ 0
   passes = ap (λ (a : Answer). a .reason) (sym judged-is) ∙ h
@@ -74,9 +74,12 @@ module _ (s : List ℕ) (room : ℕ) (h : judgedOf s room .reason ≡ 0) where
       let z : AllKept (lineRules lowest (stateBy ours (linesOf s) k) (heldAfter (linesOf s) k) (seen fault)) = subst (λ (x : Content). AllKept (lineRules lowest (stateBy ours (linesOf s) k) (heldAfter (linesOf s) k) (seen x))) e (is-passed .kept k i) in
       never (z .0)
 
-  -- the last line is named, and nothing is held
+  -- the last line is named, with column 0, and nothing is held
   pub line-is : judgedOf s room .line ≡ suc (lineCount s - 1)
   line-is = ap (λ (a : Answer). a .line) judged-is ∙ passed-figures ours (sheetOf s) room clear .0
+
+  pub column-is : judgedOf s room .column ≡ 0
+  column-is = ap (λ (a : Answer). a .column) judged-is ∙ rules-exact ours (sheetOf s) room .last passes .1
 
   pub held-is : judgedOf s room .held ≡ 0
   held-is = ap (λ (a : Answer). a .held) judged-is ∙ passed-figures ours (sheetOf s) room clear .1
@@ -203,30 +206,50 @@ field-length : (v mark : ℕ) → length (fieldText v mark) ≡ length (decimal 
 unfolding fieldText
 field-length v mark = length-append (decimal v) (mark ∷ [])
 
-head-length : (r l h p : ℕ) → length (headText r l h p) ≡ length (decimal r) + length (decimal l) + (length (decimal h) + length (decimal p)) + 4
-head-length r l h p =
-    omega (arith, ap length (head-is r l h p), length-append ((fieldText r 9 ++ fieldText l 9) ++ fieldText h 9) (fieldText p 10), length-append (fieldText r 9 ++ fieldText l 9) (fieldText h 9), length-append (fieldText r 9) (fieldText l 9), field-length r 9, field-length l 9, field-length h 9, field-length p 10)
+head-length : (r l c h p : ℕ) → length (headText r l c h p) ≡ length (decimal r) + length (decimal l) + length (decimal c) + (length (decimal h) + length (decimal p)) + 5
+head-length r l c h p =
+    omega (
+      arith,
+      ap length (head-is r l c h p),
+      length-append (((fieldText r 9 ++ fieldText l 9) ++ fieldText c 9) ++ fieldText h 9) (fieldText p 10),
+      length-append ((fieldText r 9 ++ fieldText l 9) ++ fieldText c 9) (fieldText h 9),
+      length-append (fieldText r 9 ++ fieldText l 9) (fieldText c 9),
+      length-append (fieldText r 9) (fieldText l 9),
+      field-length r 9,
+      field-length l 9,
+      field-length c 9,
+      field-length h 9,
+      field-length p 10,
+    )
 
 -- any first line
-pub head-any : (r l h p : ℕ) → length (headText r l h p) ≤ 84
-head-any r l h p = omega (arith, head-length r l h p, decimal-short r, decimal-short l, decimal-short h, decimal-short p)
+pub head-any : (r l c h p : ℕ) → length (headText r l c h p) ≤ 105
+head-any r l c h p = omega (arith, head-length r l c h p, decimal-short r, decimal-short l, decimal-short c, decimal-short h, decimal-short p)
 
 -- the first line of a pass
-head-passed : (r l h p : ℕ) → r ≡ 0 → l < 10000 → h ≡ 0 → length (headText r l h p) ≤ 30
-head-passed r l h p a b c =
-    omega (arith, head-length r l h p, decimal-below 1 r (omega arith) (omega (arith, a)), decimal-below 4 l (omega arith) b, decimal-below 1 h (omega arith) (omega (arith, c)), decimal-short p)
+head-passed : (r l c h p : ℕ) → r ≡ 0 → l < 10000 → c ≡ 0 → h ≡ 0 → length (headText r l c h p) ≤ 32
+head-passed r l c h p a b d e =
+    omega (
+      arith,
+      head-length r l c h p,
+      decimal-below 1 r (omega arith) (omega (arith, a)),
+      decimal-below 4 l (omega arith) b,
+      decimal-below 1 c (omega arith) (omega (arith, d)),
+      decimal-below 1 h (omega arith) (omega (arith, e)),
+      decimal-short p,
+    )
 
 abbrev pub headOf : List ℕ → List ℕ
-headOf s = headText (answered s .reason) (answered s .line) (answered s .held) (answered s .peak)
+headOf s = headText (answered s .reason) (answered s .line) (answered s .column) (answered s .held) (answered s .peak)
 
 -- the report of a refused sheet is its first line
-pub report-refused : (s : List ℕ) → (answered s .reason ≡ 0 → ⊥) → reportOf s ≡ headText (answered s .reason) (answered s .line) (answered s .held) (answered s .peak)
+pub report-refused : (s : List ℕ) → (answered s .reason ≡ 0 → ⊥) → reportOf s ≡ headText (answered s .reason) (answered s .line) (answered s .column) (answered s .held) (answered s .peak)
 unfolding reportOf reportText
 report-refused s h =
     ap (λ (b : Bool). headOf s ++ cond b (rowsText (rowsOf s)) []) (ne-eqb (answered s .reason) 0 h) ∙ append-nil (headOf s)
 
 -- that of a sheet that passes has the rows after it
-pub report-passed : (s : List ℕ) → answered s .reason ≡ 0 → reportOf s ≡ headText (answered s .reason) (answered s .line) (answered s .held) (answered s .peak) ++ rowsText (rowsOf s)
+pub report-passed : (s : List ℕ) → answered s .reason ≡ 0 → reportOf s ≡ headText (answered s .reason) (answered s .line) (answered s .column) (answered s .held) (answered s .peak) ++ rowsText (rowsOf s)
 unfolding reportOf reportText
 report-passed s h = ap (λ (b : Bool). headOf s ++ cond b (rowsText (rowsOf s)) []) (eq-eqb (answered s .reason) 0 h)
 
@@ -239,9 +262,9 @@ rows-most s h =
 fits-by : (b : Bool) (s : List ℕ) → eqb (answered s .reason) 0 ≡ b → length (reportOf s) ≤ reportRoom
 fits-by true s e =
     let z = eqb-true (answered s .reason) 0 e in
-    omega (arith, ap length (report-passed s z), length-append (headOf s) (rowsText (rowsOf s)), head-passed (answered s .reason) (answered s .line) (answered s .held) (answered s .peak) z (omega (arith, line-is s 4096 z, lines-most s 4096 z)) (held-is s 4096 z), rows-most s z)
+    omega (arith, ap length (report-passed s z), length-append (headOf s) (rowsText (rowsOf s)), head-passed (answered s .reason) (answered s .line) (answered s .column) (answered s .held) (answered s .peak) z (omega (arith, line-is s 4096 z, lines-most s 4096 z)) (column-is s 4096 z) (held-is s 4096 z), rows-most s z)
 fits-by false s e =
-    omega (arith, ap length (report-refused s (eqb-false (answered s .reason) 0 e)), head-any (answered s .reason) (answered s .line) (answered s .held) (answered s .peak))
+    omega (arith, ap length (report-refused s (eqb-false (answered s .reason) 0 e)), head-any (answered s .reason) (answered s .line) (answered s .column) (answered s .held) (answered s .peak))
 
 -- no report needs more than 102,391 bytes
 pub report-fits : (s : List ℕ) → length (reportOf s) ≤ reportRoom

@@ -40,27 +40,27 @@ all-put s room t r n h a b c =
     (rw (e, a, b), (rw (e, c), omega (arith, b, report-fits s)))
 
 -- the answer a, and its numbers put as the first line
-module _ (s room : List ℕ) (big : reportRoom ≤ length room) (n : ℕ) (c : n ≡ 4096) (a : Answer) (e : a ≡ judgedOf s (length (zeros n))) (r l h p : ℕ) (er : r ≡ a .reason) (el : l ≡ a .line) (eh : h ≡ a .held) (ep : p ≡ a .peak)
-    (at : ℕ) (t : List ℕ) (i : at ≡ putEnd (length room) 0 (headText r l h p)) (j : t ≡ putText room 0 (headText r l h p)) where
+module _ (s room : List ℕ) (big : reportRoom ≤ length room) (n : ℕ) (c : n ≡ 4096) (a : Answer) (e : a ≡ judgedOf s (length (zeros n))) (r l k h p : ℕ) (er : r ≡ a .reason) (el : l ≡ a .line) (ek : k ≡ a .column) (eh : h ≡ a .held) (ep : p ≡ a .peak)
+    (at : ℕ) (t : List ℕ) (i : at ≡ putEnd (length room) 0 (headText r l k h p)) (j : t ≡ putText room 0 (headText r l k h p)) where
   answer-is : a ≡ answered s
   answer-is = e ∙ ap (judgedOf s) (length-replicate {A = ℕ} n 0 ∙ c)
 
   reason-is : a .reason ≡ answered s .reason
   reason-is = ap (λ (x : Answer). x .reason) answer-is
 
-  head-is-put : headText r l h p ≡ headOf s
-  head-is-put = rw (er, el, eh, ep, answer-is)
+  head-is-put : headText r l k h p ≡ headOf s
+  head-is-put = rw (er, el, ek, eh, ep, answer-is)
 
   head-there : (at ≡ length (headOf s)) × (t ≡ sets room 0 (headOf s))
   head-there =
-      let f : 0 + length (headOf s) ≤ length room = omega (arith, big, head-any (answered s .reason) (answered s .line) (answered s .held) (answered s .peak)) in
-      let k = put-fits room 0 (headOf s) f in
-      (i ∙ (ap (putEnd (length room) 0) head-is-put ∙ (k .0 ∙ zero-add (length (headOf s)))), j ∙ (ap (putText room 0) head-is-put ∙ k .1))
+      let f : 0 + length (headOf s) ≤ length room = omega (arith, big, head-any (answered s .reason) (answered s .line) (answered s .column) (answered s .held) (answered s .peak)) in
+      let q = put-fits room 0 (headOf s) f in
+      (i ∙ (ap (putEnd (length room) 0) head-is-put ∙ (q .0 ∙ zero-add (length (headOf s)))), j ∙ (ap (putText room 0) head-is-put ∙ q .1))
 
   pub refused-printed : (a .reason ≡ 0 → ⊥) → Done s room (record { reason = a .reason; length = at }) t
   refused-printed f =
-      let k = report-refused s (λ x. f (reason-is ∙ x)) in
-      all-put s room t (a .reason) at big reason-is (head-there .0 ∙ ap length (sym k)) (head-there .1 ∙ ap (sets room 0) (sym k))
+      let q = report-refused s (λ x. f (reason-is ∙ x)) in
+      all-put s room t (a .reason) at big reason-is (head-there .0 ∙ ap length (sym q)) (head-there .1 ∙ ap (sets room 0) (sym q))
 
   module _ (z : a .reason ≡ 0) (st : List ℕ) (es : st ≡ startsAfter s (zeros n)) where
     passed-here : answered s .reason ≡ 0

@@ -1,4 +1,4 @@
--- What the program prints for a sheet: the four numbers of the answer, and on a pass a row for each alloc.
+-- What the program prints for a sheet: the five numbers of the answer, and on a pass a row for each alloc.
 -- Assumes nothing.
 use mathlib.Core.Bool.{cond}
 use Prim.Native.Nat.{ℕ, zero, suc, _-_}
@@ -35,7 +35,7 @@ answered s = judgedOf s mostLines
 
 -- the bytes of a sheet's report
 unfoldable pub reportOf : List ℕ → List ℕ
-reportOf s = reportText (answered s .reason) (answered s .line) (answered s .held) (answered s .peak) (rowsOf s)
+reportOf s = reportText (answered s .reason) (answered s .line) (answered s .column) (answered s .held) (answered s .peak) (rowsOf s)
 
 -- ---- printed into a lent room
 

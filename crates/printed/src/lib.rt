@@ -121,9 +121,18 @@ pub fn print(sheet: &[u8], room: &mut [u8]) -> Printed
     let judged = judge::judge(sheet, &mut starts);
     let reason = judged.answer.reason;
     let line = judged.answer.line as u64;
+    let column = judged.answer.column as u64;
     let held = judged.answer.held;
     let peak = judged.answer.peak;
-    let at = report::head(&mut *room, 0, wider(reason), line, wider(held), wider(peak));
+    let at = report::head(
+        &mut *room,
+        0,
+        wider(reason),
+        line,
+        column,
+        wider(held),
+        wider(peak),
+    );
     if reason != reasons::PASSED {
         return Printed { reason, length: at };
     }

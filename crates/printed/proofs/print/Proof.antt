@@ -36,8 +36,8 @@ returns-2 c =
     let a = c .before .before .before .before .before .before .before .before .before .before .before .before .before .before .args in
     let h = c .before .before .before .head .ensures in
     let j = c .before .before .before .before .before .before .before .before .before .judge .ensures in
-    let w = refused-printed (a .sheet .now) (a .room .now) (c .before .before .before .before .before .before .before .before .before .before .before .if1 .left) 4096 refl _ (j .0) _ _ _ _
-    (c .before .before .before .before .before .before .wider .ensures) refl (c .before .before .before .before .before .wider2 .ensures) (c .before .before .before .before .wider3 .ensures) _ _ (h .0) (h .1) (c .if2 .taken) in
+    let w = refused-printed (a .sheet .now) (a .room .now) (c .before .before .before .before .before .before .before .before .before .before .before .if1 .left) 4096 refl _ (j .0) _ _ _ _ _
+    (c .before .before .before .before .before .before .wider .ensures) refl refl (c .before .before .before .before .before .wider2 .ensures) (c .before .before .before .before .wider3 .ensures) _ _ (h .0) (h .1) (c .if2 .taken) in
     (w .0, (w .1 .0, (w .1 .1, λ p. j .1 .1 .1 p .demand)))
 
 slice-aggregate-rows : tie.Need-slice-aggregate-rows
@@ -48,8 +48,8 @@ rows-requires c κs =
     let a = c .before .before .before .before .before .before .before .before .before .before .before .before .before .before .before .before .args in
     let h = c .before .before .before .before .before .head .ensures in
     let j = c .before .before .before .before .before .before .before .before .before .before .before .judge .ensures in
-    rows-ready (a .sheet .now) (a .room .now) (c .before .before .before .before .before .before .before .before .before .before .before .before .before .if1 .left) 4096 refl _ (j .0) _ _ _ _
-    (c .before .before .before .before .before .before .before .before .wider .ensures) refl (c .before .before .before .before .before .before .before .wider2 .ensures) (c .before .before .before .before .before .before .wider3 .ensures) _ _ (h .0) (h .1) (c .before .before .if2 .left) _ (j .1 .1 .0)
+    rows-ready (a .sheet .now) (a .room .now) (c .before .before .before .before .before .before .before .before .before .before .before .before .before .if1 .left) 4096 refl _ (j .0) _ _ _ _ _
+    (c .before .before .before .before .before .before .before .before .wider .ensures) refl refl (c .before .before .before .before .before .before .before .wider2 .ensures) (c .before .before .before .before .before .before .wider3 .ensures) _ _ (h .0) (h .1) (c .before .before .if2 .left) _ (j .1 .1 .0)
 
 same-length-2 : tie.Need-same-length-2
 same-length-2 c = search needs
@@ -62,8 +62,8 @@ returns-3 c =
     let j = g .judge .ensures in
     let a = g .before .before .before .before .before .args in
     let t = c .before .before .rows .ensures in
-    let w = passed-printed (a .sheet .now) (a .room .now) (g .before .before .if1 .left) 4096 refl _ (j .0) _ _ _ _
-    (b .before .before .before .wider .ensures) refl (b .before .before .wider2 .ensures) (b .before .wider3 .ensures) _ _ (h .0) (h .1) (c .before .before .before .before .before .if2 .left) _ (j .1 .1 .0) _ _ (t .0) (t .1) in
+    let w = passed-printed (a .sheet .now) (a .room .now) (g .before .before .if1 .left) 4096 refl _ (j .0) _ _ _ _ _
+    (b .before .before .before .wider .ensures) refl refl (b .before .before .wider2 .ensures) (b .before .wider3 .ensures) _ _ (h .0) (h .1) (c .before .before .before .before .before .if2 .left) _ (j .1 .1 .0) _ _ (t .0) (t .1) in
     (w .0, (w .1 .0, (w .1 .1, λ p. j .1 .1 .1 p .demand)))
 
 pub print-spec : {M : Type 1} → statement M
