@@ -1,62 +1,114 @@
--- The line of an answer and its count of starts are small numbers: a sheet that is not too large has at most 4,096 lines. Assumes nothing.
-use Prim.Native.Nat.{ℕ, _+_, _-_, _≤_}
+-- The line of an answer, its column and its count of starts are small numbers: a sheet that is not too large has at most 4,096 lines, and a line with its layout at
+-- most 2,048 bytes. Assumes nothing.
+use Prim.Native.Nat.{ℕ, zero, suc, _+_, _-_, _≤_}
 use native.Mathlib.Omega.{arith}
 use mathlib.Core.Path.{_≡_, refl}
-use mathlib.Core.Bool.{Bool, true, false, cond}
+use mathlib.Core.Bool.{Bool, true, false, _&&_, cond}
 use mathlib.Core.List.{List}
-use lib.Dec.{ltb, eqb}
-use lib.ListN.{length}
-use Rattle.lines.specs.Sheet.{lineCount, oversize, headed}
+use lib.Dec.{leb, ltb, eqb}
+use lib.ListN.{length, getD, drop, length-drop}
+use borrow.Author.Tests.{leb-true}
+use Rattle.laws.proofs.BoolLaws.{and-r}
+use Rattle.tokens.specs.Text.{tab}
+use Rattle.tokens.specs.Bytes.{all}
+use Rattle.statement.specs.declared.Position.{Position}
+use Rattle.statement.specs.declared.Position.the-variants.{Start, Token, Opcode, Name, Operand}
+use Rattle.statement.specs.Positions.{columnOf, namePlace, operandPlace}
+use Rattle.statement.proofs.Stops as stops
+use Rattle.lines.specs.Sheet.{textOf, endedOf, warpByte, warpOf, plain, laidOut, fault, laid, contentOf, after, lineCount, oversize, headed}
 use Rattle.rules.specs.declared.Answer.{Answer}
-use Rattle.rules.specs.Sheet.{answer, closing, answerAt, answerBy, answerOf, startsOf, ours, reasonBy, stateBy, startsBy, heldAfter, peakUpTo, stopBy}
+use Rattle.rules.specs.Sheet.{answer, closing, answerAt, answerBy, answerOf, startsOf, ours, reasonBy, positionBy, stateBy, startsBy, heldAfter, peakUpTo, stopBy}
 use Rattle.rules.proofs.RulesProved.{stop-le}
 use Rattle.progress.proofs.LineLaws.{starts-few}
-use Rattle.judge.specs.Judged.{linesOf, sheetOf, judgedOf, startCount}
+use Rattle.judge.specs.Judged.{linesOf, columnsOf, sheetOf, judgedOf, startCount}
+use Rattle.progress.specs.Going.{columnIn}
 use Rattle.judge.proofs.Whole.{few-lines}
 
-either : (b : Bool) (x y : Answer) (n : ℕ) → x .line ≤ n → y .line ≤ n → cond b x y .line ≤ n
-either true x y n p q = p
-either false x y n p q = q
+-- ---- columns
+-- a place in a text is at most its end
+place-most : (text : List ℕ) (p : Position) → columnOf text p ≤ 3 + length text
+unfolding columnOf namePlace operandPlace
+place-most text Start = omega arith
+place-most text Token = omega (arith, stops.stop-le text)
+place-most text Opcode = omega arith
+place-most text (Name i) = omega arith
+place-most text (Operand i) = omega arith
 
-closing-line : (exited : Bool) (requests room line held peak n : ℕ) → line ≤ n → closing exited requests room line held peak .line ≤ n
+line-bytes : (l : List ℕ) → laidOut l ≡ true → length (textOf l) ≤ 2048
+unfolding laidOut
+line-bytes l e =
+    leb-true (length (textOf l)) 2048
+    (and-r (((warpByte (getD (textOf l) 0 0) && eqb (getD (textOf l) 1 0) tab) && all plain (drop 2 (textOf l))) && endedOf l) (leb (length (textOf l)) 2048) e)
+
+content-most : (l : List ℕ) (p : Position) → columnIn (contentOf l) p ≤ 2051
+unfolding contentOf
+content-most l p = by (laidOut l) refl
+  where
+    by : (b : Bool) → laidOut l ≡ b → columnIn (cond b (laid (warpOf (getD (textOf l) 0 0)) (drop 2 (textOf l))) fault) p ≤ 2051
+    by true e = omega (arith, place-most (drop 2 (textOf l)) p, length-drop 2 (textOf l), line-bytes l e)
+    by false e = omega arith
+
+columns-most : (s : List ℕ) (l : ℕ) (p : Position) → columnsOf s l p ≤ 2051
+unfolding columnsOf
+columns-most s zero p = omega arith
+columns-most s (suc k) p = content-most (after (suc k) s) p
+
+-- ---- answers
+pub record Small (a : Answer) : Type 0 where
+  pub line : a .line ≤ 4098
+  pub column : a .column ≤ 2051
+
+small : (reason line column held peak : ℕ) → line ≤ 4098 → column ≤ 2051 → Small (answer reason line column held peak)
+small reason line column held peak p q = record { line = p; column = q }
+
+either : (b : Bool) (x y : Answer) → Small x → Small y → Small (cond b x y)
+either true x y p q = p
+either false x y p q = q
+
+closing-small : (exited : Bool) (requests room line column held peak : ℕ) → line ≤ 4098 → column ≤ 2051 → Small (closing exited requests room line column held peak)
 unfolding closing
-closing-line exited requests room line held peak n q =
-    either exited (cond (ltb room requests) (answer 16 line 0 peak) (answer 0 line 0 peak)) (answer 15 line held peak) n
-    (either (ltb room requests) (answer 16 line 0 peak) (answer 0 line 0 peak) n q q)
-    q
+closing-small exited requests room line column held peak p q =
+    either exited (cond (ltb room requests) (answer 16 line column 0 peak) (answer 0 line 0 0 peak)) (answer 15 line column held peak)
+    (either (ltb room requests) (answer 16 line column 0 peak) (answer 0 line 0 0 peak) (small 16 line column 0 peak p q) (small 0 line 0 0 peak p (omega arith)))
+    (small 15 line column held peak p q)
 
-at-line : (s : List ℕ) (room count stop n : ℕ) → stop + 2 ≤ n → count + 1 ≤ n → answerAt ours (linesOf s) count room stop .line ≤ n
+at-small : (s : List ℕ) (room stop : ℕ) → stop + 2 ≤ 4098 → lineCount s ≤ 4096 → Small (answerAt ours (sheetOf s) room stop)
 unfolding answerAt
-at-line s room count stop n p q =
+at-small s room stop p q =
+    let count = lineCount s - 1 in
+    let x = columnsOf s (suc stop) (positionBy ours (linesOf s) stop) in
     either (ltb stop count)
-    (answer (reasonBy ours (linesOf s) stop) (stop + 2) (heldAfter (linesOf s) stop) (peakUpTo (linesOf s) stop))
-    (closing (stateBy ours (linesOf s) count .exited) (length (startsBy ours (linesOf s) count)) room (count + 1) (heldAfter (linesOf s) count) (peakUpTo (linesOf s) count))
-    n
-    p
-    (closing-line (stateBy ours (linesOf s) count .exited) (length (startsBy ours (linesOf s) count)) room (count + 1) (heldAfter (linesOf s) count) (peakUpTo (linesOf s) count) n q)
+    (answer (reasonBy ours (linesOf s) stop) (stop + 2) x (heldAfter (linesOf s) stop) (peakUpTo (linesOf s) stop))
+    (closing (stateBy ours (linesOf s) count .exited) (length (startsBy ours (linesOf s) count)) room (count + 1) (columnsOf s count Start) (heldAfter (linesOf s) count)
+        (peakUpTo (linesOf s) count))
+    (small (reasonBy ours (linesOf s) stop) (stop + 2) x (heldAfter (linesOf s) stop) (peakUpTo (linesOf s) stop) p (columns-most s (suc stop) (positionBy ours (linesOf s) stop)))
+    (closing-small (stateBy ours (linesOf s) count .exited) (length (startsBy ours (linesOf s) count)) room (count + 1) (columnsOf s count Start) (heldAfter (linesOf s) count)
+    (peakUpTo (linesOf s) count) (omega (arith, q)) (columns-most s count Start))
 
-rules-line : (s : List ℕ) (room : ℕ) → lineCount s ≤ 4096 → answerOf (sheetOf s) room .line ≤ 4098
+rules-small : (s : List ℕ) (room : ℕ) → lineCount s ≤ 4096 → Small (answerOf (sheetOf s) room)
 unfolding answerBy
-rules-line s room h =
+rules-small s room h =
     let stop = stopBy ours (linesOf s) (lineCount s - 1) in
-    either (headed s) (answerAt ours (linesOf s) (lineCount s - 1) room stop) (answer 2 1 0 0) 4098
-    (at-line s room (lineCount s - 1) stop 4098 (omega (arith, h, stop-le ours (linesOf s) (lineCount s - 1))) (omega (arith, h)))
-    (omega arith)
+    let x = columnsOf s 0 Start in
+    either (headed s) (answerAt ours (sheetOf s) room stop) (answer 2 1 x 0 0)
+    (at-small s room stop (omega (arith, h, stop-le ours (linesOf s) (lineCount s - 1))) h)
+    (small 2 1 x 0 0 (omega arith) (columns-most s 0 Start))
 
-line-by : (large : Bool) (s : List ℕ) (room : ℕ) → oversize s ≡ large → cond large (answer 1 0 0 0) (answerOf (sheetOf s) room) .line ≤ 4098
-line-by true s room h = omega arith
-line-by false s room h = rules-line s room (few-lines s h)
+small-by : (large : Bool) (s : List ℕ) (room : ℕ) → oversize s ≡ large → Small (cond large (answer 1 0 0 0 0) (answerOf (sheetOf s) room))
+small-by true s room h = small 1 0 0 0 0 (omega arith) (omega arith)
+small-by false s room h = rules-small s room (few-lines s h)
 
-pub line-most : (s : List ℕ) (room : ℕ) → judgedOf s room .line ≤ 4098
+pub answer-small : (s : List ℕ) (room : ℕ) → Small (judgedOf s room)
 unfolding judgedOf
-line-most s room = line-by (oversize s) s room refl
+answer-small s room = small-by (oversize s) s room refl
 
+-- ---- the count of starts
 counted : (passed : Bool) (s : List ℕ) → lineCount s ≤ 4096 → cond passed (length (startsOf (sheetOf s))) 0 ≤ 4096
 counted true s h = omega (arith, h, starts-few (linesOf s) (lineCount s - 1))
 counted false s h = omega arith
 
 count-by : (large : Bool) (s : List ℕ) (room : ℕ) → oversize s ≡ large
-    → cond (eqb (cond large (answer 1 0 0 0) (answerOf (sheetOf s) room) .reason) 0) (length (startsOf (sheetOf s))) 0 ≤ 4096
+    → cond (eqb (cond large (answer 1 0 0 0 0) (answerOf (sheetOf s) room) .reason) 0) (length (startsOf (sheetOf s))) 0 ≤ 4096
 count-by true s room h = omega arith
 count-by false s room h = counted (eqb (answerOf (sheetOf s) room .reason) 0) s (few-lines s h)
 

@@ -5,9 +5,9 @@ ghost use Rattle.judge.specs.Judged.{judgedOf, startsAfter, RunKept};
 ghost use Rattle.printed.specs.Printed.{printedOf, roomAfter, RunPrinted};
 ghost use Rattle.staplehorn.specs.Sheets.{answered, answerIn};
 
-// The answer for a sheet: its reason, and its five numbers; on a pass the first places of `starts`, as many as the fifth says, are those of the allocs.
+// The answer for a sheet: its reason, and its six numbers; on a pass the first places of `starts`, as many as the sixth says, are those of the allocs.
 #[no_mangle]
-pub extern "C" fn staplehorn_judge(sheet: &[u8], starts: &mut [u16], answer: &mut [u32; 5]) -> u32
+pub extern "C" fn staplehorn_judge(sheet: &[u8], starts: &mut [u16], answer: &mut [u32; 6]) -> u32
     ensures reason { λ r. ⌜ r ≡ judgedOf (now (sheet .entry)) (length (now (starts .entry))) .reason ⌝ }
     ensures answer { λ r. ⌜ now (answer .exit) ≡ answered (now (sheet .entry)) (length (now (starts .entry))) ⌝ }
     ensures places { λ r. ⌜ now (starts .exit) ≡ startsAfter (now (sheet .entry)) (now (starts .entry)) ⌝ }
@@ -15,11 +15,12 @@ pub extern "C" fn staplehorn_judge(sheet: &[u8], starts: &mut [u16], answer: &mu
 {
     let judged = judge::judge(sheet, starts);
     let line = judged.answer.line as u32;
+    let column = judged.answer.column as u32;
     let count = judged.starts as u32;
     let reason = judged.answer.reason;
     let held = judged.answer.held;
     let peak = judged.answer.peak;
-    *answer = [reason, line, held, peak, count];
+    *answer = [reason, line, column, held, peak, count];
     reason
 }
 
