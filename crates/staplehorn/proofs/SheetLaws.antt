@@ -80,7 +80,7 @@ at-small s room stop p q =
     either (ltb stop count)
     (answer (reasonBy ours (linesOf s) stop) (stop + 2) x (heldAfter (linesOf s) stop) (peakUpTo (linesOf s) stop))
     (closing (stateBy ours (linesOf s) count .exited) (length (startsBy ours (linesOf s) count)) room (count + 1) (columnsOf s count Start) (heldAfter (linesOf s) count)
-        (peakUpTo (linesOf s) count))
+    (peakUpTo (linesOf s) count))
     (small (reasonBy ours (linesOf s) stop) (stop + 2) x (heldAfter (linesOf s) stop) (peakUpTo (linesOf s) stop) p (columns-most s (suc stop) (positionBy ours (linesOf s) stop)))
     (closing-small (stateBy ours (linesOf s) count .exited) (length (startsBy ours (linesOf s) count)) room (count + 1) (columnsOf s count Start) (heldAfter (linesOf s) count)
     (peakUpTo (linesOf s) count) (omega (arith, q)) (columns-most s count Start))
