@@ -15,7 +15,7 @@ use Rattle.lines.proofs.SheetTheorems.{after-header, one-more, all-done, step-m
 use Rattle.laws.specs.Rules.{firstBroken}
 use Rattle.statement.specs.declared.Position.{Position}
 use Rattle.statement.specs.declared.Position.the-variants.{Start}
-use Rattle.statement.specs.Positions.{startColumn, columnOf}
+use Rattle.statement.specs.Positions.{startColumn, byteColumn}
 use Rattle.rules.specs.declared.Answer.{Answer}
 use Rattle.rules.specs.State.{lowest}
 use Rattle.rules.specs.Sheet.{Line, lineRules, heldAfter, peakUpTo, ours, reasonBy, positionBy, stopBy, answer, closing, stateAfter, startsUpTo, answerOf, startsOf}
@@ -30,7 +30,7 @@ use Rattle.progress.specs.declared.Advanced.{Advanced}
 use Rattle.progress.specs.Going.{seen, lineSeen, columnIn, columnSeen, opening, Ready, Next, Went}
 use Rattle.progress.proofs.LineLaws.{starts-few}
 use Rattle.progress.proofs.Going as going
-use Rattle.judge.specs.Judged.{linesOf, columnsOf, sheetOf}
+use Rattle.judge.specs.Judged.{linesOf, byteColumns, sheetOf}
 use Rattle.judge.specs.Standing.{Standing}
 
 -- after the header
@@ -63,12 +63,12 @@ module _ (exited : Bool) (requests room line column held peak : ℕ) where
 
 -- every line starts in column 1
 start-in : (c : Content) → columnIn c Start ≡ startColumn
-unfolding columnOf
+unfolding byteColumn
 start-in fault = refl
 start-in (laid warp text) = refl
 
-pub start-of : (s : List ℕ) (l : ℕ) → columnsOf s l Start ≡ startColumn
-unfolding columnsOf
+pub start-of : (s : List ℕ) (l : ℕ) → byteColumns s l Start ≡ startColumn
+unfolding byteColumns
 start-of s zero = refl
 start-of s (suc k) = start-in (contentAfter (suc k) s)
 
@@ -92,8 +92,8 @@ module _ (s first given : List ℕ) (a : Arrays) (p : Progress) (at : ℕ) (g : 
   unfolding linesOf
   line-now = sym (ap seen (line-seen s at ∙ ap contentOf (g .here .here) ∙ ap (λ (n : ℕ). contentOf (after n s)) (g .going .line-is)))
 
-  column-now : (q : Position) → columnSeen s at q ≡ columnsOf s (suc k) q
-  unfolding columnsOf
+  column-now : (q : Position) → columnSeen s at q ≡ byteColumns s (suc k) q
+  unfolding byteColumns
   column-now q = ap (λ (c : Content). columnIn c q) (line-seen s at ∙ ap contentOf (g .here .here) ∙ ap (λ (n : ℕ). contentOf (after n s)) (g .going .line-is))
 
   -- a layout fault is refused
@@ -143,7 +143,7 @@ module _ (s first given : List ℕ) (a : Arrays) (p : Progress) (at : ℕ) (g : 
             let b : stopBy ours (linesOf s) (lineCount s - 1) < lineCount s - 1 = omega (arith, stops, inside) in
             let column = gives .points z ∙ column-now (positionBy ours (linesOf s) k) in
             (λ i. answer (gives .reasons i) (n i) (column i) (held i) (peak i))
-            ∙ sym (at-stop ours (sheetOf s) room h b ∙ ap (λ (j : ℕ). answer (reasonBy ours (linesOf s) j) (j + 2) (columnsOf s (suc j) (positionBy ours (linesOf s) j)) (heldAfter (linesOf s) j) (peakUpTo (linesOf s) j)) stops)
+            ∙ sym (at-stop ours (sheetOf s) room h b ∙ ap (λ (j : ℕ). answer (reasonBy ours (linesOf s) j) (j + 2) (byteColumns s (suc j) (positionBy ours (linesOf s) j)) (heldAfter (linesOf s) j) (peakUpTo (linesOf s) j)) stops)
 
         pub same-places : length first ≡ 4096 → length nextGiven ≡ 4096
         same-places e = ap length (gives .stops z .1 .0) ∙ places e

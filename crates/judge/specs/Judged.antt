@@ -20,12 +20,12 @@ unfoldable pub linesOf : List ℕ → ℕ → Line
 linesOf s k = seen (contentAfter (suc k) s)
 
 -- the column of a position in its line, line 1 counted as 0
-unfoldable pub columnsOf : List ℕ → ℕ → Position → ℕ
-columnsOf s zero p = startColumn
-columnsOf s (suc k) p = columnIn (contentAfter (suc k) s) p
+unfoldable pub byteColumns : List ℕ → ℕ → Position → ℕ
+byteColumns s zero p = startColumn
+byteColumns s (suc k) p = columnIn (contentAfter (suc k) s) p
 
 abbrev pub sheetOf : List ℕ → Sheet
-sheetOf s = record { header = headed s; line = linesOf s; count = lineCount s - 1; column = columnsOf s }
+sheetOf s = record { header = headed s; line = linesOf s; count = lineCount s - 1; column = byteColumns s }
 
 -- reason 1 first, then the answer of the rules
 unfoldable pub judgedOf : List ℕ → ℕ → Answer

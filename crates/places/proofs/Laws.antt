@@ -19,7 +19,7 @@ use Rattle.statement.specs.declared.Reading.the-variants.{NoForm}
 use Rattle.statement.specs.declared.Position.the-variants.{Token, Name, Operand}
 use Rattle.statement.specs.Reading.{opcodeLen, wholeC, answerOf, longestText, readOf}
 use Rattle.statement.proofs.Stops.{stop-le}
-use Rattle.statement.specs.Positions.{within, afterComma, afterCommas, operandFrom, afterBracket, nameFrom, operandPlace, namePlace, stopIn, statementColumn, columnOf}
+use Rattle.statement.specs.Positions.{within, afterComma, afterCommas, operandFrom, afterBracket, nameFrom, operandPlace, namePlace, stopIn, statementColumn, byteColumn}
 
 -- ---- commas
 -- by the byte at a position: the comma, another byte, or none
@@ -95,14 +95,14 @@ module _ (s : List ℕ) (p c : ℕ) (is : c ≡ statementColumn + (length s - le
   column-own : p ≤ length s → c ≡ statementColumn + p
   column-own h = is ∙ rw (own-place s p h)
 
-  pub token-column : (r : Reading) → r ≡ readOf s → p ≡ stopIn r → c ≡ columnOf s Token
-  unfolding columnOf
+  pub token-column : (r : Reading) → r ≡ readOf s → p ≡ stopIn r → c ≡ byteColumn s Token
+  unfolding byteColumn
   token-column r e h = column-own (rw (h, e) (stop-le s)) ∙ rw (h, e)
 
-  pub name-column : (index : ℕ) → p ≡ namePlace s index → c ≡ columnOf s (Name index)
-  unfolding columnOf namePlace
+  pub name-column : (index : ℕ) → p ≡ namePlace s index → c ≡ byteColumn s (Name index)
+  unfolding byteColumn namePlace
   name-column index h = column-own (omega (arith, h)) ∙ rw h
 
-  pub operand-column : (index : ℕ) → p ≡ operandPlace s index → c ≡ columnOf s (Operand index)
-  unfolding columnOf operandPlace
+  pub operand-column : (index : ℕ) → p ≡ operandPlace s index → c ≡ byteColumn s (Operand index)
+  unfolding byteColumn operandPlace
   operand-column index h = column-own (omega (arith, h)) ∙ rw h

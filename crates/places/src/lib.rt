@@ -7,7 +7,7 @@ ghost use Prim.Native.Nat.{_+_, _-_};
 ghost use lib.ListN.{length, drop};
 ghost use Rattle.statement.specs.Reading.{opcodeLen, readOf};
 ghost use Rattle.statement.specs.declared.Position.the-variants.{Token};
-ghost use Rattle.statement.specs.Positions.{within, afterComma, afterCommas, operandFrom, afterBracket, nameFrom, operandPlace, namePlace, stopIn, statementColumn, columnOf};
+ghost use Rattle.statement.specs.Positions.{within, afterComma, afterCommas, operandFrom, afterBracket, nameFrom, operandPlace, namePlace, stopIn, statementColumn, byteColumn};
 
 // Where the opcode ends.
 fn opcode_end(s: &[u8]) -> usize
@@ -128,14 +128,14 @@ fn column_at(s: &[u8], at: usize) -> usize
 // The column where reading stopped, of what a text was read as.
 pub fn stopped(s: &[u8], t: Reading) -> usize
     requires { ⌜ t ≡ readOf (now s) ⌝ }
-    ensures { λ r. ⌜ r ≡ columnOf (now (s .entry)) Token ⌝ }
+    ensures { λ r. ⌜ r ≡ byteColumn (now (s .entry)) Token ⌝ }
 {
     column_at(s, stop_of(t))
 }
 
 // The column of a position in a statement's line.
 pub fn column(s: &[u8], p: Position) -> usize
-    ensures { λ r. ⌜ r ≡ columnOf (now (s .entry)) p ⌝ }
+    ensures { λ r. ⌜ r ≡ byteColumn (now (s .entry)) p ⌝ }
 {
     match p {
         Position::Start => 1,

@@ -17,7 +17,7 @@ use Rattle.statement.specs.declared.Reading.the-variants.{Got, NoForm, TooLarge
 use Rattle.statement.specs.Reading.{readOf, reasonOf}
 use Rattle.statement.specs.declared.Position.{Position}
 use Rattle.statement.specs.declared.Position.the-variants.{Token}
-use Rattle.statement.specs.Positions.{columnOf}
+use Rattle.statement.specs.Positions.{byteColumn}
 use Rattle.statement.proofs.Readings.{Unread}
 use Rattle.statement.specs.Views.{actOf}
 use Rattle.rules.specs.State.{State, lowest}
@@ -67,10 +67,10 @@ unread-token s held w (Got t) h = absurd (h t refl)
 unread-token s held w (NoForm at) h = refl
 unread-token s held w (TooLarge at) h = refl
 
-pub unread-column : (text : List ℕ) (reading : Reading) → reading ≡ readOf text → Unread reading → (r : ℕ) → r ≡ columnOf text Token
-    → (s : State) (held w : ℕ) → r ≡ columnOf text (firstPosition (lineRows lowest s held (lineOf w (readOf text))))
+pub unread-column : (text : List ℕ) (reading : Reading) → reading ≡ readOf text → Unread reading → (r : ℕ) → r ≡ byteColumn text Token
+    → (s : State) (held w : ℕ) → r ≡ byteColumn text (firstPosition (lineRows lowest s held (lineOf w (readOf text))))
 unread-column text reading e h r f s held w =
-    f ∙ ap (columnOf text) (sym (unread-token s held w reading h) ∙ ap (λ (x : Reading). firstPosition (lineRows lowest s held (lineOf w x))) e)
+    f ∙ ap (byteColumn text) (sym (unread-token s held w reading h) ∙ ap (λ (x : Reading). firstPosition (lineRows lowest s held (lineOf w x))) e)
 
 -- one that did, where its statement is, being of a warp below 4
 module _ (s : State) (held w : ℕ) (t : Statement) (h : w < 4) where
@@ -81,12 +81,12 @@ module _ (s : State) (held w : ℕ) (t : Statement) (h : w < 4) where
 
   pub read-column : (text : List ℕ) (reading : Reading) → reading ≡ readOf text → reading ≡ Got t → (reason : ℕ)
       → reason ≡ firstBroken (lineRules lowest s held (lineOf w (readOf text)))
-      → (p : Position) → (reason ≡ firstBroken (rules lowest s held w t) → p ≡ firstPosition (rows lowest s held w t)) → (r : ℕ) → r ≡ columnOf text p
-      → r ≡ columnOf text (firstPosition (lineRows lowest s held (lineOf w (readOf text))))
+      → (p : Position) → (reason ≡ firstBroken (rules lowest s held w t) → p ≡ firstPosition (rows lowest s held w t)) → (r : ℕ) → r ≡ byteColumn text p
+      → r ≡ byteColumn text (firstPosition (lineRows lowest s held (lineOf w (readOf text))))
   read-column text reading e g reason n p b r f =
       let z : lineOf w (readOf text) ≡ statement w t = ap (lineOf w) (sym e ∙ g) in
       f
-      ∙ ap (columnOf text)
+      ∙ ap (byteColumn text)
       (b (n ∙ ap (λ (x : Line). firstBroken (lineRules lowest s held x)) z ∙ after-warp .0)
       ∙ sym (after-warp .1)
       ∙ sym (ap (λ (x : Line). firstPosition (lineRows lowest s held x)) z))
@@ -129,7 +129,7 @@ module _ (s : List ℕ) (at held : ℕ) (l : lines.Line) (e : l ≡ lineAt s at)
 
     -- its column is that of its text
     pub part-column : (state : State) (n : ℕ) (why : ℕ) (r : ℕ)
-        → (why ≡ firstBroken (lineRules lowest state n (lineOf (l .warp) (readOf text))) → r ≡ columnOf text (firstPosition (lineRows lowest state n (lineOf (l .warp) (readOf text)))))
+        → (why ≡ firstBroken (lineRules lowest state n (lineOf (l .warp) (readOf text))) → r ≡ byteColumn text (firstPosition (lineRows lowest state n (lineOf (l .warp) (readOf text)))))
         → why ≡ firstBroken (lineRules lowest state n (lineSeen s at)) → r ≡ columnSeen s at (firstPosition (lineRows lowest state n (lineSeen s at)))
     part-column state n why r =
         subst (λ (x : Content). (why ≡ firstBroken (lineRules lowest state n (seen x)) → r ≡ columnIn x (firstPosition (lineRows lowest state n (seen x))))) (sym content-is)

@@ -9,7 +9,7 @@ use lib.Seq.{sets}
 use Rattle.laws.specs.Rules.{firstBroken}
 use Rattle.statement.specs.declared.Position.{Position}
 use Rattle.statement.specs.Reading.{readOf}
-use Rattle.statement.specs.Positions.{startColumn, columnOf}
+use Rattle.statement.specs.Positions.{startColumn, byteColumn}
 use Rattle.lines.specs.Sheet.{Content, fault, mostLines, laid, contentSeen, lineAt}
 use Rattle.rules.specs.State.{State, lowest}
 use Rattle.rules.specs.Rows.{firstPosition}
@@ -32,7 +32,7 @@ lineSeen s at = seen (contentSeen s (lineAt s at))
 -- the column of a position in a line; one whose layout is wrong has its start alone
 abbrev pub columnIn : Content → Position → ℕ
 columnIn fault p = startColumn
-columnIn (laid warp text) p = columnOf text p
+columnIn (laid warp text) p = byteColumn text p
 
 abbrev pub columnSeen : List ℕ → ℕ → Position → ℕ
 columnSeen s at = columnIn (contentSeen s (lineAt s at))
@@ -42,7 +42,7 @@ columnSeen s at = columnIn (contentSeen s (lineAt s at))
 abbrev pub TextBlamed : List ℕ → (hi lo columns valueHi valueLo numbers widths : List ℕ) → (reason : ℕ) → ℕ → Type 0
 TextBlamed text hi lo columns valueHi valueLo numbers widths reason r =
     (s : State) (held w : ℕ) → Tables hi lo columns valueHi valueLo numbers widths s → w < 4 → 0 < reason
-    → reason ≡ firstBroken (lineRules lowest s held (lineOf w (readOf text))) → r ≡ columnOf text (firstPosition (lineRows lowest s held (lineOf w (readOf text))))
+    → reason ≡ firstBroken (lineRules lowest s held (lineOf w (readOf text))) → r ≡ byteColumn text (firstPosition (lineRows lowest s held (lineOf w (readOf text))))
 
 -- in the line that starts at a place of a sheet
 abbrev pub LineBlamed : List ℕ → ℕ → (hi lo columns valueHi valueLo numbers widths : List ℕ) → (reason : ℕ) → ℕ → Type 0

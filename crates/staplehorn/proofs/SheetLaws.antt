@@ -13,21 +13,21 @@ use Rattle.tokens.specs.Text.{tab}
 use Rattle.tokens.specs.Bytes.{all}
 use Rattle.statement.specs.declared.Position.{Position}
 use Rattle.statement.specs.declared.Position.the-variants.{Start, Token, Opcode, Name, Operand}
-use Rattle.statement.specs.Positions.{columnOf, namePlace, operandPlace}
+use Rattle.statement.specs.Positions.{byteColumn, namePlace, operandPlace}
 use Rattle.statement.proofs.Stops as stops
 use Rattle.lines.specs.Sheet.{textOf, endedOf, warpByte, warpOf, plain, laidOut, fault, laid, contentOf, after, lineCount, oversize, headed}
 use Rattle.rules.specs.declared.Answer.{Answer}
 use Rattle.rules.specs.Sheet.{answer, closing, answerAt, answerBy, answerOf, startsOf, ours, reasonBy, positionBy, stateBy, startsBy, heldAfter, peakUpTo, stopBy}
 use Rattle.rules.proofs.RulesProved.{stop-le}
 use Rattle.progress.proofs.LineLaws.{starts-few}
-use Rattle.judge.specs.Judged.{linesOf, columnsOf, sheetOf, judgedOf, startCount}
+use Rattle.judge.specs.Judged.{linesOf, byteColumns, sheetOf, judgedOf, startCount}
 use Rattle.progress.specs.Going.{columnIn}
 use Rattle.judge.proofs.Whole.{few-lines}
 
 -- ---- columns
 -- a place in a text is at most its end
-place-most : (text : List ℕ) (p : Position) → columnOf text p ≤ 3 + length text
-unfolding columnOf namePlace operandPlace
+place-most : (text : List ℕ) (p : Position) → byteColumn text p ≤ 3 + length text
+unfolding byteColumn namePlace operandPlace
 place-most text Start = omega arith
 place-most text Token = omega (arith, stops.stop-le text)
 place-most text Opcode = omega arith
@@ -48,8 +48,8 @@ content-most l p = by (laidOut l) refl
     by true e = omega (arith, place-most (drop 2 (textOf l)) p, length-drop 2 (textOf l), line-bytes l e)
     by false e = omega arith
 
-columns-most : (s : List ℕ) (l : ℕ) (p : Position) → columnsOf s l p ≤ 2051
-unfolding columnsOf
+columns-most : (s : List ℕ) (l : ℕ) (p : Position) → byteColumns s l p ≤ 2051
+unfolding byteColumns
 columns-most s zero p = omega arith
 columns-most s (suc k) p = content-most (after (suc k) s) p
 
@@ -76,20 +76,20 @@ at-small : (s : List ℕ) (room stop : ℕ) → stop + 2 ≤ 4098 → lineCount 
 unfolding answerAt
 at-small s room stop p q =
     let count = lineCount s - 1 in
-    let x = columnsOf s (suc stop) (positionBy ours (linesOf s) stop) in
+    let x = byteColumns s (suc stop) (positionBy ours (linesOf s) stop) in
     either (ltb stop count)
     (answer (reasonBy ours (linesOf s) stop) (stop + 2) x (heldAfter (linesOf s) stop) (peakUpTo (linesOf s) stop))
-    (closing (stateBy ours (linesOf s) count .exited) (length (startsBy ours (linesOf s) count)) room (count + 1) (columnsOf s count Start) (heldAfter (linesOf s) count)
+    (closing (stateBy ours (linesOf s) count .exited) (length (startsBy ours (linesOf s) count)) room (count + 1) (byteColumns s count Start) (heldAfter (linesOf s) count)
     (peakUpTo (linesOf s) count))
     (small (reasonBy ours (linesOf s) stop) (stop + 2) x (heldAfter (linesOf s) stop) (peakUpTo (linesOf s) stop) p (columns-most s (suc stop) (positionBy ours (linesOf s) stop)))
-    (closing-small (stateBy ours (linesOf s) count .exited) (length (startsBy ours (linesOf s) count)) room (count + 1) (columnsOf s count Start) (heldAfter (linesOf s) count)
+    (closing-small (stateBy ours (linesOf s) count .exited) (length (startsBy ours (linesOf s) count)) room (count + 1) (byteColumns s count Start) (heldAfter (linesOf s) count)
     (peakUpTo (linesOf s) count) (omega (arith, q)) (columns-most s count Start))
 
 rules-small : (s : List ℕ) (room : ℕ) → lineCount s ≤ 4096 → Small (answerOf (sheetOf s) room)
 unfolding answerBy
 rules-small s room h =
     let stop = stopBy ours (linesOf s) (lineCount s - 1) in
-    let x = columnsOf s 0 Start in
+    let x = byteColumns s 0 Start in
     either (headed s) (answerAt ours (sheetOf s) room stop) (answer 2 1 x 0 0)
     (at-small s room stop (omega (arith, h, stop-le ours (linesOf s) (lineCount s - 1))) h)
     (small 2 1 x 0 0 (omega arith) (columns-most s 0 Start))

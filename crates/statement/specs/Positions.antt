@@ -1,8 +1,9 @@
--- Where the parts of a statement stand in its text, and the column of each in its line. `OperandsPlaced` of crate grammar ties this to the spellings.
--- Assumes nothing.
+-- Where the parts of a statement stand. A position is what is pointed at, as the opcode or an operand's name; its place is how many bytes of the statement's text
+-- stand before it; its column is counted in its line, from 1. `OperandsPlaced` of crate grammar ties places to the spellings. Assumes nothing.
 use Prim.Native.Nat.{ℕ, zero, suc, _+_, _-_}
 use mathlib.Core.List.{List, [], _∷_}
 use mathlib.Core.Bool.{Bool, true, false, not, _&&_, _||_, cond}
+use mathlib.Core.Option.{Option, none, some}
 use lib.ListN.{length, drop}
 use lib.Dec.{eqb}
 use Rattle.tokens.specs.Text.{byte}
@@ -10,12 +11,15 @@ use Rattle.tokens.specs.Bytes.{afterBlanks}
 use Rattle.statement.specs.declared.Reading.{Reading}
 use Rattle.statement.specs.declared.Reading.the-variants.{Got, NoForm, TooLarge}
 use Rattle.statement.specs.declared.Position.{Position}
-use Rattle.statement.specs.declared.Position.the-variants.{Start, Token, Opcode, Name, Operand}
+use Rattle.statement.specs.declared.Position.the-variants as position
+use Rattle.tokens.specs.declared.Name.{Name}
+use Rattle.statement.specs.declared.Operand.{Operand}
+use Rattle.statement.specs.declared.Operand.the-variants as operands
 use Rattle.statement.specs.declared.Mma.{Mma}
 use Rattle.statement.specs.declared.Statement.{Statement}
-use Rattle.statement.specs.Forms.{Slot, name, number, inBrackets, address, operand, names, row}
+use Rattle.statement.specs.Forms.{Slot, name, number, inBrackets, address, operand, names, Value, Values, row}
 use Rattle.statement.specs.Reading.{opcodeLen, readOf}
-use Rattle.statement.specs.Canonical.{sparse, opcodeOf}
+use Rattle.statement.specs.Canonical.{sparse, opcodeOf, valuesOf}
 
 -- ---- operands in a text
 -- after a byte we are inside braces: an opening one was met, or we were and it closes none
@@ -36,11 +40,12 @@ afterCommas (suc n) l = afterCommas n (afterComma false l)
 unfoldable pub operandFrom : List ℕ → ℕ → List ℕ
 operandFrom text i = afterBlanks (afterCommas i (drop (opcodeLen text) text))
 
--- the same from its name on, inside the bracket where it has one
+-- what follows a bracket that opens, and the spaces after it
 abbrev pub afterBracket : List ℕ → List ℕ
 afterBracket [] = []
 afterBracket (x ∷ l) = cond (eqb x (byte "[")) (afterBlanks l) (x ∷ l)
 
+-- a text from the name of operand i on, inside the bracket where it has one
 unfoldable pub nameFrom : List ℕ → ℕ → List ℕ
 nameFrom text i = afterBracket (operandFrom text i)
 
@@ -52,6 +57,7 @@ unfoldable pub namePlace : List ℕ → ℕ → ℕ
 namePlace text i = length text - length (nameFrom text i)
 
 -- ---- operands of a statement
+-- an address, not such as may be a name too
 abbrev pub isAddress : Slot → Bool
 isAddress name = false
 isAddress (number limit) = false
@@ -73,6 +79,26 @@ addressAt t = beforeAddress (row (opcodeOf t))
 abbrev pub idescAt : Mma → ℕ
 idescAt m = cond (sparse (m .metadata)) 4 3
 
+-- the names of its operands, in the order of the text: none for a number and for a list
+abbrev pub operandName : Operand → Name
+operandName (operands.Descriptor n) = n
+operandName (operands.Address a) = a .base
+
+abbrev pub slotName : (k : Slot) → Value k → Option Name
+slotName name v = some v
+slotName (number limit) v = none
+slotName inBrackets v = some v
+slotName address v = some (v .base)
+slotName operand v = some (operandName v)
+slotName names v = none
+
+abbrev pub rowNames : (ks : List Slot) → Values ks → List (Option Name)
+rowNames [] v = []
+rowNames (k ∷ ks) v = slotName k (v .0) ∷ rowNames ks (v .1)
+
+abbrev pub namesOf : Statement → List (Option Name)
+namesOf t = rowNames (row (opcodeOf t)) (valuesOf t [])
+
 -- ---- columns
 -- where reading stopped; 0 for a text that reads
 abbrev pub stopIn : Reading → ℕ
@@ -88,9 +114,9 @@ abbrev pub statementColumn : ℕ
 statementColumn = 3
 
 -- the column of a position in the line of a statement's text
-unfoldable pub columnOf : List ℕ → Position → ℕ
-columnOf text Start = startColumn
-columnOf text Token = statementColumn + stopIn (readOf text)
-columnOf text Opcode = statementColumn
-columnOf text (Name i) = statementColumn + namePlace text i
-columnOf text (Operand i) = statementColumn + operandPlace text i
+unfoldable pub byteColumn : List ℕ → Position → ℕ
+byteColumn text position.Start = startColumn
+byteColumn text position.Token = statementColumn + stopIn (readOf text)
+byteColumn text position.Opcode = statementColumn
+byteColumn text (position.Name i) = statementColumn + namePlace text i
+byteColumn text (position.Operand i) = statementColumn + operandPlace text i

@@ -1,6 +1,6 @@
 -- `places::column` meets its contract. One law for each position that has a place in the text. Assumes nothing.
 use borrow.Author.Needs.{needs}
-use Rattle.statement.specs.Positions.{columnOf}
+use Rattle.statement.specs.Positions.{byteColumn}
 use Rattle.places.proofs.Laws.{name-column, operand-column}
 use Rattle.places.proofs.column.Statement.{statement}
 use Rattle.places.proofs.column.Tie as tie
@@ -39,14 +39,14 @@ column-at-requires-2 : tie.Need-column-at-requires-2
 column-at-requires-2 c κs = search needs
 
 returns : tie.Need-returns
-unfolding columnOf
+unfolding byteColumn
 returns c = rw (c .enum-told .given .1)
 
 returns-2 : tie.Need-returns-2
 returns-2 c = rw (c .before .before .enum-told2 .given .1) (c .stopped .ensures)
 
 returns-3 : tie.Need-returns-3
-unfolding columnOf
+unfolding byteColumn
 returns-3 c = rw (c .enum-told3 .given .1)
 
 returns-4 : tie.Need-returns-4
