@@ -1,12 +1,14 @@
 -- Operands stand where their spelling has them: no byte of a token is a comma or a brace, but for those marks themselves, and the commas of a list of registers
 -- are inside its braces. So after one operand the next comma outside of braces is that of the row. Assumes nothing.
-use Prim.Native.Nat.{ℕ, zero, suc, _<_}
+use Prim.Native.Nat.{ℕ, zero, suc, _+_, _<_, _≤_}
 use native.Mathlib.Omega.{arith}
 use mathlib.Core.Path.{_≡_, refl, sym, ap, _∙_}
 use mathlib.Core.List.{List, [], _∷_, _++_, append-assoc}
 use mathlib.Core.Bool.{Bool, true, false, _&&_, not, cond}
-use lib.ListN.{length, take, drop, length-drop, take-append-drop}
-use lib.Dec.{eqb}
+use mathlib.Core.Option.{none, some, Option·some-injective, Option·none-ne-some}
+use lib.ListN.{length, take, drop, getD, length-append, length-drop, take-append-drop}
+use lib.Dec.{eqb, ltb}
+use borrow.Author.Tests.{ltb-true, ltb-false}
 use Rattle.tokens.specs.Text.{byte}
 use Rattle.tokens.specs.declared.Name.{Name}
 use Rattle.tokens.specs.Bytes.{letter, wordByte, blank, runLen, all, afterBlanks, tokenLen, tokenOf}
@@ -14,15 +16,16 @@ use Rattle.statement.specs.declared.Address.{Address}
 use Rattle.statement.specs.declared.Operand.{Operand}
 use Rattle.statement.specs.declared.Operand.the-variants as operand
 use Rattle.statement.specs.declared.Opcode.{Opcode}
+use Rattle.statement.specs.declared.Statement.{Statement}
 use Rattle.statement.specs.Forms.{Slot, name, number, inBrackets, address, operand, names, Value, Values, row, Whole, make}
 use Rattle.statement.specs.Canonical.{opcodeOf, valuesOf}
 use Rattle.statement.specs.Reading.{opcodeLen}
-use Rattle.statement.specs.Positions.{within, afterComma, afterCommas, operandFrom, afterBracket, nameFrom, operandPlace, namePlace}
+use Rattle.statement.specs.Positions.{within, afterComma, afterCommas, operandFrom, afterBracket, nameFrom, operandPlace, namePlace, slotName, rowNames, namesOf}
 use Rattle.grammar.specs.Spells.{spaces, Mark, Word, NameText, NumberText, BracketText, OffsetText, bare, plus, AddressText, OperandText, byName, byAddress, MoreNames, closes, comma, NamesText, opens, SlotText, MoreRow, RowText, Spells}
 use Rattle.grammar.specs.Operands.{Part, moreParts, rowParts, partsOf, nameIn, NameAt, NumberAt, MarkAt, Shows, Placed, AllPlaced, AllShown, OperandsPlaced}
-use Rattle.statement.proofs.Each.{each-opcode}
+use Rattle.statement.proofs.Each.{each-opcode, each-statement}
 use Rattle.laws.proofs.BoolLaws.{never, and-split}
-use Rattle.grammar.proofs.Lexing.{starts, whole, whole-head, other, word-at, token-is, name-whole, number-whole, mark-at}
+use Rattle.grammar.proofs.Lexing.{blanks-parts, starts, whole, whole-head, other, word-at, token-is, name-whole, number-whole, mark-at}
 use Rattle.grammar.proofs.Exact.{opcode-rest}
 use Rattle.grammar.proofs.Places.{place-drop}
 
@@ -286,6 +289,87 @@ Kept text o = (v : Values (row o)) → AllShown text 0 (row o) v → AllShown te
 kept : (text : List ℕ) (o : Opcode) → Kept text o
 kept text o = each-opcode (Kept text) o search
 
+-- ---- names
+slot-named : (k : Slot) (v : Value k) (n : Name) (here inner : List ℕ) → Shows k v here inner → slotName k v ≡ some n → NameAt n inner
+slot-named name v n here inner h e = rw (← Option·some-injective v n e) (h .1)
+slot-named (number limit) v n here inner h e = absurd (Option·none-ne-some n e)
+slot-named inBrackets v n here inner h e = rw (← Option·some-injective v n e) (h .1)
+slot-named address v n here inner h e = rw (← Option·some-injective (v .base) n e) (h .1)
+slot-named operand (operand.Descriptor m) n here inner h e = rw (← Option·some-injective m n e) (h .1)
+slot-named operand (operand.Address a) n here inner h e = rw (← Option·some-injective (a .base) n e) (h .1)
+slot-named names v n here inner h e = absurd (Option·none-ne-some n e)
+
+-- of the operands from operand i on
+row-named : (text : List ℕ) (i : ℕ) (ks : List Slot) (v : Values ks) → AllShown text i ks v → (j : ℕ) (n : Name) → getD (rowNames ks v) j none ≡ some n → NameAt n (drop (namePlace text (j + i)) text)
+row-named text i [] v h j n e = absurd (Option·none-ne-some n e)
+row-named text i (k ∷ ks) v h zero n e =
+    let same : 0 + i ≡ i = omega arith in
+    rw same (slot-named k (v .0) n (drop (operandPlace text i) text) (drop (namePlace text i) text) (h .0) e)
+row-named text i (k ∷ ks) v h (suc j) n e =
+    let same : suc j + i ≡ j + suc i = omega arith in
+    rw same (row-named text (suc i) ks (v .1) (h .1) j n e)
+
+-- whatever its registers are
+same-names : (t : Statement) (regs : List Name) → rowNames (row (opcodeOf t)) (valuesOf t regs) ≡ namesOf t
+same-names t = each-statement (λ t. (regs : List Name) → rowNames (row (opcodeOf t)) (valuesOf t regs) ≡ namesOf t) t search
+
+-- ---- places rise
+ends-length : (s l : List ℕ) → Ends s l → length l ≤ length s
+ends-length s l e = omega (arith, ap length (e .1), length-append (e .0) l)
+
+-- after a comma fewer bytes are left
+comma-length : (b : Bool) (s : List ℕ) → 0 < length s → length (afterComma b s) < length s
+unfolding afterComma
+comma-length b [] h = absurd (omega arith)
+comma-length b (x ∷ s) h = go (eqb x (byte ",") && not b)
+  where
+    go : (c : Bool) → length (cond c s (afterComma (within b x) s)) < suc (length s)
+    go true = omega arith
+    go false = omega (arith, ends-length s (afterComma (within b x) s) (ends-comma (within b x) s))
+
+pass-blanks : (b : Bool) (l : List ℕ) → afterComma b l ≡ afterComma b (afterBlanks l)
+pass-blanks b l = ap (afterComma b) (blanks-parts l) ∙ pass-spaces b (runLen blank l) (afterBlanks l)
+
+module _ (text : List ℕ) where
+  -- so there are fewer from the next operand on
+  next-length : (i : ℕ) → 0 < length (operandFrom text i) → length (operandFrom text (suc i)) < length (operandFrom text i)
+  unfolding operandFrom
+  next-length i h =
+      let l = afterCommas i (drop (opcodeLen text) text) in
+      let m = afterCommas (suc i) (drop (opcodeLen text) text) in
+      let e : m ≡ afterComma false (afterBlanks l) = commas-next i (drop (opcodeLen text) text) ∙ pass-blanks false l in
+      omega (arith, ends-length m (afterBlanks m) (ends-blanks m), ap length e, comma-length false (afterBlanks l) h)
+
+  next-rises : (i : ℕ) → operandPlace text i < length text → operandPlace text i < operandPlace text (suc i)
+  unfolding operandPlace
+  next-rises i h =
+      let some : 0 < length (operandFrom text i) = omega (arith, h) in
+      omega (arith, next-length i some, ends-length text (operandFrom text i) (ends-operand text i))
+
+  -- up to operand j, if all before it are in the text
+  rises : (i j : ℕ) → ((k : ℕ) → k < j → operandPlace text k < length text) → i < j → operandPlace text i < operandPlace text j
+  rises i zero h l = absurd (omega (arith, l))
+  rises i (suc j) h l = go (ltb i j) refl (rises i j (λ k m. h k (omega (arith, m))))
+    where
+      last : operandPlace text j < operandPlace text (suc j)
+      last = next-rises j (h j (omega arith))
+
+      go : (b : Bool) → ltb i j ≡ b → (i < j → operandPlace text i < operandPlace text j) → operandPlace text i < operandPlace text (suc j)
+      go true e before = omega (arith, before (ltb-true i j e), last)
+      go false e before =
+          let same : i ≡ j = omega (arith, l, ltb-false i j e) in
+          rw same last
+
+  -- what is placed is in the text
+  placed-inside : (i : ℕ) (ps : List Part) → AllPlaced text i ps → (k : ℕ) → k < length ps → operandPlace text (k + i) < length text
+  placed-inside i [] h k l = absurd (omega (arith, l))
+  placed-inside i (p ∷ ps) h zero l =
+      let same : 0 + i ≡ i = omega arith in
+      rw same (h .0 .inside)
+  placed-inside i (p ∷ ps) h (suc k) l =
+      let same : suc k + i ≡ k + suc i = omega arith in
+      rw same (placed-inside (suc i) ps (h .1) k (omega (arith, l)))
+
 -- ---- every text
 module _ (text : List ℕ) (w : Whole) (s : Spells w text) where
   all-placed : AllPlaced text 0 (partsOf s)
@@ -294,5 +378,17 @@ module _ (text : List ℕ) (w : Whole) (s : Spells w text) where
   all-shown : AllShown text 0 (row (opcodeOf (w .statement))) (valuesOf (w .statement) (w .registers))
   all-shown = rw (← s .made) (kept text (s .opcode) (s .values) (row-shown text (row (s .opcode)) (s .values) (s .rest) (s .operands) all-placed))
 
+  all-named : (i : ℕ) (n : Name) → getD (namesOf (w .statement)) i none ≡ some n → NameAt n (drop (namePlace text i) text)
+  all-named i n e =
+      let t = w .statement in
+      let shown = row-named text 0 (row (opcodeOf t)) (valuesOf t (w .registers)) all-shown i n (rw (same-names t (w .registers)) e) in
+      let same : i + 0 ≡ i = omega arith in
+      rw same at shown
+
+  all-rising : (i j : ℕ) → i < j → j < length (partsOf s) → operandPlace text i < operandPlace text j
+  all-rising i j l m =
+      let same : (k : ℕ) → k + 0 ≡ k = λ k. omega arith in
+      rises text i j (λ k h. rw (same k) at (placed-inside text 0 (partsOf s) all-placed k (omega (arith, h, m)))) l
+
 pub operands : (text : List ℕ) → OperandsPlaced text
-operands text = record { each = all-placed text; shown = all-shown text }
+operands text = record { each = all-placed text; shown = all-shown text; named = all-named text; rising = all-rising text }

@@ -4,7 +4,8 @@ use Prim.Native.Nat.{ℕ, suc, _<_}
 use mathlib.Core.Path.{_≡_}
 use mathlib.Core.List.{List, [], _∷_}
 use mathlib.Core.Bool.{true}
-use lib.ListN.{length, drop}
+use mathlib.Core.Option.{none, some}
+use lib.ListN.{length, drop, getD}
 use Rattle.tokens.specs.Text.{byte}
 use Rattle.tokens.specs.declared.Name.{Name}
 use Rattle.tokens.specs.Bytes.{afterBlanks, tokenOf}
@@ -14,7 +15,7 @@ use Rattle.statement.specs.declared.Operand.{Operand}
 use Rattle.statement.specs.declared.Operand.the-variants as operand
 use Rattle.statement.specs.Forms.{Slot, name, number, inBrackets, address, operand, names, Value, Values, row, Whole}
 use Rattle.statement.specs.Canonical.{opcodeOf, valuesOf}
-use Rattle.statement.specs.Positions.{operandPlace, namePlace}
+use Rattle.statement.specs.Positions.{operandPlace, namePlace, namesOf}
 use Rattle.grammar.specs.Spells.{OperandText, byName, byAddress, SlotText, MoreRow, RowText, Spells}
 
 -- ---- the operands of a spelling
@@ -103,3 +104,7 @@ pub record OperandsPlaced (text : List ℕ) : Type 0 where
   pub each : (w : Whole) (s : Spells w text) → AllPlaced text 0 (partsOf s)
   -- so at each place stands that operand of the statement.
   pub shown : (w : Whole) → Spells w text → AllShown text 0 (row (opcodeOf (w .statement))) (valuesOf (w .statement) (w .registers))
+  -- Where an operand of the statement has a name, the token at the place of the name is that name.
+  pub named : (w : Whole) → Spells w text → (i : ℕ) (n : Name) → getD (namesOf (w .statement)) i none ≡ some n → NameAt n (drop (namePlace text i) text)
+  -- Places rise along the text: of several operands the leftmost is that of the lowest index.
+  pub rising : (w : Whole) (s : Spells w text) (i j : ℕ) → i < j → j < length (partsOf s) → operandPlace text i < operandPlace text j
