@@ -8,7 +8,7 @@ use native.Mathlib.Omega.{arith}
 use lib.Dec.{ltb, eqb}
 use lib.ListN.{length, set, length-append}
 use lib.Seq.{sets}
-use borrow.Author.Tests.{ltb-true, ltb-false, eqb-true}
+use borrow.Author.Tests.{ltb-true, ltb-false, eqb-true, ne-eqb}
 use Rattle.laws.proofs.BoolLaws.{bool}
 use Rattle.laws.proofs.StoreLaws.{sets-append}
 use Rattle.laws.specs.Rules.{firstBroken}
@@ -16,7 +16,6 @@ use Rattle.lines.specs.Sheet.{mostLines}
 use Rattle.rules.specs.State.{State, opened, lowest}
 use Rattle.statement.specs.declared.Position.{Position}
 use Rattle.rules.specs.Rows.{firstPosition}
-use Rattle.checks.specs.Tables.{Tables}
 use Rattle.rules.specs.Sheet.{Line, lineRows, lineRules, lineEffect, given, requested, released, sum, heldAfter, peakUpTo, ours, stateBy, startsBy, rulesBy, reasonBy, positionBy, stateAfter, startsUpTo}
 use Rattle.rules.specs.Claims.{AllKept}
 use Rattle.rules.proofs.Figures.{held-next}
@@ -30,7 +29,7 @@ use Rattle.bindings.proofs.ShowLaws as bindings-laws
 use Rattle.steps.specs.declared.Step.{Step}
 use Rattle.steps.specs.Steps.{Arrays, arrays, Sized, Kept, Gives, LineDone}
 use Rattle.progress.specs.declared.Progress.{Progress}
-use Rattle.progress.specs.Going.{opening, Going, Ready, Small, passedBy, countedOf, Went}
+use Rattle.progress.specs.Going.{opening, Going, Ready, Small, passedBy, countedOf, ColumnDone, Went}
 use Rattle.progress.proofs.LineLaws.{asked-most, held-most, starts-few, start-below}
 
 -- ---- after line 1
@@ -175,34 +174,28 @@ module _ (lines : ℕ → Line) (k : ℕ) (first given₀ : List ℕ) (a : Array
 
 -- ---- what `advance` gives
 module _ (x : Line) (column : Position → ℕ) (given₀ : List ℕ) (a : Arrays) (p : Progress) (next : Arrays) (r : Step) (d : LineDone (p .held) x a (p .status) r next) where
-  -- what the tables kept tell of the column
-  abbrev Pointed : ℕ → Type 0
-  Pointed c =
-      (s : State) (held : ℕ) → Tables (next .hi) (next .lo) (next .columns) (next .valueHi) (next .valueLo) (next .numbers) (next .widths) s → 0 < r .reason
-      → r .reason ≡ firstBroken (lineRules lowest s held x) → c ≡ column (firstPosition (lineRows lowest s held x))
-
   -- at a line that is refused
-  pub stops : (r .reason ≡ 0 → ⊥) → (c : ℕ) → Pointed c → (q : Progress) → q ≡ passedBy p → (n : ℕ)
+  pub stops : (r .reason ≡ 0 → ⊥) → (c : ℕ) → ColumnDone (p .held) x column a (p .status) (r .reason) c → (q : Progress) → q ≡ passedBy p → (n : ℕ)
       → Went x column given₀ a p (record { progress = q; reason = r .reason; column = c; next = n }) given₀ next
-  unfolding reasonBy positionBy
-  stops z c b q e n lines k first g h =
-      let same = unchanged lines k first given₀ a p g x h next r d z in
-      let kept = subst (λ (y : Arrays). Kept y (p .status) (stateAfter lines k)) (sym same) (g .kept) in
-      record {
-        reasons = reason-is lines k first given₀ a p g x h next r d;
-        goes-on = λ y. absurd (z y);
-        points = λ y.
-            b (stateAfter lines k) (heldAfter lines k) (kept .tables) (omega (arith, z))
-            (reason-is lines k first given₀ a p g x h next r d ∙ ap (λ (y : Line). firstBroken (lineRules lowest (stateAfter lines k) (heldAfter lines k) y)) h)
-            ∙ sym (ap (λ (y : Line). column (firstPosition (lineRows lowest (stateAfter lines k) (heldAfter lines k) y))) h);
-        stops = λ y. (e, (refl, same));
-      }
+  unfolding positionBy
+  stops z c b q e n lines k first g h = record {
+    reasons = reason-is lines k first given₀ a p g x h next r d;
+    no-column = λ y. absurd (z y);
+    goes-on = λ y. absurd (z y);
+    points = λ y.
+        b (stateAfter lines k) (g .kept)
+        ∙ ap (λ (v : Bool). cond v 0 (column (firstPosition (lineRows lowest (stateAfter lines k) (p .held) x)))) (ne-eqb (r .reason) 0 z)
+        ∙ ap (λ (m : ℕ). column (firstPosition (lineRows lowest (stateAfter lines k) m x))) (g .held-is)
+        ∙ sym (ap (λ (y : Line). column (firstPosition (lineRows lowest (stateAfter lines k) (heldAfter lines k) y))) h);
+    stops = λ y. (e, (refl, unchanged lines k first given₀ a p g x h next r d z));
+  }
 
   -- at one that is accepted
   pub goes : r .reason ≡ 0 → (nextGiven : List ℕ) → nextGiven ≡ cond (eqb (r .asked) 0) given₀ (set given₀ (p .requests) (r .start % 65536))
       → (q : Progress) → q ≡ countedOf p r → (n : ℕ) → Went x column given₀ a p (record { progress = q; reason = 0; column = 0; next = n }) nextGiven next
   goes z nextGiven f q e n lines k first g h = record {
     reasons = sym z ∙ reason-is lines k first given₀ a p g x h next r d;
+    no-column = λ y. refl;
     goes-on = λ y. subst (λ (o : Progress). Going lines (suc k) first nextGiven next o) (sym e) (goes-on lines k first given₀ a p g x h next r d z nextGiven f);
     points = λ y. absurd (y refl);
     stops = λ y. absurd (y refl);

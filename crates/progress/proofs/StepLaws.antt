@@ -5,7 +5,8 @@ use mathlib.Core.Bool.{Bool, true, false, cond}
 use mathlib.Core.List.{List}
 use native.Mathlib.Omega.{arith}
 use lib.ListN.{length, take, drop}
-use borrow.Author.Tests.{lt-ltb}
+use lib.Dec.{eqb}
+use borrow.Author.Tests.{lt-ltb, eqb-true, eqb-false}
 use Rattle.lines.specs.declared.Line as lines
 use Rattle.lines.specs.Sheet.{Content, laid, contentSeen, lineAt}
 use Rattle.lines.proofs.SheetLaws.{fault-seen, laid-seen, line-seen, line-inside, line-next}
@@ -23,11 +24,11 @@ use Rattle.statement.specs.Views.{actOf}
 use Rattle.rules.specs.State.{State, lowest}
 use Rattle.rules.specs.Rows.{rulesOf, firstPosition}
 use Rattle.rules.specs.Reasons.{rows, rules}
-use Rattle.rules.specs.Sheet.{Line, badLayout, noForm, tooLarge, statement, lineRows, lineRules, lineOf, effect, given, requested, released}
+use Rattle.rules.specs.Sheet.{Line, badLayout, noForm, tooLarge, statement, lineRows, lineRules, lineOf, lineEffect, effect, given, requested, released}
 use Rattle.steps.specs.declared.Status.{Status}
 use Rattle.steps.specs.declared.Step.{Step}
-use Rattle.steps.specs.Steps.{Arrays, only, Gives, StatementDone, LineDone}
-use Rattle.progress.specs.Going.{seen, lineSeen, columnIn, columnSeen}
+use Rattle.steps.specs.Steps.{Arrays, Kept, only, Gives, StatementDone, LineDone}
+use Rattle.progress.specs.Going.{seen, lineSeen, columnIn, columnSeen, TextBlamed, ColumnDone}
 
 -- a line that is refused for a reason in any state
 only-done : (held : ℕ) (x : Line) (why : ℕ) → ((s : State) → firstBroken (lineRules lowest s held x) ≡ why) → (why ≡ 0 → ⊥)
@@ -67,6 +68,11 @@ unread-token s held w (Got t) h = absurd (h t refl)
 unread-token s held w (NoForm at) h = refl
 unread-token s held w (TooLarge at) h = refl
 
+unread-number : (reading : Reading) → Unread reading → eqb (reasonOf reading) 0 ≡ false
+unread-number (Got t) h = absurd (h t refl)
+unread-number (NoForm at) h = refl
+unread-number (TooLarge at) h = refl
+
 pub unread-column : (text : List ℕ) (reading : Reading) → reading ≡ readOf text → Unread reading → (r : ℕ) → r ≡ byteColumn text Token
     → (s : State) (held w : ℕ) → r ≡ byteColumn text (firstPosition (lineRows lowest s held (lineOf w (readOf text))))
 unread-column text reading e h r f s held w =
@@ -105,8 +111,14 @@ module _ (s : List ℕ) (at held : ℕ) (l : lines.Line) (e : l ≡ lineAt s at)
       subst (λ (x : Line). LineDone held x a status r a) q (refused-done held badLayout 2 (λ s. refl) (λ z. omega (arith, z)) a status r f)
 
   -- it is refused at its start, whatever the position
-  pub fault-column : l .ok ≡ false → (p : Position) → 1 ≡ columnSeen s at p
+  fault-column : l .ok ≡ false → (p : Position) → 1 ≡ columnSeen s at p
   fault-column h p = ap (λ (x : Content). columnIn x p) (sym (fault-seen s l h) ∙ ap (contentSeen s) e)
+
+  pub fault-points : l .ok ≡ false → (a : Arrays) (status : Status) (r : Step) → r ≡ only status 2 → (c : ℕ) → c ≡ 1
+      → ColumnDone held (lineSeen s at) (columnSeen s at) a status (r .reason) c
+  fault-points h a status r f c q state k =
+      let z : r .reason ≡ 2 = ap (λ (x : Step). x .reason) f in
+      rw z (q ∙ fault-column h (firstPosition (lineRows lowest state held (lineSeen s at))))
 
   module _ (h : l .ok ≡ true) where
     ok-there : lineAt s at .ok ≡ true
@@ -128,11 +140,11 @@ module _ (s : List ℕ) (at held : ℕ) (l : lines.Line) (e : l ≡ lineAt s at)
         omega (arith, w .names, warp-below (w .mark) (w .marks))
 
     -- its column is that of its text
-    pub part-column : (state : State) (n : ℕ) (why : ℕ) (r : ℕ)
-        → (why ≡ firstBroken (lineRules lowest state n (lineOf (l .warp) (readOf text))) → r ≡ byteColumn text (firstPosition (lineRows lowest state n (lineOf (l .warp) (readOf text)))))
-        → why ≡ firstBroken (lineRules lowest state n (lineSeen s at)) → r ≡ columnSeen s at (firstPosition (lineRows lowest state n (lineSeen s at)))
-    part-column state n why r =
-        subst (λ (x : Content). (why ≡ firstBroken (lineRules lowest state n (seen x)) → r ≡ columnIn x (firstPosition (lineRows lowest state n (seen x))))) (sym content-is)
+    abbrev Pointed : State → ℕ → Content → Type 0
+    Pointed state c x = c ≡ columnIn x (firstPosition (lineRows lowest state held (seen x)))
+
+    there : (state : State) (c : ℕ) → Pointed state c (laid (l .warp) text) → Pointed state c (contentSeen s (lineAt s at))
+    there state c = subst (Pointed state c) (sym content-is)
 
     module _ (reading : Reading) (f : reading ≡ readOf text) where
       -- its statement did not read
@@ -141,9 +153,31 @@ module _ (s : List ℕ) (at held : ℕ) (l : lines.Line) (e : l ≡ lineAt s at)
       not-read h a status why k r i =
           subst (λ (x : Line). LineDone held x a status r a) (line-is reading f) (unread-done held (l .warp) reading h a status r (i ∙ ap (only status) k))
 
+      pub unread-points : Unread reading → (a : Arrays) (status : Status) (why : ℕ) → why ≡ reasonOf reading → (r : Step) → r ≡ only status why
+          → (c : ℕ) → c ≡ byteColumn text Token → ColumnDone held (lineSeen s at) (columnSeen s at) a status (r .reason) c
+      unread-points h a status why k r i c q state m =
+          let z : eqb (r .reason) 0 ≡ false = ap (λ (x : Step). eqb (x .reason) 0) i ∙ ap (λ (n : ℕ). eqb n 0) k ∙ unread-number reading h in
+          rw z (there state c (unread-column text reading f h c q state held (l .warp)))
+
       -- its statement was read
       pub was-read : (t : Statement) → reading ≡ Got t → (a : Arrays) (status : Status) (r : Step) (b : Arrays) → StatementDone held (l .warp) t a status r b
           → LineDone held (lineSeen s at) a status r b
       was-read t g a status r b d =
           let q : statement (l .warp) t ≡ lineSeen s at = ap (lineOf (l .warp)) (sym g) ∙ line-is reading f in
           subst (λ (x : Line). LineDone held x a status r b) q (read-done held (l .warp) t a status r b warp-small d)
+
+      pub read-points : (a : Arrays) (status : Status) (r : Step) (b : Arrays) → LineDone held (lineSeen s at) a status r b
+          → (c : ℕ) → (r .reason ≡ 0 → c ≡ 0) → TextBlamed text (b .hi) (b .lo) (b .columns) (b .valueHi) (b .valueLo) (b .numbers) (b .widths) (r .reason) c
+          → ColumnDone held (lineSeen s at) (columnSeen s at) a status (r .reason) c
+      read-points a status r b d c z n state k = by (eqb (r .reason) 0) refl
+        where
+          gives : Gives (firstBroken (lineRules lowest state held (lineSeen s at))) (lineEffect lowest state (lineSeen s at)) (given lowest state (lineSeen s at)) (requested (lineSeen s at)) (released (lineSeen s at)) a status r b
+          gives = d state k
+
+          by : (v : Bool) → eqb (r .reason) 0 ≡ v → c ≡ cond v 0 (columnSeen s at (firstPosition (lineRows lowest state held (lineSeen s at))))
+          by true q = z (eqb-true (r .reason) 0 q)
+          by false q =
+              let y = eqb-false (r .reason) 0 q in
+              let kept = subst (λ (x : Arrays). Kept x status state) (sym (gives .unchanged y .0)) k in
+              let why : r .reason ≡ firstBroken (lineRules lowest state held (lineOf (l .warp) (readOf text))) = gives .reasons ∙ ap (λ (x : Line). firstBroken (lineRules lowest state held x)) (sym (line-is (readOf text) refl)) in
+              there state c (n state held (l .warp) (kept .tables) warp-small (omega (arith, y)) why)

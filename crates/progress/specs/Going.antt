@@ -15,6 +15,7 @@ use Rattle.rules.specs.State.{State, lowest}
 use Rattle.rules.specs.Rows.{firstPosition}
 use Rattle.rules.specs.Sheet.{Line, badLayout, lineOf, lineRows, lineRules, heldAfter, peakUpTo, ours, reasonBy, positionBy, stateAfter, startsUpTo}
 use Rattle.checks.specs.Tables.{Tables}
+use Rattle.steps.specs.declared.Status.{Status}
 use Rattle.steps.specs.declared.Step.{Step}
 use Rattle.steps.specs.Steps.{Arrays, Kept}
 use Rattle.progress.specs.declared.Progress.{Progress}
@@ -37,18 +38,16 @@ columnIn (laid warp text) p = byteColumn text p
 abbrev pub columnSeen : List ℕ → ℕ → Position → ℕ
 columnSeen s at = columnIn (contentSeen s (lineAt s at))
 
--- ---- where a refused line is refused, in every state that the tables lent hold, whatever is held
--- in the line of a text, of any warp
+-- ---- where a refused line is refused
+-- in the line of a text, of any warp and whatever is held, for every state that the tables lent hold
 abbrev pub TextBlamed : List ℕ → (hi lo columns valueHi valueLo numbers widths : List ℕ) → (reason : ℕ) → ℕ → Type 0
 TextBlamed text hi lo columns valueHi valueLo numbers widths reason r =
     (s : State) (held w : ℕ) → Tables hi lo columns valueHi valueLo numbers widths s → w < 4 → 0 < reason
     → reason ≡ firstBroken (lineRules lowest s held (lineOf w (readOf text))) → r ≡ byteColumn text (firstPosition (lineRows lowest s held (lineOf w (readOf text))))
 
--- in the line that starts at a place of a sheet
-abbrev pub LineBlamed : List ℕ → ℕ → (hi lo columns valueHi valueLo numbers widths : List ℕ) → (reason : ℕ) → ℕ → Type 0
-LineBlamed sheet at hi lo columns valueHi valueLo numbers widths reason r =
-    (s : State) (held : ℕ) → Tables hi lo columns valueHi valueLo numbers widths s → 0 < reason
-    → reason ≡ firstBroken (lineRules lowest s held (lineSeen sheet at)) → r ≡ columnSeen sheet at (firstPosition (lineRows lowest s held (lineSeen sheet at)))
+-- the column of a line, with the columns held before it, from any state that is kept: 0 where the line is accepted
+abbrev pub ColumnDone : (held : ℕ) → Line → (column : Position → ℕ) → Arrays → Status → (reason : ℕ) → ℕ → Type 0
+ColumnDone held x column a status reason r = (s : State) → Kept a status s → r ≡ cond (eqb reason 0) 0 (column (firstPosition (lineRows lowest s held x)))
 
 -- after line 1: no warp is fixed, nothing is relinquished, and nothing was asked for
 abbrev pub opening : Progress
@@ -100,7 +99,8 @@ pub record Small (p : Progress) (r : Step) : Type 0 where
 -- what the line after k lines gives, by the columns of its positions
 pub record Next (lines : ℕ → Line) (k : ℕ) (column : Position → ℕ) (first given : List ℕ) (a : Arrays) (p : Progress) (r : Advanced) (nextGiven : List ℕ) (next : Arrays) : Type 0 where
   pub reasons : r .reason ≡ reasonBy ours lines k
-  -- accepted: one line more is done
+  -- accepted: one line more is done, and there is no column
+  pub no-column : r .reason ≡ 0 → r .column ≡ 0
   pub goes-on : r .reason ≡ 0 → Going lines (suc k) first nextGiven next (r .progress)
   -- refused: it has the column of its position, and nothing changes but the line's number
   pub points : (r .reason ≡ 0 → ⊥) → r .column ≡ column (positionBy ours lines k)

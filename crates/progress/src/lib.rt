@@ -9,7 +9,7 @@ ghost use lib.Dec.{eqb};
 ghost use lib.ListN.{length, set};
 ghost use Rattle.lines.specs.Sheet.{mostLines, lineAt};
 ghost use Rattle.steps.specs.Steps.{arraysNow, arraysIn, arraysOut, only, Sized, LineDone};
-ghost use Rattle.progress.specs.Going.{opening, lineSeen, columnSeen, TextBlamed, LineBlamed, passedBy, countedOf, Small, Ready, Went};
+ghost use Rattle.progress.specs.Going.{opening, lineSeen, columnSeen, TextBlamed, ColumnDone, passedBy, countedOf, Small, Ready, Went};
 
 // What is known after some accepted lines, beside the arrays and the starts: what is kept, the requests, the columns held and
 // the most that were, and how many lines there are.
@@ -29,9 +29,10 @@ pub struct Advanced {
     pub next: usize,
 }
 
-// What a line gives, and where the next line starts.
+// What a line gives, its column, and where the next line starts.
 struct Stepped {
     step: Step,
+    column: usize,
     next: usize,
 }
 
@@ -54,8 +55,8 @@ pub fn opening() -> Progress
 }
 
 // A line that is refused before its statement.
-fn refused(reason: u32, status: Status, next: usize) -> Stepped
-    ensures { λ r. ⌜ (r .step ≡ only status reason) × (r .next ≡ next) ⌝ }
+fn refused(reason: u32, column: usize, status: Status, next: usize) -> Stepped
+    ensures { λ r. ⌜ (r .step ≡ only status reason) × (r .column ≡ column) × (r .next ≡ next) ⌝ }
 {
     Stepped {
         step: Step {
@@ -65,8 +66,46 @@ fn refused(reason: u32, status: Status, next: usize) -> Stepped
             returned: 0,
             status,
         },
+        column,
         next,
     }
+}
+
+// The column of a text that is refused for a reason: where reading stopped, or what the reason of its statement points at. 0 for no reason: it is read again
+// on a refusal alone.
+fn text_column<'a>(
+    text: &[u8],
+    hi: &'a [u64; 16],
+    lo: &'a [u64; 16],
+    columns: &'a [u16; 16],
+    value_hi: &'a [u64; 128],
+    value_lo: &'a [u64; 128],
+    numbers: &'a [u64; 128],
+    widths: &'a [u8; 128],
+    reason: u32,
+) -> usize
+    ensures passed { λ r. ⌜ (reason ≡ 0 → r ≡ 0) ⌝ }
+    ensures refused { λ r. ⌜ TextBlamed (now (text .entry)) (now (hi .entry)) (now (lo .entry)) (now (columns .entry)) (now («value_hi» .entry)) (now («value_lo» .entry)) (now (numbers .entry)) (now (widths .entry)) reason r ⌝ }
+{
+    if reason == reasons::PASSED {
+        return 0;
+    }
+    let reading = reader::read(text);
+    let Reading::Got(t) = reading else {
+        return places::stopped(text, reading);
+    };
+    let p = blame::position(
+        hi,
+        lo,
+        columns,
+        value_hi,
+        value_lo,
+        numbers,
+        widths,
+        t,
+        reason,
+    );
+    places::column(text, p)
 }
 
 // The line that starts at a place: read, judged and booked.
@@ -86,17 +125,20 @@ fn step(
     requires { ⌜ Sized (arraysNow hi lo columns «value_hi» «value_lo» numbers widths) ⌝ }
     ensures done { λ r. ⌜ LineDone held (lineSeen (now (sheet .entry)) at) (arraysIn hi lo columns «value_hi» «value_lo» numbers widths) status (r .step)
         (arraysOut hi lo columns «value_hi» «value_lo» numbers widths) ⌝ }
+    ensures column { λ r. ⌜ ColumnDone held (lineSeen (now (sheet .entry)) at) (columnSeen (now (sheet .entry)) at) (arraysIn hi lo columns «value_hi» «value_lo» numbers widths) status
+        (r .step .reason) (r .column) ⌝ }
     ensures next { λ r. ⌜ r .next ≡ lineAt (now (sheet .entry)) at .next ⌝ }
 {
     let line = lines::line_at(sheet, at);
     if !line.ok {
-        return refused(reasons::LAYOUT, status, line.next);
+        return refused(reasons::LAYOUT, 1, status, line.next);
     }
     let start = line.start;
     let end = line.end;
     let reading = reader::read(&sheet[start..end]);
     let Reading::Got(t) = reading else {
-        return refused(reader::reason(reading), status, line.next);
+        let column = places::stopped(&sheet[start..end], reading);
+        return refused(reader::reason(reading), column, status, line.next);
     };
     let step = steps::statement(
         hi,
@@ -111,8 +153,20 @@ fn step(
         line.warp,
         t,
     );
+    let column = text_column(
+        &sheet[start..end],
+        hi,
+        lo,
+        columns,
+        value_hi,
+        value_lo,
+        numbers,
+        widths,
+        step.reason,
+    );
     Stepped {
         step,
+        column,
         next: line.next,
     }
 }
@@ -183,72 +237,6 @@ fn passed_by(p: Progress) -> Progress
     }
 }
 
-// Where a text is refused for a reason: where reading stopped, or what the reason of its statement points at.
-fn text_column<'a>(
-    text: &[u8],
-    hi: &'a [u64; 16],
-    lo: &'a [u64; 16],
-    columns: &'a [u16; 16],
-    value_hi: &'a [u64; 128],
-    value_lo: &'a [u64; 128],
-    numbers: &'a [u64; 128],
-    widths: &'a [u8; 128],
-    reason: u32,
-) -> usize
-    ensures { λ r. ⌜ TextBlamed (now (text .entry)) (now (hi .entry)) (now (lo .entry)) (now (columns .entry)) (now («value_hi» .entry)) (now («value_lo» .entry)) (now (numbers .entry)) (now (widths .entry)) reason r ⌝ }
-{
-    let reading = reader::read(text);
-    let Reading::Got(t) = reading else {
-        return places::stopped(text, reading);
-    };
-    let p = blame::position(
-        hi,
-        lo,
-        columns,
-        value_hi,
-        value_lo,
-        numbers,
-        widths,
-        t,
-        reason,
-    );
-    places::column(text, p)
-}
-
-// Where the line that starts at a place is refused for a reason.
-fn line_column<'a>(
-    sheet: &[u8],
-    at: usize,
-    hi: &'a [u64; 16],
-    lo: &'a [u64; 16],
-    columns: &'a [u16; 16],
-    value_hi: &'a [u64; 128],
-    value_lo: &'a [u64; 128],
-    numbers: &'a [u64; 128],
-    widths: &'a [u8; 128],
-    reason: u32,
-) -> usize
-    ensures { λ r. ⌜ LineBlamed (now (sheet .entry)) at (now (hi .entry)) (now (lo .entry)) (now (columns .entry)) (now («value_hi» .entry)) (now («value_lo» .entry)) (now (numbers .entry)) (now (widths .entry)) reason r ⌝ }
-{
-    let line = lines::line_at(sheet, at);
-    if !line.ok {
-        return 1;
-    }
-    let start = line.start;
-    let end = line.end;
-    text_column(
-        &sheet[start..end],
-        hi,
-        lo,
-        columns,
-        value_hi,
-        value_lo,
-        numbers,
-        widths,
-        reason,
-    )
-}
-
 // The line that starts at a place: judged and booked, its start put, and counted. A refused line changes its number alone.
 pub fn advance(
     sheet: &[u8],
@@ -285,23 +273,11 @@ pub fn advance(
     let step = done.step;
     let reason = step.reason;
     if reason != reasons::PASSED {
-        let column = line_column(
-            sheet,
-            at,
-            hi,
-            lo,
-            columns,
-            value_hi,
-            value_lo,
-            numbers,
-            widths,
-            reason,
-        );
         let progress = passed_by(p);
         return Advanced {
             progress,
             reason,
-            column,
+            column: done.column,
             next: done.next,
         };
     }
