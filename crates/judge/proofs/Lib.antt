@@ -1,3 +1,4 @@
 pub mod Standing
 pub mod Whole
 pub mod Exactly
+pub mod ColumnsProved
