@@ -1,3 +1,5 @@
 pub mod Standing
 pub mod Whole
 pub mod Exactly
+pub mod ColumnsProved
+pub mod WorkedProved

@@ -1,2 +1,4 @@
 pub mod Judged
+pub mod Columns
+pub mod Worked
 pub mod Standing
