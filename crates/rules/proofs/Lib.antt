@@ -8,3 +8,4 @@ pub mod OrderlyProved
 pub mod RulesProved
 pub mod FiguresProved
 pub mod WorkedProved
+pub mod PointingProved

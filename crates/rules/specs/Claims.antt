@@ -2,7 +2,7 @@
 -- the allocations live there. proofs/RulesProved.antt and proofs/FiguresProved.antt have the proofs. Assumes nothing.
 use Prim.Native.Nat.{ℕ, zero, suc, _+_, _%_, _≤_, _<_}
 use mathlib.Core.Path.{_≡_}
-use mathlib.Core.Bool.{Bool, true, false, cond}
+use mathlib.Core.Bool.{Bool, true, false, _&&_, _||_, cond}
 use mathlib.Core.List.{List, [], _∷_, _++_}
 use mathlib.Core.Option.{none, some}
 use mathlib.Core.Logic.{_⊎_, _↔_}
@@ -10,11 +10,17 @@ use lib.Dec.{leb, eqb}
 use lib.ListN.{length}
 use Rattle.laws.specs.Rules.{Rule, rule}
 use Rattle.tokens.specs.declared.Name.{Name}
+use Rattle.statement.specs.declared.Address.{Address}
+use Rattle.statement.specs.declared.Access.{Access}
+use Rattle.statement.specs.declared.Metadata.the-variants.{Dense, Sparse}
+use Rattle.statement.specs.declared.Mma.{Mma}
 use Rattle.statement.specs.declared.Statement.{Statement}
+use Rattle.statement.specs.declared.Statement.the-variants.{Mov32, Mov64, Alloc, Dealloc, Load, Store, Multiply}
+use Rattle.statement.specs.Positions.{namesOf, operandName, addressAt, idescAt}
 use Rattle.statement.specs.declared.Position.{Position}
 use Rattle.rules.specs.State.{State, Placer, Allocation, isLive, isBound, isFree, lowest, total}
 use Rattle.statement.specs.Views.{exitIn}
-use Rattle.rules.specs.Rows.{Sort, atStart, atOpcode, atName, atOperand, pointed, Test, test, kept, whole, Row, row, rulesOf}
+use Rattle.rules.specs.Rows.{Sort, atStart, atToken, atOpcode, atName, atOperand, pointed, Test, test, kept, whole, Row, row, rulesOf}
 use Rattle.rules.specs.Sheet.{Line, statement, actIn, lineRows, Sheet, Placing, stateBy, startsBy, rowsBy, rulesBy, stopBy, heldAfter, peakUpTo, answerBy}
 
 -- ---- lists of rules
@@ -73,6 +79,80 @@ pub record InOrder (place : Placer) (s : State) (held w : ℕ) (t : Statement) :
       ∷ (15, atStart)
       ∷ []
   pub after : s .exited ≡ true → heads (lineRows place s held (statement w t)) ≡ (2, atStart) ∷ (5, atOpcode) ∷ (15, atStart) ∷ []
+
+-- ---- what a column points at
+-- each reason of a sheet with it, by the published sentence; 1 and 0 have none
+abbrev pub pointing : List (ℕ × Sort)
+pointing =
+    -- the line's first byte
+    (2, atStart)
+    ∷ (15, atStart)
+    ∷ (16, atStart)
+    -- the token at which no form can go on; the number that is too large
+    ∷ (3, atToken)
+    ∷ (4, atToken)
+    -- the number
+    ∷ (9, atOperand)
+    -- the name
+    ∷ (6, atName)
+    ∷ (7, atName)
+    -- the descriptor's name
+    ∷ (12, atName)
+    ∷ (13, atName)
+    ∷ (20, atName)
+    ∷ (21, atName)
+    -- the address
+    ∷ (14, atOperand)
+    -- the address of a ld or st, else the warp
+    ∷ (8, atOperand)
+    ∷ (8, atStart)
+    -- any other the opcode
+    ∷ (5, atOpcode)
+    ∷ (10, atOpcode)
+    ∷ (11, atOpcode)
+    ∷ []
+
+abbrev pub rank : Sort → ℕ
+rank atStart = 0
+rank atToken = 1
+rank atOpcode = 2
+rank atName = 3
+rank atOperand = 4
+
+-- a number with a sort is in a list
+abbrev pub has : ℕ → Sort → List (ℕ × Sort) → Bool
+has n sort [] = false
+has n sort ((m, other) ∷ l) = (eqb n m && eqb (rank sort) (rank other)) || has n sort l
+
+-- every row has its number and its sort in the table
+abbrev pub published : List Row → Bool
+published [] = true
+published (row n sort tests ∷ rs) = has n sort pointing && published rs
+
+-- the operands of tests do not fall, so that the first test that is broken is the leftmost in the text (`rising` of crate grammar)
+abbrev pub rises : List Test → Bool
+rises [] = true
+rises (test i b ∷ []) = true
+rises (test i b ∷ (test j c ∷ l)) = leb i j && rises (test j c ∷ l)
+
+abbrev pub allRise : List Row → Bool
+allRise [] = true
+allRise (row n sort tests ∷ rs) = rises tests && allRise rs
+
+-- ---- the operands that tests name: of each form, the names of its operands in the order of the text
+pub record OperandsNamed : Type 0 where
+  pub mov32 : (n : Name) (v : ℕ) → namesOf (Mov32 n v) ≡ some n ∷ none ∷ []
+  pub mov64 : (n : Name) (v : ℕ) → namesOf (Mov64 n v) ≡ some n ∷ none ∷ []
+  pub alloc : (n : Name) (v : ℕ) → namesOf (Alloc n v) ≡ some n ∷ none ∷ []
+  pub dealloc : (n : Name) (v : ℕ) → namesOf (Dealloc n v) ≡ some n ∷ none ∷ []
+  -- the address of a ld comes second, that of a st first
+  pub load : (a : Access) → (namesOf (Load a) ≡ none ∷ some (a .address .base) ∷ []) × (addressAt (Load a) ≡ 1)
+  pub store : (a : Access) → (namesOf (Store a) ≡ some (a .address .base) ∷ none ∷ []) × (addressAt (Store a) ≡ 0)
+  -- d, a, b, the metadata with `.sp`, idesc and the predicate
+  pub dense : (m : Mma) → m .metadata ≡ Dense
+      → (namesOf (Multiply m) ≡ some (m .d .base) ∷ some (operandName (m .a)) ∷ some (m .b) ∷ some (m .idesc) ∷ some (m .predicate) ∷ []) × (idescAt m ≡ 3)
+  pub sparse : (m : Mma) (e : Address) → m .metadata ≡ Sparse e
+      → (namesOf (Multiply m) ≡ some (m .d .base) ∷ some (operandName (m .a)) ∷ some (m .b) ∷ some (e .base) ∷ some (m .idesc) ∷ some (m .predicate) ∷ []) × (idescAt m ≡ 4)
 
 -- ---- the placing
 -- each of that many columns from a start on is below 512 and in no live allocation
@@ -138,6 +218,11 @@ module _ (placing : Placing) (sheet : Sheet) (room : ℕ) where
     pub position : Position
     pub here : FirstIs number position (rowsAt l)
     pub stands : sheet .column l position ≡ column
+
+  -- every rule of the sheet points as published, and has its tests in the order of the text
+  pub record Pointing : Type 0 where
+    pub as-published : (l : ℕ) → published (rowsAt l) ≡ true
+    pub in-text-order : (l : ℕ) → allRise (rowsAt l) ≡ true
 
   -- the claim
   pub record RulesExact : Type 0 where

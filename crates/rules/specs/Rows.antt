@@ -32,6 +32,7 @@ pointed atOperand i = position.Operand i
 pub data Test : Type 0 where
   test : (operand : ℕ) → (kept : Bool) → Test
 
+-- whether each is kept; and whether all are
 abbrev pub outcomes : List Test → List Bool
 outcomes [] = []
 outcomes (test i b ∷ l) = b ∷ outcomes l
@@ -44,7 +45,7 @@ abbrev pub leftmost : List Test → ℕ
 leftmost [] = 0
 leftmost (test i b ∷ l) = cond b (leftmost l) i
 
--- one test of an operand; one of the statement as a whole, where no operand is asked for; and one that is broken
+-- one test of an operand; one of the statement as a whole, for rows that point at no operand; and one that is broken
 abbrev pub one : ℕ → Bool → List Test
 one i b = test i b ∷ []
 

@@ -2,7 +2,8 @@
 -- definition is seen here. proofs/WorkedProved.antt computes them. Assumes nothing.
 use Prim.Native.Nat.{ℕ, zero, suc, _+_, _*_}
 use mathlib.Core.Path.{_≡_}
-use mathlib.Core.Bool.{Bool, true, false}
+use mathlib.Core.Bool.{Bool, true, false, cond}
+use lib.Dec.{eqb}
 use mathlib.Core.List.{List, [], _∷_, _++_}
 use mathlib.Core.Option.{none}
 use lib.ListN.{getD, length}
@@ -27,7 +28,8 @@ use Rattle.statement.specs.declared.Statement.{Statement}
 use Rattle.statement.specs.declared.Statement.the-variants.{Mov32, Mov64, Alloc, Dealloc, Relinquish, Load, Store, Multiply, Exit}
 use Rattle.rules.specs.declared.Answer.{Answer}
 use Rattle.rules.specs.State.{State, Allocation, Binding, lowest}
-use Rattle.rules.specs.Reasons.{openRules}
+use Rattle.rules.specs.Rows.{Row, rulesOf, firstPosition}
+use Rattle.rules.specs.Reasons.{openRows}
 use Rattle.rules.specs.Sheet.{Line, badLayout, noForm, tooLarge, statement, answer, answerOf}
 
 -- ---- lines
@@ -290,6 +292,8 @@ positionCases =
     ∷ (ofMma 0x0C000020 shared shared (mma (at 1 0 1) a3 4 Dense 2), (13, 13))
     ∷ (ofMma 0x08000020 shared shared (mma (at 1 0 1) a3 4 Dense 2), (20, 13))
     ∷ (ofMma 0x08100020 shared shared (mma (at 1 0 1) a3 4 Dense 2), (21, 13))
+    ∷ (ofMma 0x0C000024 shared shared (mma (at 1 0 1) a3 4 (Sparse (at 1 0 0)) 2), (13, 14))
+    ∷ (ofMma 0x08000024 shared shared (mma (at 1 0 1) a3 4 (Sparse (at 1 0 0)) 2), (20, 14))
     ∷ (ofMma 0x08100024 shared shared (mma (at 1 0 1) a3 4 (Sparse (at 1 0 0)) 2), (21, 14))
     -- 14: d, a and the metadata
     ∷ (ofMma m128n64 shared shared (mma (at 1 0 1) (operand.Address (at 1 0 57)) 4 Dense 2), (14, 20))
@@ -311,31 +315,34 @@ holdings apart (suc n) = record { name = name (1000 + n); start = n * apart; col
 abbrev pub stateOf : List Allocation → List Binding → State
 stateOf live bound = record { live = live; values = bound; warp = none; relinquished = false; exited = false }
 
--- the reason of a statement of warp 0 in a state, with those columns held
+-- the reason and the position of a statement of warp 0 in a state, with those columns held
 abbrev pub InState : Type 0
 InState = List Allocation × List Binding × ℕ × Statement
 
-abbrev pub stateReason : InState → ℕ
-stateReason x = firstBroken (openRules lowest (stateOf (x .0) (x .1)) (x .2) 0 (x .3))
+abbrev pub blamedOf : List Row → ℕ × ℕ
+blamedOf rs = (firstBroken (rulesOf rs), cond (eqb (firstBroken (rulesOf rs)) 0) 0 (mark (firstPosition rs)))
 
-abbrev pub stateCases : List (InState × ℕ)
+abbrev pub stateBlamed : InState → ℕ × ℕ
+stateBlamed x = blamedOf (openRows lowest (stateOf (x .0) (x .1)) (x .2) 0 (x .3))
+
+abbrev pub stateCases : List (InState × (ℕ × ℕ))
 stateCases =
     -- the 128th value name and the 129th, at either width; a name bound again takes no place
-    (([], valueNames 127, 0, Mov32 (name 200) 0), 0)
-    ∷ (([], valueNames 128, 0, Mov32 (name 200) 0), 7)
-    ∷ (([], valueNames 128, 0, Mov64 (name 200) 0), 7)
-    ∷ (([], valueNames 128, 0, Mov64 (name 128) 0), 0)
+    (([], valueNames 127, 0, Mov32 (name 200) 0), (0, 0))
+    ∷ (([], valueNames 128, 0, Mov32 (name 200) 0), (7, 10))
+    ∷ (([], valueNames 128, 0, Mov64 (name 200) 0), (7, 10))
+    ∷ (([], valueNames 128, 0, Mov64 (name 128) 0), (0, 0))
     -- sixteen holdings of 32 leave nothing; with every other one given back 256 columns are free, but no run of 64
-    ∷ ((holdings 32 15, [], 480, Alloc (name 1) 32), 0)
-    ∷ ((holdings 32 15, [], 480, Alloc (name 1) 64), 11)
-    ∷ ((holdings 32 16, [], 512, Alloc (name 1) 32), 11)
-    ∷ ((holdings 64 8, [], 256, Alloc (name 1) 32), 0)
-    ∷ ((holdings 64 8, [], 256, Alloc (name 1) 64), 11)
+    ∷ ((holdings 32 15, [], 480, Alloc (name 1) 32), (0, 0))
+    ∷ ((holdings 32 15, [], 480, Alloc (name 1) 64), (11, 3))
+    ∷ ((holdings 32 16, [], 512, Alloc (name 1) 32), (11, 3))
+    ∷ ((holdings 64 8, [], 256, Alloc (name 1) 32), (0, 0))
+    ∷ ((holdings 64 8, [], 256, Alloc (name 1) 64), (11, 3))
     -- exit by the columns held, whatever is stored
-    ∷ (([], [], 0, Exit), 0)
-    ∷ (([], [], 1, Exit), 15)
-    ∷ ((holdings 32 1, [], 32, Exit), 15)
-    ∷ ((holdings 32 1, [], 0, Exit), 0)
+    ∷ (([], [], 0, Exit), (0, 0))
+    ∷ (([], [], 1, Exit), (15, 1))
+    ∷ ((holdings 32 1, [], 32, Exit), (15, 1))
+    ∷ ((holdings 32 1, [], 0, Exit), (0, 0))
     ∷ []
 
 -- ---- the claim
@@ -348,4 +355,4 @@ pub record Worked : Type 0 where
   pub lanes : Gives laneReason laneCases
   pub mmas : Gives mmaReason mmaCases
   pub positions : Gives blamed positionCases
-  pub states : Gives stateReason stateCases
+  pub states : Gives stateBlamed stateCases
