@@ -186,8 +186,8 @@ uint32_t staplehorn_request(uint32_t columns);
 
 /* The reason of a statement's text by itself: 3 no form matches, 4 a number is too large, 5 N is over the shape's largest
    or the count of registers differs; else 0. At most 4,096 bytes; a longer text is 3. The byte to which it points, counted from
-   1 at the text's first byte, goes to *column: for 3 and 4 where reading stops, which may be one past the end; 1 for 5; 0
-   for 0. In a line of a sheet the same refusal has a column 2 higher. */
+   1 at the text's first byte, goes to *column: for 3 where no form can go on, which may be one past the end; for 4 the
+   number; 1 for 5; 0 for 0. In a line of a sheet the same refusal has a column 2 higher. */
 uint32_t staplehorn_statement_reason(const uint8_t *text, size_t text_length, size_t *column);
 
 /* The canonical text of a statement: one space after the opcode and after each comma, decimals, no `+0` and no

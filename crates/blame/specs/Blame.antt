@@ -15,7 +15,7 @@ use Rattle.rules.specs.Rows.{Test, kept, leftmost, firstPosition}
 use Rattle.rules.specs.Reasons.{mmaNamed, mmaReads, allEnd, openRows, openRules, rows, rules}
 use Rattle.checks.specs.Tables.{Tables}
 
--- the reasons of an alloc, dealloc or relinquish: its name, the warp, its number, else its opcode
+-- what the reason of an alloc, dealloc or relinquish points at: its name, the warp, its number, else its opcode
 abbrev pub bookingAt : ℕ → Position
 bookingAt reason = cond (eqb reason 6) (Name 0) (cond (eqb reason 8) Start (cond (eqb reason 9) (Operand 1) Opcode))
 

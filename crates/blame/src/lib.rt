@@ -1,4 +1,4 @@
-// Where a refused line breaks its reason: asked for a line that is refused, so that a sheet that passes pays nothing.
+// What the reason of a refused line points at: asked for a line that is refused, so that a sheet that passes pays nothing.
 ghost use mathlib.Core.Path.{_≡_};
 ghost use Rattle.statement.specs.Positions.{idescAt};
 ghost use Rattle.blame.specs.Blame.{bookingAt, accessAt, NamesBlamed, WordsBlamed, CellsBlamed, MmaBlamed, Blamed};

@@ -32,7 +32,7 @@ fn judge_count(t: Statement) -> Alone
     }
 }
 
-// Of a text: 3 or 4 where reading stopped, if it does not read.
+// Of a text: 3 or 4 if it does not read, with the place of the token or of the number.
 pub fn judge_text(text: &[u8]) -> Alone
     ensures { λ r. ⌜ r ≡ aloneOf (readOf (now (text .entry))) ⌝ }
 {

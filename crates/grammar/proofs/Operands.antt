@@ -8,7 +8,7 @@ use mathlib.Core.Bool.{Bool, true, false, _&&_, not, cond}
 use mathlib.Core.Option.{none, some, Option·some-injective, Option·none-ne-some}
 use lib.ListN.{length, take, drop, getD, length-append, length-drop, take-append-drop}
 use lib.Dec.{eqb, ltb}
-use borrow.Author.Tests.{ltb-true, ltb-false}
+use borrow.Author.Tests.{ltb-true, ltb-false, eqb-true}
 use Rattle.tokens.specs.Text.{byte}
 use Rattle.tokens.specs.declared.Name.{Name}
 use Rattle.tokens.specs.Bytes.{letter, wordByte, blank, runLen, all, afterBlanks, tokenLen, tokenOf}
@@ -330,6 +330,15 @@ comma-length b (x ∷ s) h = go (eqb x (byte ",") && not b)
 pass-blanks : (b : Bool) (l : List ℕ) → afterComma b l ≡ afterComma b (afterBlanks l)
 pass-blanks b l = ap (afterComma b) (blanks-parts l) ∙ pass-spaces b (runLen blank l) (afterBlanks l)
 
+-- a bracket is none, nor are the spaces after it
+pass-opening : (l : List ℕ) → afterComma false l ≡ afterComma false (afterBracket l)
+pass-opening [] = refl
+pass-opening (x ∷ l) = go (eqb x (byte "[")) refl
+  where
+    go : (c : Bool) → eqb x (byte "[") ≡ c → afterComma false (x ∷ l) ≡ afterComma false (cond c (afterBlanks l) (x ∷ l))
+    go true e = ap (λ (y : ℕ). afterComma false (y ∷ l)) (eqb-true x (byte "[") e) ∙ (pass false (byte "[") l refl refl refl ∙ pass-blanks false l)
+    go false e = refl
+
 module _ (text : List ℕ) where
   -- so there are fewer from the next operand on
   next-length : (i : ℕ) → 0 < length (operandFrom text i) → length (operandFrom text (suc i)) < length (operandFrom text i)
@@ -339,6 +348,25 @@ module _ (text : List ℕ) where
       let m = afterCommas (suc i) (drop (opcodeLen text) text) in
       let e : m ≡ afterComma false (afterBlanks l) = commas-next i (drop (opcodeLen text) text) ∙ pass-blanks false l in
       omega (arith, ends-length m (afterBlanks m) (ends-blanks m), ap length e, comma-length false (afterBlanks l) h)
+
+  -- and fewer than from this one's name on
+  after-name : (i : ℕ) → 0 < length (nameFrom text i) → length (operandFrom text (suc i)) < length (nameFrom text i)
+  unfolding operandFrom nameFrom
+  after-name i h =
+      let l = afterCommas i (drop (opcodeLen text) text) in
+      let m = afterCommas (suc i) (drop (opcodeLen text) text) in
+      let e : m ≡ afterComma false (afterBracket (afterBlanks l)) = commas-next i (drop (opcodeLen text) text) ∙ (pass-blanks false l ∙ pass-opening (afterBlanks l)) in
+      omega (arith, ends-length m (afterBlanks m) (ends-blanks m), ap length e, comma-length false (afterBracket (afterBlanks l)) h)
+
+  name-within : (i : ℕ) → operandPlace text i ≤ namePlace text i
+  unfolding operandPlace namePlace nameFrom
+  name-within i = omega (arith, ends-length (operandFrom text i) (afterBracket (operandFrom text i)) (ends-bracket (operandFrom text i)))
+
+  name-before : (i : ℕ) → namePlace text i < length text → namePlace text i < operandPlace text (suc i)
+  unfolding operandPlace namePlace
+  name-before i h =
+      let some : 0 < length (nameFrom text i) = omega (arith, h) in
+      omega (arith, after-name i some, ends-length text (nameFrom text i) (ends-name text i))
 
   next-rises : (i : ℕ) → operandPlace text i < length text → operandPlace text i < operandPlace text (suc i)
   unfolding operandPlace
@@ -370,6 +398,15 @@ module _ (text : List ℕ) where
       let same : suc k + i ≡ k + suc i = omega arith in
       rw same (placed-inside (suc i) ps (h .1) k (omega (arith, l)))
 
+  name-inside : (i : ℕ) (ps : List Part) → AllPlaced text i ps → (k : ℕ) → k < length ps → namePlace text (k + i) < length text
+  name-inside i [] h k l = absurd (omega (arith, l))
+  name-inside i (p ∷ ps) h zero l =
+      let same : 0 + i ≡ i = omega arith in
+      rw same (h .0 .nameInside)
+  name-inside i (p ∷ ps) h (suc k) l =
+      let same : suc k + i ≡ k + suc i = omega arith in
+      rw same (name-inside (suc i) ps (h .1) k (omega (arith, l)))
+
 -- ---- every text
 module _ (text : List ℕ) (w : Whole) (s : Spells w text) where
   all-placed : AllPlaced text 0 (partsOf s)
@@ -385,10 +422,20 @@ module _ (text : List ℕ) (w : Whole) (s : Spells w text) where
       let same : i + 0 ≡ i = omega arith in
       rw same at shown
 
-  all-rising : (i j : ℕ) → i < j → j < length (partsOf s) → operandPlace text i < operandPlace text j
+  all-rising : (i j : ℕ) → i < j → j < length (partsOf s) → (operandPlace text i ≤ namePlace text i) × (namePlace text i < operandPlace text j)
   all-rising i j l m =
       let same : (k : ℕ) → k + 0 ≡ k = λ k. omega arith in
-      rises text i j (λ k h. rw (same k) at (placed-inside text 0 (partsOf s) all-placed k (omega (arith, h, m)))) l
+      let here : namePlace text i < operandPlace text (suc i) = name-before text i (rw (same i) at (name-inside text 0 (partsOf s) all-placed i (omega (arith, l, m)))) in
+      (name-within text i, go (ltb (suc i) j) refl here)
+    where
+      inside : (k : ℕ) → k < j → operandPlace text k < length text
+      inside k h = let same : k + 0 ≡ k = omega arith in rw same at (placed-inside text 0 (partsOf s) all-placed k (omega (arith, h, m)))
+
+      go : (b : Bool) → ltb (suc i) j ≡ b → namePlace text i < operandPlace text (suc i) → namePlace text i < operandPlace text j
+      go true e before = omega (arith, before, rises text (suc i) j inside (ltb-true (suc i) j e))
+      go false e before =
+          let same : suc i ≡ j = omega (arith, l, ltb-false (suc i) j e) in
+          rw (← same) before
 
 pub operands : (text : List ℕ) → OperandsPlaced text
 operands text = record { each = all-placed text; shown = all-shown text; named = all-named text; rising = all-rising text }

@@ -1,6 +1,6 @@
 -- Where the operands of a statement stand in its text, in every text that spells it. The spelling has each operand's own bytes: the first operand's after the
 -- opcode, each other's after its comma. `Placed` says that the places which a column is counted from are those of these bytes. Assumes nothing.
-use Prim.Native.Nat.{ℕ, suc, _<_}
+use Prim.Native.Nat.{ℕ, suc, _<_, _≤_}
 use mathlib.Core.Path.{_≡_}
 use mathlib.Core.List.{List, [], _∷_}
 use mathlib.Core.Bool.{true}
@@ -40,16 +40,16 @@ abbrev pub partsOf : {w : Whole} {text : List ℕ} → Spells w text → List Pa
 partsOf s = rowParts (row (s .opcode)) (s .values) (s .rest) (s .operands)
 
 -- where the name of an operand starts: after the bracket, if one opens it; of one without a name, where the operand does
-abbrev pub operandName : {v : Operand} {l r : List ℕ} → OperandText v l r → List ℕ
-operandName {l = l} (byName t) = l
-operandName (byAddress t) = t .l₁
+abbrev pub operandNameFrom : {v : Operand} {l r : List ℕ} → OperandText v l r → List ℕ
+operandNameFrom {l = l} (byName t) = l
+operandNameFrom (byAddress t) = t .l₁
 
 abbrev pub nameIn : (k : Slot) (v : Value k) (l r : List ℕ) → SlotText k v l r → List ℕ
 nameIn name v l r t = l
 nameIn (number limit) v l r t = l
 nameIn inBrackets v l r t = t .l₁
 nameIn address v l r t = t .l₁
-nameIn operand v l r t = operandName t
+nameIn operand v l r t = operandNameFrom t
 nameIn names v l r t = l
 
 -- ---- what stands at a place
@@ -106,5 +106,5 @@ pub record OperandsPlaced (text : List ℕ) : Type 0 where
   pub shown : (w : Whole) → Spells w text → AllShown text 0 (row (opcodeOf (w .statement))) (valuesOf (w .statement) (w .registers))
   -- Where an operand of the statement has a name, the token at the place of the name is that name.
   pub named : (w : Whole) → Spells w text → (i : ℕ) (n : Name) → getD (namesOf (w .statement)) i none ≡ some n → NameAt n (drop (namePlace text i) text)
-  -- Places rise along the text: of several operands the leftmost is that of the lowest index.
-  pub rising : (w : Whole) (s : Spells w text) (i j : ℕ) → i < j → j < length (partsOf s) → operandPlace text i < operandPlace text j
+  -- Places rise along the text, a name's is in its operand: so of several operands, or names of operands, the leftmost is that of the lowest index.
+  pub rising : (w : Whole) (s : Spells w text) (i j : ℕ) → i < j → j < length (partsOf s) → (operandPlace text i ≤ namePlace text i) × (namePlace text i < operandPlace text j)

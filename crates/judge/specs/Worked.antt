@@ -10,10 +10,11 @@ use Rattle.rules.specs.declared.Answer.{Answer}
 use Rattle.judge.specs.Judged.{judgedOf}
 
 -- ---- sheets
--- reason, line and column of a sheet, with no place lent for starts
+-- reason, line and column of an answer
 abbrev pub answered : Answer → ℕ × ℕ × ℕ
 answered a = (a .reason, a .line, a .column)
 
+-- of a sheet, with no place lent for starts
 abbrev pub pointed : String → ℕ × ℕ × ℕ
 pointed sheet = answered (judgedOf (bytes sheet) 0)
 

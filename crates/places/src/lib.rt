@@ -107,7 +107,7 @@ pub fn name(s: &[u8], index: usize) -> usize
     lexer::cursor::place(s, part_at(s, index, true))
 }
 
-// Where reading stopped; 0 for a text that reads.
+// The place of the token that no form has there, or of the number that is too large; 0 for a text that reads.
 fn stop_of(t: Reading) -> usize
     ensures { λ r. ⌜ r ≡ stopIn t ⌝ }
 {
@@ -125,7 +125,7 @@ fn column_at(s: &[u8], at: usize) -> usize
     if at < s.len() { 3 + at } else { 3 + s.len() }
 }
 
-// The column where reading stopped, of what a text was read as.
+// The column of that place, of what a text was read as.
 pub fn stopped(s: &[u8], t: Reading) -> usize
     requires { ⌜ t ≡ readOf (now s) ⌝ }
     ensures { λ r. ⌜ r ≡ byteColumn (now (s .entry)) Token ⌝ }

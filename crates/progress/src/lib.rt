@@ -71,8 +71,8 @@ fn refused(reason: u32, column: usize, status: Status, next: usize) -> Stepped
     }
 }
 
-// The column of a text that is refused for a reason: where reading stopped, or what the reason of its statement points at. 0 for no reason: it is read again
-// on a refusal alone.
+// The column of a text that is refused for a reason: what the reason of its statement points at; of one that does not read, as `step` never asks for, where
+// that is. 0 for no reason: a text is read again on a refusal alone.
 fn text_column<'a>(
     text: &[u8],
     hi: &'a [u64; 16],

@@ -112,6 +112,7 @@ pointing =
     ∷ (11, atOpcode)
     ∷ []
 
+-- sorts told apart by numbers
 abbrev pub rank : Sort → ℕ
 rank atStart = 0
 rank atToken = 1

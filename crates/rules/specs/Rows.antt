@@ -10,7 +10,7 @@ use Rattle.statement.specs.declared.Position.{Position}
 use Rattle.statement.specs.declared.Position.the-variants as position
 
 -- ---- what a column points at
--- the line's first byte, where its warp stands; the token at which reading stopped; the opcode; the name of an operand; an operand's first byte, be it
+-- the line's first byte, where its warp stands; the token that no form has there, or the number that is too large; the opcode; the name of an operand; an operand's first byte, be it
 -- a number's or the bracket of an address
 pub data Sort : Type 0 where
   atStart : Sort
@@ -62,6 +62,7 @@ asked (none ∷ l) = asked l
 asked (some tests ∷ l) = tests ++ asked l
 
 -- ---- rows
+-- its number, what its column points at, and its tests
 pub data Row : Type 0 where
   row : (number : ℕ) → Sort → List Test → Row
 

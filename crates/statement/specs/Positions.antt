@@ -57,7 +57,7 @@ unfoldable pub namePlace : List ℕ → ℕ → ℕ
 namePlace text i = length text - length (nameFrom text i)
 
 -- ---- operands of a statement
--- an address, not such as may be a name too
+-- it is always an address: an operand may be a name
 abbrev pub isAddress : Slot → Bool
 isAddress name = false
 isAddress (number limit) = false
@@ -79,7 +79,7 @@ addressAt t = beforeAddress (row (opcodeOf t))
 abbrev pub idescAt : Mma → ℕ
 idescAt m = cond (sparse (m .metadata)) 4 3
 
--- the names of its operands, in the order of the text: none for a number and for a list
+-- the name of a descriptor or of an address
 abbrev pub operandName : Operand → Name
 operandName (operands.Descriptor n) = n
 operandName (operands.Address a) = a .base
@@ -96,11 +96,12 @@ abbrev pub rowNames : (ks : List Slot) → Values ks → List (Option Name)
 rowNames [] v = []
 rowNames (k ∷ ks) v = slotName k (v .0) ∷ rowNames ks (v .1)
 
+-- the names of its operands, in the order of the text: none for a number and for a list
 abbrev pub namesOf : Statement → List (Option Name)
 namesOf t = rowNames (row (opcodeOf t)) (valuesOf t [])
 
 -- ---- columns
--- where reading stopped; 0 for a text that reads
+-- the place of the token that no form has there, or of the number that is too large; 0 for a text that reads
 abbrev pub stopIn : Reading → ℕ
 stopIn (Got t) = 0
 stopIn (NoForm at) = at

@@ -114,7 +114,7 @@ pub enum Reading {
     TooLarge(usize),
 }
 
-// What a column points at: the line's first byte, where its warp stands; the token at which reading stopped; the opcode; the name of an
+// What a column points at: the line's first byte, where its warp stands; the token that no form has there, or the number that is too large; the opcode; the name of an
 // operand, inside its bracket where it has one; an operand's first byte. Operands are counted from 0.
 pub enum Position {
     Start,
