@@ -4,9 +4,9 @@ use Prim.Native.Nat.{ℕ, suc, _+_, _-_, _≤_}
 use native.Mathlib.Omega.{arith}
 use mathlib.Core.Path.{_≡_, refl, sym, ap, _∙_}
 use mathlib.Core.List.{List, _∷_}
-use lib.ListN.{length, drop}
+use lib.ListN.{length, drop, getD}
 use Rattle.tokens.specs.Text.{tab}
-use Rattle.lines.specs.Sheet.{textOf, after, Content, fault, laid, contentAfter}
+use Rattle.lines.specs.Sheet.{textOf, after, Content, fault, laid, contentAfter, warpOf}
 use Rattle.lines.specs.Written.{Written}
 use Rattle.lines.proofs.SheetTheorems.{read-written}
 use Rattle.statement.specs.declared.Statement.{Statement}
@@ -77,6 +77,7 @@ module _ (s : List ℕ) (k warp : ℕ) (text : List ℕ) (e : contentAfter (suc 
   line-columns =
       record {
         start = start;
+        mark = ap (λ (l : List ℕ). warpOf (getD l 0 0)) (written .line) ∙ sym (written .names);
         opcode = opcode;
         statement = from 0 3 refl;
         three = λ place r. (omega (arith, token, ap stopIn r), theorems .three text place (spells-none place r) r);

@@ -3,8 +3,8 @@
 use Prim.Native.Nat.{ℕ, suc, _+_, _-_}
 use mathlib.Core.Path.{_≡_}
 use mathlib.Core.List.{List}
-use lib.ListN.{drop}
-use Rattle.lines.specs.Sheet.{textOf, after, fault, laid, contentAfter}
+use lib.ListN.{getD, drop}
+use Rattle.lines.specs.Sheet.{textOf, warpOf, after, fault, laid, contentAfter}
 use Rattle.statement.specs.declared.Statement.{Statement}
 use Rattle.statement.specs.declared.Reading.the-variants.{Got, NoForm, TooLarge}
 use Rattle.statement.specs.declared.Position.{Position}
@@ -27,8 +27,9 @@ fromColumn line column = drop (column - 1) line
 
 -- of a line after the first, whose content is a warp and the text of a statement
 pub record LineColumns (s : List ℕ) (k warp : ℕ) (text : List ℕ) : Type 0 where
-  -- It starts in column 1, and its statement, with the opcode, in column 3.
+  -- It starts in column 1, where its warp stands, and its statement, with the opcode, in column 3.
   pub start : byteColumns s (suc k) position.Start ≡ 1
+  pub mark : warpOf (getD (lineText s (suc k)) 0 0) ≡ warp
   pub opcode : byteColumns s (suc k) position.Opcode ≡ 3
   pub statement : fromColumn (lineText s (suc k)) 3 ≡ text
   -- The column of reason 3 is the place at which no statement can go on, counted from there;
