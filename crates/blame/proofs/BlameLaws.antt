@@ -9,7 +9,7 @@ use lib.ListN.{take, drop}
 use types.Run.{OneOf}
 use denote.Enum.Declared.{tagOf}
 use borrow.Author.Tests.{not-true, eqb-true, eq-eqb}
-use Rattle.laws.specs.Rules.{rule, firstBroken}
+use Rattle.laws.specs.Rules.{firstBroken}
 use Rattle.laws.proofs.BoolLaws.{and-l, and-r, clash}
 use Rattle.statement.specs.declared.Mma.{Mma}
 use Rattle.statement.specs.declared.Position.{Position}
@@ -24,11 +24,11 @@ use Rattle.statement.specs.Views.{Act, actOf}
 use Rattle.statement.specs.Canonical.{sparse}
 use Rattle.statement.specs.Cells.{counted}
 use Rattle.statement.specs.Positions.{addressAt, idescAt}
-use Rattle.rules.specs.State.{State, Placer, lowest, isLive, widthOf, numberOf}
+use Rattle.rules.specs.State.{State, lowest, isLive, widthOf, numberOf}
 use Rattle.rules.specs.Claims.{AllKept}
-use Rattle.rules.specs.Rows.{Sort, pointed, atStart, atOpcode, atName, atOperand, Test, test, kept, leftmost, one, whole, broken, Row, row, rulesOf, firstPosition}
+use Rattle.rules.specs.Rows.{Sort, pointed, atName, atOperand, Test, test, kept, leftmost, Row, row, rulesOf, firstPosition}
 use Rattle.rules.specs.Reasons.{mmaNamed, mmaReads, allEnd, operandNamed, metadataNamed, sharedReads, operandReads, mmaEnds, operandEnds, metadataEnds, instructionOf, openRows, openRules, closedRows, rows, rules}
-use Rattle.rules.proofs.RuleLaws.{lacks, never}
+use Rattle.rules.proofs.RuleLaws.{lacks, never, kept-more}
 use Rattle.rules.proofs.ByAct.{actRows, actRules, mmaRows, first-broken, first-position}
 use Rattle.checks.specs.declared.Tested.{Tested}
 use Rattle.checks.specs.Checks.{tested}
@@ -37,65 +37,17 @@ use Rattle.bindings.specs.declared.Value.{Value}
 use Rattle.bindings.specs.Table.{valueIn}
 use Rattle.instruction.specs.Instruction as instruction
 use Rattle.instruction.specs.declared.Judged.{Judged}
-use Rattle.blame.specs.Blame.{bookingAt, accessAt}
+use Rattle.blame.specs.Blame.{bookingAt, accessAt, firstOr, mmaPointed}
 
--- ---- what was tested is what the state has
-pub named-by : (n r e : Bool) (x : Tested) (b : Bool) → x ≡ tested n r e → x .named ≡ b → n ≡ b
-named-by n r e x b p q = sym (ap (λ (y : Tested). y .named) p) ∙ q
-
-pub reads-by : (n r e : Bool) (x : Tested) (b : Bool) → x ≡ tested n r e → x .reads ≡ b → r ≡ b
-reads-by n r e x b p q = sym (ap (λ (y : Tested). y .reads) p) ∙ q
-
-pub ends-by : (n r e : Bool) (x : Tested) (b : Bool) → x ≡ tested n r e → x .ends ≡ b → e ≡ b
-ends-by n r e x b p q = sym (ap (λ (y : Tested). y .ends) p) ∙ q
-
--- ---- the leftmost of some tests, of which one is broken
-abbrev names : (d a b e v : Bool) → ℕ → List Test
-names d a b e v i = test 0 d ∷ test 1 a ∷ test 2 b ∷ test 3 e ∷ test i v ∷ []
-
-of-names : (d a b e v : Bool) (i r : ℕ) → kept (names d a b e v i) ≡ false → r ≡ cond d (cond a (cond b (cond e i 3) 2) 1) 0 → r ≡ leftmost (names d a b e v i)
-of-names true true true true true i r h p = absurd (clash refl h)
-of-names true true true true false i r h p = p
-of-names true true true false v i r h p = p
-of-names true true false e v i r h p = p
-of-names true false b e v i r h p = p
-of-names false a b e v i r h p = p
-
-pub names-at : (s : State) (m : Mma) (r : ℕ) → kept (mmaNamed s m) ≡ false
-    → r ≡ cond (isLive (m .d .base) (s .live)) (cond (operandNamed s (m .a)) (cond (eqb (widthOf (m .b) (s .values)) 64) (cond (metadataNamed s (m .metadata)) (idescAt m) 3) 2) 1) 0
-    → r ≡ leftmost (mmaNamed s m)
-names-at s m r =
-    of-names (isLive (m .d .base) (s .live)) (operandNamed s (m .a)) (eqb (widthOf (m .b) (s .values)) 64) (metadataNamed s (m .metadata))
-    (eqb (widthOf (m .idesc) (s .values)) 32) (idescAt m) r
-
-abbrev words : (a b v : Bool) → ℕ → List Test
-words a b v i = test 1 a ∷ test 2 b ∷ test i v ∷ []
-
-of-words : (a b v : Bool) (i r : ℕ) → kept (words a b v i) ≡ false → r ≡ cond a (cond b i 2) 1 → r ≡ leftmost (words a b v i)
-of-words true true true i r h p = absurd (clash refl h)
-of-words true true false i r h p = p
-of-words true false v i r h p = p
-of-words false b v i r h p = p
-
-pub words-at : (s : State) (m : Mma) (r : ℕ) → kept (mmaReads s m) ≡ false → r ≡ cond (operandReads s (m .a)) (cond (sharedReads s (m .b)) (idescAt m) 2) 1
-    → r ≡ leftmost (mmaReads s m)
-words-at s m r = of-words (operandReads s (m .a)) (sharedReads s (m .b)) (eqb (instructionOf s m .reason) 0) (idescAt m) r
-
-abbrev ends : (d a e : Bool) → List Test
-ends d a e = test 0 d ∷ test 1 a ∷ test 3 e ∷ []
-
-of-cells : (d a e : Bool) (r : ℕ) → kept (ends d a e) ≡ false → r ≡ cond d (cond a 3 1) 0 → r ≡ leftmost (ends d a e)
-of-cells true true true r h p = absurd (clash refl h)
-of-cells true true false r h p = p
-of-cells true false e r h p = p
-of-cells false a e r h p = p
-
-pub cells-at : (s : State) (m : Mma) (r : ℕ) → kept (allEnd s m) ≡ false
-    → r ≡ cond (mmaEnds s (m .d) (instructionOf s m .descriptor .n)) (cond (operandEnds s (m .a)) 3 1) 0 → r ≡ leftmost (allEnd s m)
-cells-at s m r = of-cells (mmaEnds s (m .d) (instructionOf s m .descriptor .n)) (operandEnds s (m .a)) (metadataEnds s (m .metadata)) r
+-- ---- of some tests one is broken: it is the first that is, or the last
+first-or : (l : List Test) (i : ℕ) (v : Bool) → kept (l ++ test i v ∷ []) ≡ false → firstOr l i ≡ leftmost (l ++ test i v ∷ [])
+first-or [] i true h = absurd (clash refl h)
+first-or [] i false h = refl
+first-or (test j true ∷ l) i v h = first-or l i v (sym (kept-more j (l ++ test i v ∷ [])) ∙ h)
+first-or (test j false ∷ l) i v h = refl
 
 -- the columns of d are those that idesc tells, where it has its width
-pub width-32 : (s : State) (m : Mma) → kept (mmaNamed s m) ≡ true → widthOf (m .idesc) (s .values) ≡ 32
+width-32 : (s : State) (m : Mma) → kept (mmaNamed s m) ≡ true → widthOf (m .idesc) (s .values) ≡ 32
 width-32 s m e =
     eqb-true (widthOf (m .idesc) (s .values)) 32
     (and-r (((isLive (m .d .base) (s .live) && operandNamed s (m .a)) && eqb (widthOf (m .b) (s .values)) 64) && metadataNamed s (m .metadata)) (eqb (widthOf (m .idesc) (s .values)) 32) e)
@@ -155,22 +107,64 @@ module _ (s : State) (held w : ℕ) (m : Mma) (reason : ℕ) (p : 0 < reason) (e
   by-rows : firstBroken (rulesOf (mmaRows s m)) ≡ reason
   by-rows = sym (e ∙ first-broken lowest s held w (Multiply m))
 
-  pub mma-points : firstPosition (openRows lowest s held w (Multiply m)) ≡ mmaAt s m reason
+  mma-points : firstPosition (openRows lowest s held w (Multiply m)) ≡ mmaAt s m reason
   mma-points =
       first-position lowest s held w (Multiply m)
       ∙ follows (mmaAt s m) (mmaRows s m) (mma-follows s m) (omega (arith, p, by-rows))
       ∙ ap (mmaAt s m) by-rows
 
-  pub names-broken : reason ≡ 6 → kept (mmaNamed s m) ≡ false
+  names-broken : reason ≡ 6 → kept (mmaNamed s m) ≡ false
   names-broken q = only-row [] 6 atName (mmaNamed s m) (drop 1 (mmaRows s m)) refl refl (omega arith) (by-rows ∙ q) .1
 
-  pub words-broken : reason ≡ 12 → kept (mmaReads s m) ≡ false
+  words-broken : reason ≡ 12 → kept (mmaReads s m) ≡ false
   words-broken q = only-row (take 1 (mmaRows s m)) 12 atName (mmaReads s m) (drop 2 (mmaRows s m)) refl refl (omega arith) (by-rows ∙ q) .1
 
-  pub cells-broken : reason ≡ 14 → (widthOf (m .idesc) (s .values) ≡ 32) × (kept (allEnd s m) ≡ false)
+  cells-broken : reason ≡ 14 → (widthOf (m .idesc) (s .values) ≡ 32) × (kept (allEnd s m) ≡ false)
   cells-broken q =
       let f = only-row (take 5 (mmaRows s m)) 14 atOperand (allEnd s m) [] refl refl (omega arith) (by-rows ∙ q) in
       (width-32 s m (f .0 .0), f .1)
+
+  -- what was tested is what the state has, N being that of idesc where it has its width
+  module _ (d a b x : Tested) (n : ℕ) (pn : widthOf (m .idesc) (s .values) ≡ 32 → n ≡ instructionOf s m .descriptor .n)
+      (pd : d ≡ tested (isLive (m .d .base) (s .live)) true (mmaEnds s (m .d) n))
+      (pa : a ≡ tested (operandNamed s (m .a)) (operandReads s (m .a)) (operandEnds s (m .a)))
+      (pb : b ≡ tested (eqb (widthOf (m .b) (s .values)) 64) (sharedReads s (m .b)) true)
+      (px : x ≡ tested (metadataNamed s (m .metadata)) true (metadataEnds s (m .metadata))) where
+    by-6 : reason ≡ 6 → Name (firstOr (test 0 (d .named) ∷ test 1 (a .named) ∷ test 2 (b .named) ∷ test 3 (x .named) ∷ []) (idescAt m)) ≡ Name (leftmost (mmaNamed s m))
+    by-6 q =
+        ap Name
+        (rw (pd, pa, pb, px)
+        (first-or
+        (test 0 (isLive (m .d .base) (s .live)) ∷ test 1 (operandNamed s (m .a)) ∷ test 2 (eqb (widthOf (m .b) (s .values)) 64) ∷ test 3 (metadataNamed s (m .metadata)) ∷ [])
+        (idescAt m) (eqb (widthOf (m .idesc) (s .values)) 32) (names-broken q)))
+
+    by-12 : reason ≡ 12 → Name (firstOr (test 1 (a .reads) ∷ test 2 (b .reads) ∷ []) (idescAt m)) ≡ Name (leftmost (mmaReads s m))
+    by-12 q =
+        ap Name
+        (rw (pa, pb)
+        (first-or (test 1 (operandReads s (m .a)) ∷ test 2 (sharedReads s (m .b)) ∷ []) (idescAt m) (eqb (instructionOf s m .reason) 0) (words-broken q)))
+
+    by-14 : reason ≡ 14 → Operand (firstOr (test 0 (d .ends) ∷ test 1 (a .ends) ∷ []) 3) ≡ Operand (leftmost (allEnd s m))
+    by-14 q =
+        let k = cells-broken q in
+        ap Operand
+        (rw (pd, pa, pn (k .0))
+        (first-or (test 0 (mmaEnds s (m .d) (instructionOf s m .descriptor .n)) ∷ test 1 (operandEnds s (m .a)) ∷ []) 3 (metadataEnds s (m .metadata)) (k .1)))
+
+    by-tests : mmaPointed reason (idescAt m) d a b x ≡ mmaAt s m reason
+    by-tests = at (eqb reason 6) (eqb reason 12) (eqb reason 14) refl refl refl
+      where
+        at : (u v w : Bool) → eqb reason 6 ≡ u → eqb reason 12 ≡ v → eqb reason 14 ≡ w
+            → cond u (Name (firstOr (test 0 (d .named) ∷ test 1 (a .named) ∷ test 2 (b .named) ∷ test 3 (x .named) ∷ []) (idescAt m)))
+            (cond v (Name (firstOr (test 1 (a .reads) ∷ test 2 (b .reads) ∷ []) (idescAt m))) (cond w (Operand (firstOr (test 0 (d .ends) ∷ test 1 (a .ends) ∷ []) 3)) (Name (idescAt m))))
+            ≡ cond u (Name (leftmost (mmaNamed s m))) (cond v (Name (leftmost (mmaReads s m))) (cond w (Operand (leftmost (allEnd s m))) (Name (idescAt m))))
+        at true v w p q r = by-6 (eqb-true reason 6 p)
+        at false true w p q r = by-12 (eqb-true reason 12 q)
+        at false false true p q r = by-14 (eqb-true reason 14 r)
+        at false false false p q r = refl
+
+    pub mma-blamed : (i : ℕ) → i ≡ idescAt m → (r : Position) → r ≡ mmaPointed reason i d a b x → r ≡ firstPosition (openRows lowest s held w (Multiply m))
+    mma-blamed i z r q = q ∙ ap (λ (j : ℕ). mmaPointed reason j d a b x) z ∙ by-tests ∙ sym mma-points
 
 -- ---- any statement
 -- what each act points at, by the reason, an address of a ld or st being operand i

@@ -1,7 +1,10 @@
 // What the reason of a refused line points at: asked for a line that is refused, so that a sheet that passes pays nothing.
 ghost use mathlib.Core.Path.{_≡_};
+ghost use mathlib.Core.List.{[], _∷_};
 ghost use Rattle.statement.specs.Positions.{idescAt};
-ghost use Rattle.blame.specs.Blame.{bookingAt, accessAt, NamesBlamed, WordsBlamed, CellsBlamed, MmaBlamed, Blamed};
+ghost use Rattle.rules.specs.Rows.{test};
+ghost use Rattle.blame.specs.Blame.{bookingAt, accessAt, firstOr, mmaPointed, MmaBlamed, Blamed};
+use checks::Tested;
 use statement::Mma;
 use statement::Position;
 use statement::Statement;
@@ -14,120 +17,36 @@ fn idesc_at(m: Mma) -> usize
     if checks::is_sparse(metadata) { 4 } else { 3 }
 }
 
-// The first operand of an mma that is not of its sort.
-fn unnamed<'a>(
-    hi: &'a [u64; 16],
-    lo: &'a [u64; 16],
-    columns: &'a [u16; 16],
-    value_hi: &'a [u64; 128],
-    value_lo: &'a [u64; 128],
-    numbers: &'a [u64; 128],
-    widths: &'a [u8; 128],
-    m: Mma,
-) -> usize
-    ensures { λ r. ⌜ NamesBlamed (now (hi .entry)) (now (lo .entry)) (now (columns .entry)) (now («value_hi» .entry)) (now («value_lo» .entry)) (now (numbers .entry)) (now (widths .entry)) m r ⌝ }
+// The first of d, a, b and the metadata whose test is broken, or the last operand that is tested.
+fn first(d: bool, a: bool, b: bool, e: bool, last: usize) -> usize
+    ensures { λ r. ⌜ r ≡ firstOr (test 0 d ∷ test 1 a ∷ test 2 b ∷ test 3 e ∷ []) last ⌝ }
 {
-    let address = m.d;
-    let operand = m.a;
-    let metadata = m.metadata;
-    let d = checks::address_tested(hi, lo, columns, address, 0);
-    if !d.named {
+    if !d {
         return 0;
     }
-    let a = checks::operand_tested(
-        hi,
-        lo,
-        columns,
-        value_hi,
-        value_lo,
-        numbers,
-        widths,
-        operand,
-    );
-    if !a.named {
+    if !a {
         return 1;
     }
-    let b = checks::descriptor_tested(value_hi, value_lo, numbers, widths, m.b);
-    if !b.named {
+    if !b {
         return 2;
     }
-    let e = checks::metadata_tested(hi, lo, columns, metadata);
-    if !e.named {
-        return 3;
-    }
-    idesc_at(m)
+    if e { last } else { 3 }
 }
 
-// The first operand of an mma whose descriptor has no reading.
-fn unread<'a>(
-    hi: &'a [u64; 16],
-    lo: &'a [u64; 16],
-    columns: &'a [u16; 16],
-    value_hi: &'a [u64; 128],
-    value_lo: &'a [u64; 128],
-    numbers: &'a [u64; 128],
-    widths: &'a [u8; 128],
-    m: Mma,
-) -> usize
-    ensures { λ r. ⌜ WordsBlamed (now (hi .entry)) (now (lo .entry)) (now (columns .entry)) (now («value_hi» .entry)) (now («value_lo» .entry)) (now (numbers .entry)) (now (widths .entry)) m r ⌝ }
+// What the reason of an mma points at, by the tests of its operands.
+fn pointed(reason: u32, idesc: usize, d: Tested, a: Tested, b: Tested, e: Tested) -> Position
+    ensures { λ r. ⌜ r ≡ mmaPointed reason idesc d a b e ⌝ }
 {
-    let operand = m.a;
-    let a = checks::operand_tested(
-        hi,
-        lo,
-        columns,
-        value_hi,
-        value_lo,
-        numbers,
-        widths,
-        operand,
-    );
-    if !a.reads {
-        return 1;
+    if reason == reasons::NAME {
+        return Position::Name(first(d.named, a.named, b.named, e.named, idesc));
     }
-    let b = checks::descriptor_tested(value_hi, value_lo, numbers, widths, m.b);
-    if !b.reads {
-        return 2;
+    if reason == reasons::DESCRIPTOR {
+        return Position::Name(first(true, a.reads, b.reads, true, idesc));
     }
-    idesc_at(m)
-}
-
-// The first operand of an mma whose columns go past the end of the allocation, or whose lane is not 0.
-fn past<'a>(
-    hi: &'a [u64; 16],
-    lo: &'a [u64; 16],
-    columns: &'a [u16; 16],
-    value_hi: &'a [u64; 128],
-    value_lo: &'a [u64; 128],
-    numbers: &'a [u64; 128],
-    widths: &'a [u8; 128],
-    m: Mma,
-) -> usize
-    ensures { λ r. ⌜ CellsBlamed (now (hi .entry)) (now (lo .entry)) (now (columns .entry)) (now («value_hi» .entry)) (now («value_lo» .entry)) (now (numbers .entry)) (now (widths .entry)) m r ⌝ }
-{
-    let address = m.d;
-    let operand = m.a;
-    let metadata = m.metadata;
-    let kind = m.kind;
-    let v = bindings::lookup_in(value_hi, value_lo, numbers, widths, m.idesc);
-    let word = checks::low(v.number);
-    let sp = checks::is_sparse(metadata);
-    let i = instruction::judge_word(kind, m.ws, sp, word);
-    let d = checks::address_tested(hi, lo, columns, address, i.n);
-    if !d.ends {
-        return 0;
+    if reason == reasons::CELLS {
+        return Position::Operand(first(d.ends, a.ends, true, true, 3));
     }
-    let a = checks::operand_tested(
-        hi,
-        lo,
-        columns,
-        value_hi,
-        value_lo,
-        numbers,
-        widths,
-        operand,
-    );
-    if a.ends { 3 } else { 1 }
+    Position::Name(idesc)
 }
 
 // What the reason of an mma points at.
@@ -144,16 +63,28 @@ fn mma<'a>(
 ) -> Position
     ensures { λ r. ⌜ MmaBlamed (now (hi .entry)) (now (lo .entry)) (now (columns .entry)) (now («value_hi» .entry)) (now («value_lo» .entry)) (now (numbers .entry)) (now (widths .entry)) m reason r ⌝ }
 {
-    if reason == reasons::NAME {
-        return Position::Name(unnamed(hi, lo, columns, value_hi, value_lo, numbers, widths, m));
-    }
-    if reason == reasons::DESCRIPTOR {
-        return Position::Name(unread(hi, lo, columns, value_hi, value_lo, numbers, widths, m));
-    }
-    if reason == reasons::CELLS {
-        return Position::Operand(past(hi, lo, columns, value_hi, value_lo, numbers, widths, m));
-    }
-    Position::Name(idesc_at(m))
+    let address = m.d;
+    let operand = m.a;
+    let metadata = m.metadata;
+    let kind = m.kind;
+    let v = bindings::lookup_in(value_hi, value_lo, numbers, widths, m.idesc);
+    let word = checks::low(v.number);
+    let sp = checks::is_sparse(metadata);
+    let i = instruction::judge_word(kind, m.ws, sp, word);
+    let d = checks::address_tested(hi, lo, columns, address, i.n);
+    let a = checks::operand_tested(
+        hi,
+        lo,
+        columns,
+        value_hi,
+        value_lo,
+        numbers,
+        widths,
+        operand,
+    );
+    let b = checks::descriptor_tested(value_hi, value_lo, numbers, widths, m.b);
+    let e = checks::metadata_tested(hi, lo, columns, metadata);
+    pointed(reason, idesc_at(m), d, a, b, e)
 }
 
 // What the reason of an alloc, dealloc or relinquish points at.

@@ -1,13 +1,11 @@
 -- Every rule points as published and has its tests in the order of the text, by what a statement does; and the operands that tests name are those of the
 -- forms. Assumes nothing.
 use Prim.Native.Nat.{ℕ, zero, suc}
-use mathlib.Core.Path.{_≡_, refl, sym, ap, _∙_}
-use mathlib.Core.Bool.{Bool, true, false, _&&_, cond}
+use mathlib.Core.Path.{_≡_, refl}
+use mathlib.Core.Bool.{Bool, true, false, cond}
 use mathlib.Core.List.{List, [], _∷_, _++_}
 use lib.Dec.{leb, eqb}
 use Rattle.laws.proofs.BoolLaws.{and-l, and-r, and-join}
-use Rattle.statement.specs.declared.Metadata.{Metadata}
-use Rattle.statement.specs.declared.Metadata.the-variants.{Dense, Sparse}
 use Rattle.statement.specs.declared.Mma.{Mma}
 use Rattle.statement.specs.declared.Statement.{Statement}
 use Rattle.statement.specs.Views as act
@@ -19,7 +17,7 @@ use Rattle.rules.specs.State.{State, Placer}
 use Rattle.rules.specs.Rows.{Row, row}
 use Rattle.rules.specs.Reasons.{named, roomed, laned, warped, sized, permitted, placed, reads, mListed, nListed, typesListed, inside, openRows, closedRows, rows}
 use Rattle.rules.specs.Sheet.{Line, badLayout, noForm, tooLarge, statement, lineRows, Sheet, Placing, stateBy, heldAfter}
-use Rattle.rules.specs.Claims.{has, pointing, published, rises, allRise, OperandsNamed, ownRows, endRows, rowsAt, Pointing}
+use Rattle.rules.specs.Claims.{has, pointing, published, rises, allRise, OperandsNamed, ownRows, endRows, Pointing}
 
 -- ---- as published: the heads of rows have no variable
 published-both : (xs ys : List Row) → published xs ≡ true → published ys ≡ true → published (xs ++ ys) ≡ true

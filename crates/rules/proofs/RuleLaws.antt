@@ -17,14 +17,14 @@ use Rattle.statement.specs.declared.Mma.{Mma}
 use Rattle.statement.specs.declared.Position.{Position}
 use Rattle.statement.specs.declared.Statement.{Statement}
 use Rattle.statement.specs.Views as act
-use Rattle.statement.specs.Views.{Ask, Act, isExit, actOf, requestOf, releaseOf, requestIn, releaseIn, accessIn, mmaIn, boundIn, bookingIn, for, when}
+use Rattle.statement.specs.Views.{Ask, Act, isExit, actOf, requestOf, releaseOf, requestIn, releaseIn, accessIn, mmaIn, boundIn, for}
 use Rattle.rules.specs.State.{State, Placer, isLive, isBound, columnsOf}
 use Rattle.statement.specs.Positions.{addressAt}
 use Rattle.rules.specs.Rows.{atStart, pointed, Test, test, outcomes, kept, leftmost, one, whole, asked, Row, row, rulesOf, firstPosition}
-use Rattle.rules.specs.Reasons.{mmaNamed, mmaReads, allEnd, roomFor, isWarp, laneOfWarp, ends, named, roomed, laned, warped, sized, permitted, placed, reads, mListed, nListed, typesListed, inside, cleared, openRows, closedRows, rows}
+use Rattle.rules.specs.Reasons.{mmaNamed, mmaReads, allEnd, roomFor, laneOfWarp, ends, named, roomed, laned, warped, sized, permitted, placed, reads, mListed, nListed, typesListed, inside, cleared, openRows, closedRows, rows}
 use Rattle.statement.specs.Cells as cells
 use Rattle.statement.specs.Cells.{counted}
-use Rattle.rules.specs.Sheet.{Line, badLayout, noForm, tooLarge, statement, lineRows, lineRules}
+use Rattle.rules.specs.Sheet.{Line, badLayout, noForm, tooLarge, statement, lineRules}
 use Rattle.rules.specs.Claims.{AllKept, LeftmostIs, FirstIs, heads, InOrder}
 use Rattle.laws.proofs.BoolLaws.{and-l, and-r, and-join, clash}
 
@@ -53,7 +53,7 @@ never m (rule n true ∷ rs) p h e = never m rs (and-r (not (eqb n m)) (lacks m 
 never m (rule n false ∷ rs) p h e = other m n rs p e
 
 -- ---- tests: the leftmost that is broken
-kept-more : (i : ℕ) (l : List Test) → kept (test i true ∷ l) ≡ kept l
+pub kept-more : (i : ℕ) (l : List Test) → kept (test i true ∷ l) ≡ kept l
 kept-more i [] = refl
 kept-more i (test j b ∷ l) = refl
 

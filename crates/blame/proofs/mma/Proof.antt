@@ -1,57 +1,60 @@
--- `blame::mma` meets its contract: the tests of 6, 12 and 14 have their leftmost, the listing has idesc. Assumes nothing.
-use mathlib.Core.Path.{sym, ap, _∙_}
-use borrow.Author.Tests.{eq-eqb, ne-eqb}
-use Rattle.statement.specs.declared.Position.the-variants.{Name, Operand}
-use Rattle.blame.proofs.BlameLaws.{mma-points, names-broken, words-broken, cells-broken}
+-- `blame::mma` meets its contract: what was tested of the operands is what the state has. Assumes nothing.
+use Rattle.blame.proofs.BlameLaws.{n-is, mma-blamed}
 use borrow.Author.Needs.{needs}
 use Rattle.blame.proofs.mma.Statement.{statement}
 use Rattle.blame.proofs.mma.Tie as tie
 
-unnamed-requires : tie.Need-unnamed-requires
-unnamed-requires c κs = search needs
+lookup-in-requires : tie.Need-lookup-in-requires
+lookup-in-requires c κs = search needs
 
-returns : tie.Need-returns
-returns c s held w h p e =
-    let m = c .before .before .args .m in
-    let q = c .before .if1 .taken in
-    ap Name (c .unnamed .ensures s h (names-broken s held w m _ p e q)) ∙ sym (mma-points s held w m _ p e ∙ rw (eq-eqb _ _ q))
+low-requires : tie.Need-low-requires
+low-requires c κs = search needs
 
-unread-requires : tie.Need-unread-requires
-unread-requires c κs = search needs
+is-sparse-requires : tie.Need-is-sparse-requires
+is-sparse-requires c κs = search needs
 
-returns-2 : tie.Need-returns-2
-returns-2 c s held w h p e =
-    let m = c .before .before .before .args .m in
-    let q = c .before .if2 .taken in
-    ap Name (c .unread .ensures s h (words-broken s held w m _ p e q)) ∙ sym (mma-points s held w m _ p e ∙ rw (ne-eqb _ _ (c .before .before .if1 .left), eq-eqb _ _ q))
+judge-word-requires : tie.Need-judge-word-requires
+judge-word-requires c κs = search needs
 
-past-requires : tie.Need-past-requires
-past-requires c κs = search needs
+address-tested-requires : tie.Need-address-tested-requires
+address-tested-requires c κs = search needs
 
-returns-3 : tie.Need-returns-3
-returns-3 c s held w h p e =
-    let m = c .before .before .before .before .args .m in
-    let q = c .before .if3 .taken in
-    let k = cells-broken s held w m _ p e q in
-    ap Operand (c .past .ensures s h (k .0) (k .1)) ∙ sym (mma-points s held w m _ p e ∙ rw (ne-eqb _ _ (c .before .before .before .if1 .left), ne-eqb _ _ (c .before .before .if2 .left), eq-eqb _ _ q))
+operand-tested-requires : tie.Need-operand-tested-requires
+operand-tested-requires c κs = search needs
+
+descriptor-tested-requires : tie.Need-descriptor-tested-requires
+descriptor-tested-requires c κs = search needs
+
+metadata-tested-requires : tie.Need-metadata-tested-requires
+metadata-tested-requires c κs = search needs
 
 idesc-at-requires : tie.Need-idesc-at-requires
 idesc-at-requires c κs = search needs
 
-returns-4 : tie.Need-returns-4
-returns-4 c s held w h p e =
-    let m = c .before .before .before .before .args .m in
-    ap Name (c .idesc-at .ensures) ∙ sym (mma-points s held w m _ p e ∙ rw (ne-eqb _ _ (c .before .before .before .if1 .left), ne-eqb _ _ (c .before .before .if2 .left), ne-eqb _ _ (c .before .if3 .left)))
+pointed-requires : tie.Need-pointed-requires
+pointed-requires c κs = search needs
+
+returns : tie.Need-returns
+returns c s held w h p e =
+    let q = c .before .before .before .before .before in
+    let a = q .before .before .before .before .before .before .args in
+    mma-blamed s held w (a .m) (a .reason) p e _ _ _ _ _
+    (λ u. n-is s _ _ _ _ _ _ _ h (a .m) u _ (q .before .before .before .before .lookup-in .ensures) _ (q .before .before .before .low .ensures) _ (q .before .before .is-sparse .ensures) _ (q .before .judge-word .ensures))
+    (q .address-tested .ensures s (h .slots)) (c .before .before .before .before .operand-tested .ensures s h) (c .before .before .before .descriptor-tested .ensures s (h .values))
+    (c .before .before .metadata-tested .ensures s (h .slots)) _ (c .before .idesc-at .ensures) _ (c .pointed .ensures)
 
 pub mma-spec : {M : Type 1} → statement M
 mma-spec =
     tie.close
     (tie.spec
-    unnamed-requires
-    returns
-    unread-requires
-    returns-2
-    past-requires
-    returns-3
+    lookup-in-requires
+    low-requires
+    is-sparse-requires
+    judge-word-requires
+    address-tested-requires
+    operand-tested-requires
+    descriptor-tested-requires
+    metadata-tested-requires
     idesc-at-requires
-    returns-4)
+    pointed-requires
+    returns)

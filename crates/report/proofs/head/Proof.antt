@@ -30,7 +30,11 @@ array-share-prefix-text c =
 slice-aggregate-put : tie.Need-slice-aggregate-put
 slice-aggregate-put c =
     let a = c .before .before .before .before .before .before .before .before .before .before .before .before .before .args in
-    sym (length-take-le _ _ (head-fits _ _ _ _ _ _ _ _ _ _ _ (a .reason) (a .line) (a .column) (a .held) (a .peak) (c .before .before .before .before .before .before .before .before .before .before .field .ensures) (c .before .before .before .before .before .before .before .before .field2 .ensures) (c .before .before .before .before .before .before .field3 .ensures) (c .before .before .before .before .field4 .ensures) (c .before .before .field5 .ensures) refl))
+    let f = c .before .before in
+    let g = f .before .before in
+    let h = g .before .before in
+    let e = head-fits _ _ _ _ _ _ _ _ _ _ _ (a .reason) (a .line) (a .column) (a .held) (a .peak) (h .before .before .before .before .field .ensures) (h .before .before .field2 .ensures) (h .field3 .ensures) (g .field4 .ensures) (f .field5 .ensures) refl in
+    sym (length-take-le _ _ e)
 
 put-requires : tie.Need-put-requires
 put-requires c κs = search needs
