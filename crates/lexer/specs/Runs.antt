@@ -1,42 +1,56 @@
 -- Runs of digits and of word bytes at the head of a list of bytes. Assumes nothing.
-use Prim.Native.Nat.{ℕ, _+_, min}
+use Prim.Native.Nat.{ℕ, _+_, _-_, _^_, min}
 use mathlib.Core.List.{List}
-use mathlib.Core.Bool.{Bool, true, false, _&&_, not, cond}
-use lib.ListN.{getD, take, drop}
-use lib.Dec.{ltb, eqb}
+use mathlib.Core.Bool.{Bool, true, false, cond}
+use lib.ListN.{length, take, drop}
+use lib.Dec.{ltb}
 use Rattle.tokens.specs.declared.Name.{Name}
 use Rattle.tokens.specs.declared.Numeral.{Numeral}
-use Rattle.tokens.specs.Text.{byte}
 use Rattle.tokens.specs.Bytes.{wordByte, runLen, tokenOf, afterToken}
 use Rattle.tokens.specs.Names.{isName, packed, noName}
-use Rattle.tokens.specs.Numbers.{isDigit, hexMark, positional, fitted, noNumeral}
+use Rattle.tokens.specs.Numbers.{digitOf, positional, Spelling, hexadecimals, binaries, octals, decimals, digitsLen, ending, spells, worth, fitted, noNumeral}
 use Rattle.lexer.specs.declared.number.Digits.{Digits}
+use Rattle.lexer.specs.declared.number.Notation.{Notation}
+use Rattle.lexer.specs.declared.number.Notation.the-variants as notation
 use Rattle.lexer.specs.declared.name.Taken.{Taken}
 
+-- the row of the table for a notation
+abbrev pub rowOf : Notation → Spelling
+rowOf notation.Hexadecimal = hexadecimals
+rowOf notation.Binary = binaries
+rowOf notation.Octal = octals
+rowOf notation.Decimal = decimals
+
+-- a byte whose value as a digit is below the base
+abbrev pub digitBelow : ℕ → ℕ → Bool
+digitBelow base x = ltb (digitOf x) base
+
+-- the largest value after which each digit has room below 2^64
+abbrev pub roomyOf : Notation → ℕ
+roomyOf notation.Hexadecimal = 2 ^ 60 - 1
+roomyOf notation.Binary = 2 ^ 63 - 1
+roomyOf notation.Octal = 2 ^ 61 - 1
+roomyOf notation.Decimal = 1844674407370955160
+
+-- digits as a number that ends where they do
 abbrev pub numeralIn : Digits → Numeral
-numeralIn r = record { ok = r .ok; over = r .over; value = r .value }
+numeralIn d = record { ok = true; over = d .over; value = d .value; used = d .end }
 
-abbrev pub baseOf : Bool → ℕ
-baseOf hex = cond hex 16 10
+-- the number that the digits are, after v
+abbrev pub digitsAfter : Spelling → ℕ → List ℕ → ℕ
+digitsAfter r v l = positional (r .base) v (take (digitsLen r l) l)
 
--- how many digits there are
-abbrev pub digitsLen : ℕ → List ℕ → ℕ
-digitsLen base l = runLen (isDigit base) l
+-- the word bytes at the head
+abbrev pub wordsOf : List ℕ → List ℕ
+wordsOf l = take (runLen wordByte l) l
 
--- the number that they are, after v
-abbrev pub digitsAfter : ℕ → ℕ → List ℕ → ℕ
-digitsAfter base v l = positional base v (take (digitsLen base l) l)
+-- how many of them there are after the digits, where they may stand there; and else 2
+unfoldable pub tailLen : List ℕ → ℕ
+tailLen l = cond (ending true (wordsOf l)) (length (wordsOf l)) 2
 
--- at least one digit, and then no word byte
-unfoldable pub wholeRun : ℕ → List ℕ → Bool
-wholeRun base l = ltb 0 (digitsLen base l) && not (wordByte (getD l (digitsLen base l) 0))
-
-unfoldable pub runNumeral : ℕ → List ℕ → Numeral
-runNumeral base l = cond (wholeRun base l) (fitted (digitsAfter base 0 l)) noNumeral
-
--- how many bytes are read where a number should start, be it one or none: 0x and hexadecimal digits, one 0, or decimal digits
-unfoldable pub numeralLen : List ℕ → ℕ
-numeralLen l = cond (hexMark l) (2 + digitsLen 16 (drop 2 l)) (cond (eqb (getD l 0 0) (byte "0")) 1 (digitsLen 10 l))
+-- the number that they are after a row's prefix
+unfoldable pub rowNumeral : Spelling → List ℕ → Numeral
+rowNumeral r l = cond (spells r (wordsOf l)) (fitted (length (r .prefix) + length (wordsOf l)) (worth r (wordsOf l))) noNumeral
 
 -- how many word bytes there are, but no more than there is room for
 abbrev pub wordsLen : ℕ → List ℕ → ℕ

@@ -131,7 +131,7 @@ pub fn number(s: &[u8], k: Cursor, limit: u64) -> NumberRead
             next: moved(k, i, false),
         };
     }
-    let e = n.end;
+    let e = i + n.used;
     let v = n.value;
     if n.over | (limit < v) {
         return NumberRead {

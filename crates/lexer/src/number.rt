@@ -1,49 +1,87 @@
-// Numbers of any length, read in one pass.
+// Numbers of any length, in four notations, read in one pass.
 use crate::bytes::digit_of;
+use crate::bytes::is_word;
 use crate::bytes::wide;
 use crate::bytes::word_at;
+use tokens::Numeral;
 ghost use mathlib.Core.Path.{_≡_};
-ghost use Prim.Native.Nat.{_+_, _*_, _^_, _<_};
-ghost use mathlib.Core.Bool.{true, _||_};
-ghost use lib.ListN.{getD, drop};
-ghost use lib.Dec.{ltb, eqb};
-ghost use Rattle.tokens.specs.Text.{byte};
-ghost use Rattle.tokens.specs.Bytes.{runLen, tokenLen, tokenOf};
-ghost use Rattle.tokens.specs.Numbers.{isDigit, fitted, numeralOf};
-ghost use Rattle.lexer.specs.Runs.{baseOf, numeralIn, digitsLen, digitsAfter, runNumeral, numeralLen};
+ghost use Prim.Native.Nat.{_+_, _-_, _*_, _^_, _<_};
+ghost use mathlib.Core.Bool.{not};
+ghost use mathlib.Core.List.{[], _∷_};
+ghost use lib.ListN.{length, drop};
+ghost use lib.Dec.{ltb, leb};
+ghost use Rattle.tokens.specs.Bytes.{runLen, tokenOf};
+ghost use Rattle.tokens.specs.Numbers.{begins, digitsLen, fitted, noNumeral, numeralOf};
+ghost use Rattle.lexer.specs.Runs.{rowOf, digitBelow, roomyOf, numeralIn, digitsAfter, tailLen, rowNumeral};
 
-// What digits are as a number: none (not ok), one over 2^64-1, or a value; and where they end.
+// How a number is written.
+pub enum Notation {
+    Hexadecimal,
+    Binary,
+    Octal,
+    Decimal,
+}
+
+// What digits are as a number: one over 2^64-1, or a value; and where they end.
 pub struct Digits {
-    pub ok: bool,
     pub over: bool,
     pub value: u64,
     pub end: usize,
 }
 
-// The base: 16 or 10.
-fn base_of(hex: bool) -> u8
-    ensures { λ r. ⌜ r ≡ baseOf hex ⌝ }
+fn base_of(n: Notation) -> u8
+    ensures { λ r. ⌜ r ≡ rowOf n .base ⌝ }
 {
-    if hex { 16 } else { 10 }
+    match n {
+        Notation::Hexadecimal => 16,
+        Notation::Binary => 2,
+        Notation::Octal => 8,
+        Notation::Decimal => 10,
+    }
 }
 
-// Whether v with one digit more is below 2^64. (1844674407370955161 is 2^64 / 10, and 5 the rest less one.)
-fn has_room(hex: bool, v: u64, d: u64) -> bool
-    requires { ⌜ d < baseOf hex ⌝ }
-    ensures { λ r. ⌜ r ≡ ltb (v * baseOf hex + d) (2 ^ 64) ⌝ }
+// How many bytes stand before the digits.
+fn prefix_of(n: Notation) -> usize
+    ensures { λ r. ⌜ r ≡ length (rowOf n .prefix) ⌝ }
 {
-    if hex {
-        return v <= 0x0fff_ffff_ffff_ffff;
+    match n {
+        Notation::Hexadecimal => 2,
+        Notation::Binary => 2,
+        Notation::Octal => 1,
+        Notation::Decimal => 0,
     }
-    if v < 1844674407370955161 {
+}
+
+// The largest value after which each digit has room below 2^64.
+fn roomy(n: Notation) -> u64
+    ensures { λ r. ⌜ r ≡ roomyOf n ⌝ }
+{
+    match n {
+        Notation::Hexadecimal => 0x0fff_ffff_ffff_ffff,
+        Notation::Binary => 0x7fff_ffff_ffff_ffff,
+        Notation::Octal => 0x1fff_ffff_ffff_ffff,
+        Notation::Decimal => 1844674407370955160,
+    }
+}
+
+// Whether v with one digit more is below 2^64. (2^64 less one is 18446744073709551615.)
+fn has_room(n: Notation, most: u64, v: u64, d: u64) -> bool
+    requires { ⌜ most ≡ roomyOf n ⌝ }
+    requires { ⌜ d < rowOf n .base ⌝ }
+    ensures { λ r. ⌜ r ≡ ltb (v * rowOf n .base + d) (2 ^ 64) ⌝ }
+{
+    if v <= most {
         return true;
     }
-    (v == 1844674407370955161) & (d <= 5)
+    match n {
+        Notation::Decimal => (v == 1844674407370955161) & (d <= 5),
+        _ => false,
+    }
 }
 
-// Where a run of digits ends.
+// Where a run of digits of a base ends.
 fn digits_end(s: &[u8], at: usize, base: u8) -> usize
-    ensures { λ r. ⌜ r ≡ at + runLen (isDigit base) (drop at (now (s .entry))) ⌝ }
+    ensures { λ r. ⌜ r ≡ at + runLen (digitBelow base) (drop at (now (s .entry))) ⌝ }
 {
     let mut i = at;
     while i < s.len() {
@@ -56,29 +94,28 @@ fn digits_end(s: &[u8], at: usize, base: u8) -> usize
 }
 
 // The run of digits at a position.
-fn run(s: &[u8], at: usize, hex: bool) -> Digits
-    ensures value { λ r. ⌜ numeralIn r ≡ fitted (digitsAfter (baseOf hex) 0 (drop at (now (s .entry)))) ⌝ }
-    ensures end { λ r. ⌜ r .end ≡ at + digitsLen (baseOf hex) (drop at (now (s .entry))) ⌝ }
+fn run(s: &[u8], at: usize, n: Notation) -> Digits
+    ensures value { λ r. ⌜ numeralIn r ≡ fitted (r .end) (digitsAfter (rowOf n) 0 (drop at (now (s .entry)))) ⌝ }
+    ensures end { λ r. ⌜ r .end ≡ at + digitsLen (rowOf n) (drop at (now (s .entry))) ⌝ }
 {
-    let base = base_of(hex);
+    let base = base_of(n);
     let b = wide(base);
+    let most = roomy(n);
     let mut v: u64 = 0;
     let mut i = at;
     while i < s.len() {
         let x = digit_of(s[i]);
         if base <= x {
             return Digits {
-                ok: true,
                 over: false,
                 value: v,
                 end: i,
             };
         }
         let d = wide(x);
-        if !has_room(hex, v, d) {
+        if !has_room(n, most, v, d) {
             let end = digits_end(s, i, base);
             return Digits {
-                ok: true,
                 over: true,
                 value: 0,
                 end,
@@ -88,68 +125,114 @@ fn run(s: &[u8], at: usize, hex: bool) -> Digits
         i += 1;
     }
     Digits {
-        ok: true,
         over: false,
         value: v,
         end: i,
     }
 }
 
-// Whether x or X stands at a position.
-fn x_at(s: &[u8], at: usize) -> bool
-    ensures { λ r. ⌜ r ≡ (eqb (getD (now (s .entry)) at 0) (byte "x") || eqb (getD (now (s .entry)) at 0) (byte "X")) ⌝ }
+// How many bytes of the token stand after the digits: none, one U, or, for all else, 2.
+fn tail(s: &[u8], at: usize) -> usize
+    ensures { λ r. ⌜ r ≡ tailLen (drop at (now (s .entry))) ⌝ }
+{
+    if s.len() <= at {
+        return 0;
+    }
+    let x = s[at];
+    if !is_word(x) {
+        return 0;
+    }
+    let next = at + 1;
+    if (x != b'U') | word_at(s, next) {
+        return 2;
+    }
+    1
+}
+
+// Whether there are too few digits from one position to another.
+fn too_few(n: Notation, first: usize, end: usize) -> bool
+    ensures { λ r. ⌜ r ≡ not (leb (rowOf n .fewest) (end - first)) ⌝ }
+{
+    if first < end {
+        return false;
+    }
+    match n {
+        Notation::Octal => false,
+        _ => true,
+    }
+}
+
+// No number.
+fn none() -> Numeral
+    ensures { λ r. ⌜ r ≡ noNumeral ⌝ }
+{
+    Numeral {
+        ok: false,
+        over: false,
+        value: 0,
+        used: 0,
+    }
+}
+
+// The number that a token which starts at a position is, if it goes by a notation.
+fn spelled(s: &[u8], at: usize, n: Notation) -> Numeral
+    requires { ⌜ at < length (now (s .entry)) ⌝ }
+    ensures { λ r. ⌜ r ≡ rowNumeral (rowOf n) (drop (at + length (rowOf n .prefix)) (now (s .entry))) ⌝ }
+{
+    let first = at + prefix_of(n);
+    let d = run(s, first, n);
+    let end = d.end;
+    if too_few(n, first, end) {
+        return none();
+    }
+    let t = tail(s, end);
+    if 1 < t {
+        return none();
+    }
+    let used = end - at + t;
+    Numeral {
+        ok: true,
+        over: d.over,
+        value: d.value,
+        used,
+    }
+}
+
+// Whether one of two bytes stands at a position.
+fn either_at(s: &[u8], at: usize, a: u8, b: u8) -> bool
+    ensures { λ r. ⌜ r ≡ begins ((a ∷ (b ∷ [])) ∷ []) (drop at (now (s .entry))) ⌝ }
 {
     if s.len() <= at {
         return false;
     }
     let x = s[at];
-    (x == b'x') | (x == b'X')
+    (x == a) | (x == b)
 }
 
-// The run of digits at a position, if there is one and no word byte after it.
-fn whole(s: &[u8], at: usize, hex: bool) -> Digits
-    ensures value { λ r. ⌜ numeralIn r ≡ runNumeral (baseOf hex) (drop at (now (s .entry))) ⌝ }
-    ensures end { λ r. ⌜ r .end ≡ at + digitsLen (baseOf hex) (drop at (now (s .entry))) ⌝ }
-{
-    let d = run(s, at, hex);
-    let end = d.end;
-    if (end <= at) | word_at(s, end) {
-        return Digits {
-            ok: false,
-            over: false,
-            value: 0,
-            end,
-        };
-    }
-    d
-}
-
-// The number that the token at a position is, if any.
-pub fn numeral(s: &[u8], at: usize) -> Digits
-    ensures value { λ r. ⌜ numeralIn r ≡ numeralOf (tokenOf (drop at (now (s .entry)))) ⌝ }
-    ensures end { λ r. ⌜ r .end ≡ at + numeralLen (drop at (now (s .entry))) ⌝ }
-    ensures token { λ r. ⌜ (r .ok ≡ true → r .end ≡ at + tokenLen (drop at (now (s .entry)))) ⌝ }
+// The number that the token at a position is, if any, and how many bytes it took.
+pub fn numeral(s: &[u8], at: usize) -> Numeral
+    ensures { λ r. ⌜ r ≡ numeralOf (tokenOf (drop at (now (s .entry)))) ⌝ }
 {
     if s.len() <= at {
-        return Digits {
-            ok: false,
-            over: false,
-            value: 0,
-            end: at,
-        };
+        return none();
     }
     if s[at] != b'0' {
-        return whole(s, at, false);
+        return spelled(s, at, Notation::Decimal);
     }
     let next = at + 1;
-    if x_at(s, next) {
-        return whole(s, at + 2, true);
+    if either_at(s, next, b'x', b'X') {
+        return spelled(s, at, Notation::Hexadecimal);
     }
-    let ok = !word_at(s, next);
-    Digits {
-        ok,
-        over: false,
-        value: 0,
-        end: next,
+    if !word_at(s, next) {
+        return Numeral {
+            ok: true,
+            over: false,
+            value: 0,
+            used: 1,
+        };
     }
+    if either_at(s, next, b'b', b'B') {
+        return spelled(s, at, Notation::Binary);
+    }
+    spelled(s, at, Notation::Octal)
 }

@@ -1,5 +1,5 @@
 pub mod Bytes
 pub mod Runs
-pub mod Classes
+pub mod Spellings
 pub mod Lengths
 pub mod Names

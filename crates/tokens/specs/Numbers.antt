@@ -1,56 +1,105 @@
--- What bytes are a number, and its value, however large. Assumes nothing.
-use Rattle.tokens.specs.Text.{byte}
+-- What bytes are a number, and its value, however large: one table has the four ways to write one. Assumes nothing.
+use Rattle.tokens.specs.Text.{byte, bytes}
 use Prim.Native.Nat.{ℕ, zero, suc, _+_, _-_, _*_, _/_, _%_, _^_}
 use mathlib.Core.List.{List, [], _∷_, _++_}
-use mathlib.Core.Bool.{Bool, true, false, _&&_, _||_, not, cond}
-use lib.ListN.{length, getD, drop}
-use lib.Dec.{ltb, eqb}
+use mathlib.Core.Bool.{Bool, true, false, _&&_, _||_, cond}
+use lib.ListN.{length, take, drop}
+use lib.Dec.{ltb, leb, eqb}
 use Rattle.tokens.specs.declared.Numeral.{Numeral}
-use Rattle.tokens.specs.Bytes.{between, all}
+use Rattle.tokens.specs.Bytes.{between, sameBytes, runLen}
 
--- 0 to 9; A to F and a to f, from 10 on; 16 for any other byte
+-- ---- digits
+-- the value of a digit: 0 to 9; A to F and a to f, from 10 on; 16 for any other byte
 unfoldable pub digitOf : ℕ → ℕ
 digitOf x =
     cond (between (byte "0") (byte "9") x) (x - byte "0")
     (cond (between (byte "A") (byte "F") x) (x - (byte "A" - 10))
     (cond (between (byte "a") (byte "f") x) (x - (byte "a" - 10)) 16))
 
-unfoldable pub isDigit : ℕ → ℕ → Bool
-isDigit base x = ltb (digitOf x) base
-
 -- the digits after v
 abbrev pub positional : ℕ → ℕ → List ℕ → ℕ
 positional base v [] = v
 positional base v (x ∷ l) = positional base (v * base + digitOf x) l
 
--- 0x or 0X at the head
-unfoldable pub hexMark : List ℕ → Bool
-hexMark w = eqb (getD w 0 0) (byte "0") && (eqb (getD w 1 0) (byte "x") || eqb (getD w 1 0) (byte "X"))
+-- one of these bytes
+abbrev pub among : List ℕ → ℕ → Bool
+among [] x = false
+among (y ∷ l) x = eqb x y || among l x
 
--- at least one digit
-unfoldable pub someDigits : ℕ → List ℕ → Bool
-someDigits base d = ltb 0 (length d) && all (isDigit base) d
+-- ---- the table of spellings
+-- how numbers are written: what stands first, for each place the bytes that may stand there; the base; which bytes are digits; how few of them there may
+-- be; whether a U may stand last
+pub record Spelling : Type 0 where
+  pub prefix : List (List ℕ)
+  pub base : ℕ
+  pub digits : List ℕ
+  pub fewest : ℕ
+  pub unsigned : Bool
 
--- a zero before other bytes
-unfoldable pub zeroLed : List ℕ → Bool
-zeroLed d = eqb (getD d 0 0) (byte "0") && ltb 1 (length d)
+abbrev pub hexadecimals : Spelling
+hexadecimals = record { prefix = bytes "0" ∷ (bytes "xX" ∷ []); base = 16; digits = bytes "0123456789ABCDEFabcdef"; fewest = 1; unsigned = true }
 
--- 0x or 0X and hex digits, or decimal digits with no zero before others
+abbrev pub binaries : Spelling
+binaries = record { prefix = bytes "0" ∷ (bytes "bB" ∷ []); base = 2; digits = bytes "01"; fewest = 1; unsigned = true }
+
+-- 0 alone too
+abbrev pub octals : Spelling
+octals = record { prefix = bytes "0" ∷ []; base = 8; digits = bytes "01234567"; fewest = 0; unsigned = true }
+
+abbrev pub decimals : Spelling
+decimals = record { prefix = []; base = 10; digits = bytes "0123456789"; fewest = 1; unsigned = true }
+
+-- a token goes by the first row with whose prefix it begins, so that none with a zero before other bytes is decimal
+abbrev pub spellings : List Spelling
+spellings = hexadecimals ∷ (binaries ∷ (octals ∷ (decimals ∷ [])))
+
+-- ---- how a token goes by the table
+-- at each place stands one of the bytes that may
+abbrev pub begins : List (List ℕ) → List ℕ → Bool
+begins [] w = true
+begins (c ∷ p) [] = false
+begins (c ∷ p) (x ∷ w) = among c x && begins p w
+
+-- what a function of a row and of the bytes after its prefix says for the first row with whose prefix w begins
+abbrev pub byRow : {A : Type 0} → A → (Spelling → List ℕ → A) → List Spelling → List ℕ → A
+byRow other f [] w = other
+byRow other f (r ∷ rows) w = cond (begins (r .prefix) w) (f r (drop (length (r .prefix)) w)) (byRow other f rows w)
+
+-- how many digits there are
+abbrev pub digitsLen : Spelling → List ℕ → ℕ
+digitsLen r d = runLen (among (r .digits)) d
+
+-- what may follow the digits: nothing, or one U
+abbrev pub ending : Bool → List ℕ → Bool
+ending unsigned l = sameBytes l [] || unsigned && sameBytes l (bytes "U")
+
+-- enough digits, and what may follow them
+unfoldable pub spells : Spelling → List ℕ → Bool
+spells r d = leb (r .fewest) (digitsLen r d) && ending (r .unsigned) (drop (digitsLen r d) d)
+
+-- the number that the digits are
+unfoldable pub worth : Spelling → List ℕ → ℕ
+worth r d = positional (r .base) 0 (take (digitsLen r d) d)
+
 unfoldable pub isNumber : List ℕ → Bool
-isNumber w = cond (hexMark w) (someDigits 16 (drop 2 w)) (not (zeroLed w) && someDigits 10 w)
+isNumber w = byRow false spells spellings w
 
 unfoldable pub valueOf : List ℕ → ℕ
-valueOf w = cond (hexMark w) (positional 16 0 (drop 2 w)) (positional 10 0 w)
+valueOf w = byRow 0 worth spellings w
 
+-- ---- as it is read
 abbrev pub noNumeral : Numeral
-noNumeral = record { ok = false; over = false; value = 0 }
+noNumeral = record { ok = false; over = false; value = 0; used = 0 }
 
--- the value, or that it is over 2^64 - 1
-unfoldable pub fitted : ℕ → Numeral
-fitted v = cond (ltb v (2 ^ 64)) (record { ok = true; over = false; value = v }) (record { ok = true; over = true; value = 0 })
+-- of so many bytes: the value, or that it is over 2^64 - 1
+unfoldable pub fitted : ℕ → ℕ → Numeral
+fitted used v = cond (ltb v (2 ^ 64)) (record { ok = true; over = false; value = v; used = used }) (record { ok = true; over = true; value = 0; used = used })
 
+-- a number takes all bytes of its token, and no number takes none
 unfoldable pub numeralOf : List ℕ → Numeral
-numeralOf w = cond (isNumber w) (fitted (valueOf w)) noNumeral
+numeralOf w = cond (isNumber w) (fitted (length w) (valueOf w)) noNumeral
+
+-- ---- as it is written
 
 -- the n low decimal digits of v, as bytes, the highest first
 unfoldable pub lowDigits : ℕ → ℕ → List ℕ

@@ -15,11 +15,12 @@ pub struct Cursor {
     pub far: usize,
 }
 
-// What a token is as a number: none (not ok), one over 2^64-1, or a value.
+// What a token is as a number: none (not ok), one over 2^64-1, or a value; and how many bytes it took, none for no number.
 pub struct Numeral {
     pub ok: bool,
     pub over: bool,
     pub value: u64,
+    pub used: usize,
 }
 
 pub struct NameRead {

@@ -1,0 +1,149 @@
+-- Laws of the table of spellings: each is one law over a row, and what it asks of a row is computed once for all four. Assumes nothing.
+use Prim.Native.Nat.{ℕ, zero, suc, _+_, _-_, _<_, _≤_}
+use native.Mathlib.Omega.{arith}
+use native.Mathlib.Decide.{decLe}
+use mathlib.Core.Path.{_≡_, refl, sym, ap, _∙_}
+use mathlib.Core.List.{List, [], _∷_}
+use mathlib.Core.Bool.{Bool, true, false, not, _&&_, _||_, cond, and-false}
+use lib.ListN.{length, take, drop}
+use lib.Dec.{ltb, leb, eqb}
+use borrow.Author.Tests.{eqb-true, ne-eqb, lt-leb, le-ltb, ltb-true, leb-true}
+use Rattle.laws.proofs.BoolLaws.{never, and-split}
+use Rattle.tokens.specs.Text.{bytes}
+use Rattle.tokens.specs.Bytes.{between, sameBytes, letter, wordByte, runLen, all}
+use Rattle.tokens.specs.Numbers.{digitOf, among, Spelling, spellings, begins, byRow, digitsLen, ending, spells, isNumber}
+use Rattle.tokens.proofs.Runs.{run-le}
+
+-- ---- one of some bytes
+-- what holds for each of them holds for it
+pub among-each : (f : ℕ → Bool) (l : List ℕ) (x : ℕ) → all f l ≡ true → among l x ≡ true → f x ≡ true
+among-each f [] x h e = never e
+among-each f (y ∷ l) x h e = let p = and-split (f y) (all f l) h in go (eqb x y) refl e (p .0) (among-each f l x (p .1))
+  where
+    go : (b : Bool) → eqb x y ≡ b → (b || among l x) ≡ true → f y ≡ true → (among l x ≡ true → f x ≡ true) → f x ≡ true
+    go true q e h i = rw (eqb-true x y q) h
+    go false q e h i = i e
+
+pub not-among : (f : ℕ → Bool) (l : List ℕ) (x : ℕ) → all f l ≡ true → f x ≡ false → among l x ≡ false
+not-among f l x h e = go (among l x) refl
+  where
+    go : (b : Bool) → among l x ≡ b → b ≡ false
+    go true q = never (sym e ∙ among-each f l x h q)
+    go false q = refl
+
+-- ---- the digits of a row are the bytes whose value is below its base
+abbrev same : Bool → Bool → Bool
+same true b = b
+same false b = not b
+
+same-is : (a b : Bool) → same a b ≡ true → a ≡ b
+same-is true b h = sym h
+same-is false true h = never h
+same-is false false h = refl
+
+abbrev below : ℕ → (ℕ → Bool) → Bool
+below zero f = true
+below (suc n) f = f n && below n f
+
+below-is : (n : ℕ) (f : ℕ → Bool) → below n f ≡ true → (x : ℕ) → x < n → f x ≡ true
+below-is zero f h x g = absurd (omega arith)
+below-is (suc n) f h x g = let p = and-split (f n) (below n f) h in go (decLe n x) (p .0) (below-is n f (p .1) x)
+  where
+    go : Dec (n ≤ x) → f n ≡ true → (x < n → f x ≡ true) → f x ≡ true
+    go (yes q) h i = let e : x ≡ n = omega arith in rw e h
+    go (no q) h i = i (omega arith)
+
+abbrev pub digitsBelow : Spelling → Bool
+digitsBelow r = below 128 (λ x. same (among (r .digits) x) (ltb (digitOf x) (r .base))) && (all (λ x. ltb x 128) (r .digits) && leb (r .base) 16)
+
+digit-far : (x : ℕ) → 128 ≤ x → digitOf x ≡ 16
+unfolding digitOf
+digit-far x h = rw (lt-leb x 57 (omega arith), lt-leb x 70 (omega arith), lt-leb x 102 (omega arith), and-false (leb 48 x), and-false (leb 65 x), and-false (leb 97 x))
+
+pub digits-below : (r : Spelling) → digitsBelow r ≡ true → (x : ℕ) → among (r .digits) x ≡ ltb (digitOf x) (r .base)
+digits-below r h x =
+    let p = and-split (below 128 (λ x. same (among (r .digits) x) (ltb (digitOf x) (r .base)))) (all (λ x. ltb x 128) (r .digits) && leb (r .base) 16) h in
+    let q = and-split (all (λ x. ltb x 128) (r .digits)) (leb (r .base) 16) (p .1) in
+    go (decLe 128 x) (p .0) (q .0) (leb-true (r .base) 16 (q .1))
+  where
+    go : Dec (128 ≤ x) → below 128 (λ x. same (among (r .digits) x) (ltb (digitOf x) (r .base))) ≡ true → all (λ x. ltb x 128) (r .digits) ≡ true → r .base ≤ 16
+        → among (r .digits) x ≡ ltb (digitOf x) (r .base)
+    go (yes far) h k b = rw (not-among (λ x. ltb x 128) (r .digits) x k (le-ltb x 128 far), digit-far x far, le-ltb 16 (r .base) b)
+    go (no near) h k b =
+        same-is (among (r .digits) x) (ltb (digitOf x) (r .base)) (below-is 128 (λ x. same (among (r .digits) x) (ltb (digitOf x) (r .base))) h x (omega arith))
+
+-- ---- prefix and digits are word bytes, and there is one at least
+abbrev pub each : (Spelling → Bool) → List Spelling → Bool
+each f [] = true
+each f (r ∷ rows) = f r && each f rows
+
+abbrev pub prefixWords : List (List ℕ) → Bool
+prefixWords [] = true
+prefixWords (c ∷ p) = all wordByte c && prefixWords p
+
+abbrev pub wordy : Spelling → Bool
+wordy r = prefixWords (r .prefix) && (all wordByte (r .digits) && ltb 0 (length (r .prefix) + r .fewest))
+
+-- bytes of a run, and then word bytes, are word bytes
+run-words : (f : ℕ → Bool) → ((x : ℕ) → f x ≡ true → wordByte x ≡ true) → (d : List ℕ) → all wordByte (drop (runLen f d) d) ≡ true → all wordByte d ≡ true
+run-words f are [] h = refl
+run-words f are (x ∷ d) h = go (f x) refl h (run-words f are d)
+  where
+    go : (b : Bool) → f x ≡ b → all wordByte (drop (cond b (suc (runLen f d)) 0) (x ∷ d)) ≡ true → (all wordByte (drop (runLen f d) d) ≡ true → all wordByte d ≡ true)
+        → all wordByte (x ∷ d) ≡ true
+    go true e h i = rw (are x e) (i h)
+    go false e h i = h
+
+ending-words : (u : Bool) (l : List ℕ) → ending u l ≡ true → all wordByte l ≡ true
+unfolding wordByte letter
+ending-words u [] h = refl
+ending-words true (x ∷ []) h = let e : x ≡ 85 = eqb-true x 85 (and-split (eqb x 85) true h .0) in rw e
+ending-words false (x ∷ []) h = never h
+ending-words true (x ∷ (y ∷ l)) h = never (sym (and-false (eqb x 85)) ∙ h)
+ending-words false (x ∷ (y ∷ l)) h = never h
+
+prefix-words : (p : List (List ℕ)) (w : List ℕ) → prefixWords p ≡ true → begins p w ≡ true → all wordByte (drop (length p) w) ≡ true → all wordByte w ≡ true
+prefix-words [] w h b k = k
+prefix-words (c ∷ p) [] h b k = refl
+prefix-words (c ∷ p) (x ∷ w) h b k =
+    let q = and-split (all wordByte c) (prefixWords p) h in
+    let t = and-split (among c x) (begins p w) b in
+    rw (among-each wordByte c x (q .0) (t .0)) (prefix-words p w (q .1) (t .1) k)
+
+-- the bytes of a prefix and those after it
+pub begins-length : (p : List (List ℕ)) (w : List ℕ) → begins p w ≡ true → length w ≡ length p + length (drop (length p) w)
+begins-length [] w b = omega arith
+begins-length (c ∷ p) [] b = never b
+begins-length (c ∷ p) (x ∷ w) b = omega (arith, begins-length p w (and-split (among c x) (begins p w) b .1))
+
+row-words : (r : Spelling) (w : List ℕ) → wordy r ≡ true → begins (r .prefix) w ≡ true → spells r (drop (length (r .prefix)) w) ≡ true
+    → (all wordByte w ≡ true) × (0 < length w)
+unfolding spells
+row-words r w h b k =
+    let d = drop (length (r .prefix)) w in
+    let n = digitsLen r d in
+    let p = and-split (prefixWords (r .prefix)) (all wordByte (r .digits) && ltb 0 (length (r .prefix) + r .fewest)) h in
+    let q = and-split (all wordByte (r .digits)) (ltb 0 (length (r .prefix) + r .fewest)) (p .1) in
+    let t = and-split (leb (r .fewest) n) (ending (r .unsigned) (drop n d)) k in
+    let words = run-words (among (r .digits)) (λ x. among-each wordByte (r .digits) x (q .0)) d (ending-words (r .unsigned) (drop n d) (t .1)) in (
+      prefix-words (r .prefix) w (p .0) b words,
+      omega (arith, ltb-true 0 (length (r .prefix) + r .fewest) (q .1), leb-true (r .fewest) n (t .0), run-le (among (r .digits)) d, begins-length (r .prefix) w b),
+    )
+
+rows-words : (rows : List Spelling) (w : List ℕ) → each wordy rows ≡ true → byRow false spells rows w ≡ true → (all wordByte w ≡ true) × (0 < length w)
+rows-words [] w h k = never k
+rows-words (r ∷ rows) w h k = let p = and-split (wordy r) (each wordy rows) h in go (begins (r .prefix) w) refl k (p .0) (rows-words rows w (p .1))
+  where
+    go : (b : Bool) → begins (r .prefix) w ≡ b → cond b (spells r (drop (length (r .prefix)) w)) (byRow false spells rows w) ≡ true → wordy r ≡ true
+        → (byRow false spells rows w ≡ true → (all wordByte w ≡ true) × (0 < length w)) → (all wordByte w ≡ true) × (0 < length w)
+    go true e k h i = row-words r w h e k
+    go false e k h i = i k
+
+pub spellings-wordy : each wordy spellings ≡ true
+unfolding wordByte letter
+spellings-wordy = refl
+
+-- a number has word bytes alone, and one at least
+pub number-words : (w : List ℕ) → isNumber w ≡ true → (all wordByte w ≡ true) × (0 < length w)
+unfolding isNumber
+number-words w h = rows-words spellings w spellings-wordy h
