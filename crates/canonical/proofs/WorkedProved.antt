@@ -2,7 +2,7 @@
 use mathlib.Core.Path.{refl}
 use Rattle.tokens.specs.Bytes.{letter, wordByte, opcodeByte, blank, afterBlanks, tokenLen, tokenOf, afterToken}
 use Rattle.tokens.specs.Names.{sigil, isName, packed}
-use Rattle.tokens.specs.Numbers.{digitOf, isDigit, hexMark, someDigits, zeroLed, isNumber, valueOf}
+use Rattle.tokens.specs.Numbers.{digitOf, spells, worth, isNumber, valueOf}
 use Rattle.tokens.specs.Cursors.{markC, endC, nameC, numberC}
 use Rattle.statement.specs.Forms.{word}
 use Rattle.statement.specs.Opcodes.{opcodes, recognise}
@@ -11,5 +11,5 @@ use Rattle.statement.specs.Cells.{registersFor, miscounted, counted}
 use Rattle.canonical.specs.Worked.{Worked}
 
 pub worked : Worked
-unfolding readOf wholeC answerOf operandsC rowC moreRowC nameC numberC offsetC insideC addressC moreC namesC endC markC recognise opcodes word opcodeByte wordByte letter afterBlanks blank tokenOf tokenLen afterToken isName sigil packed isNumber valueOf hexMark zeroLed someDigits isDigit digitOf counted miscounted registersFor
+unfolding readOf wholeC answerOf operandsC rowC moreRowC nameC numberC offsetC insideC addressC moreC namesC endC markC recognise opcodes word opcodeByte wordByte letter afterBlanks blank tokenOf tokenLen afterToken isName sigil packed isNumber valueOf spells worth digitOf counted miscounted registersFor
 worked = record { alone = refl }

@@ -2,17 +2,22 @@
 use Prim.Native.Nat.{ℕ, zero, suc, _+_, _-_, _*_, _/_, _%_, _^_, _<_, _≤_}
 use native.Mathlib.Omega.{arith}
 use native.Mathlib.Nat.{add-suc, suc-add, add-zero, pow-suc}
-use mathlib.Core.Path.{_≡_, refl, sym, ap, _∙_}
+use mathlib.Core.Path.{_≡_, refl, _∙_}
 use mathlib.Core.List.{List, [], _∷_, _++_, append-assoc, append-nil}
-use mathlib.Core.Bool.{Bool, true, false, _&&_, _||_, and-false, cond}
-use lib.ListN.{length, take, drop, length-take, length-drop, take-append-drop}
+use mathlib.Core.Bool.{Bool, true, false, _&&_, _||_, cond}
+use mathlib.Core.Logic.{_⊎_, inl, inr}
+use lib.ListN.{length, getD, take, drop, length-take, length-drop, take-append-drop}
+use lib.Seq.{take-length, drop-length}
 use lib.Dec.{ltb, leb, eqb}
 use borrow.Author.Tests.{ne-eqb, eqb-true, leb-true, le-leb, lt-ltb}
+use Rattle.tokens.specs.Text.{byte, bytes}
 use Rattle.tokens.specs.Bytes.{between, letter, wordByte, all}
 use Rattle.tokens.specs.Names.{sigil, isName, byteDigits, packed, lowBytes, strip, nameBytes, nameGiven}
-use Rattle.tokens.specs.Numbers.{digitOf, isDigit, positional, hexMark, someDigits, zeroLed, isNumber, valueOf, lowDigits, trimmed, decimal}
+use Rattle.tokens.specs.Numbers.{digitOf, positional, among, Spelling, decimals, spellings, byRow, digitsLen, spells, worth, isNumber, valueOf, lowDigits, trimmed, decimal}
 use Rattle.tokens.proofs.Names.{same-name}
-use Rattle.laws.proofs.BoolLaws.{and-split, never}
+use Rattle.laws.proofs.BoolLaws.{bool, and-split}
+use Rattle.tokens.proofs.Runs.{run-all}
+use Rattle.tokens.proofs.Spellings.{digits-below}
 use Rattle.tokens.proofs.Lengths.{digits-length}
 use Rattle.grammar.proofs.Lexing.{starts, whole, name-whole}
 
@@ -130,9 +135,16 @@ digit-back d h =
     let b : 48 + d ≤ 57 = omega arith in
     rw (le-leb 48 (48 + d) a, le-leb (48 + d) 57 b) (omega arith)
 
-is-digit : (d : ℕ) → d < 10 → isDigit 10 (48 + d) ≡ true
-unfolding isDigit
-is-digit d h = rw (digit-back d h) (lt-ltb d 10 h)
+-- a decimal digit
+abbrev figure : ℕ → Bool
+figure x = among (decimals .digits) x
+
+figure-below : (x : ℕ) → figure x ≡ ltb (digitOf x) 10
+unfolding digitOf
+figure-below x = digits-below decimals refl x
+
+is-figure : (d : ℕ) → d < 10 → figure (48 + d) ≡ true
+is-figure d h = figure-below (48 + d) ∙ rw (digit-back d h) (lt-ltb d 10 h)
 
 value-append : (v : ℕ) (l : List ℕ) (x : ℕ) → positional 10 v (l ++ x ∷ []) ≡ positional 10 v l * 10 + digitOf x
 value-append v [] x = refl
@@ -150,30 +162,37 @@ all-snoc : (f : ℕ → Bool) (l : List ℕ) (x : ℕ) → all f l ≡ true → 
 all-snoc f [] x h e = rw e
 all-snoc f (y ∷ l) x h e = let p = and-split (f y) (all f l) h in rw (p .0) (all-snoc f l x (p .1) e)
 
-low-digits : (n v : ℕ) → all (isDigit 10) (lowDigits n v) ≡ true
+low-digits : (n v : ℕ) → all figure (lowDigits n v) ≡ true
 unfolding lowDigits
 low-digits zero v = refl
-low-digits (suc n) v = let m : v % 10 < 10 = omega arith in all-snoc (isDigit 10) (lowDigits n (v / 10)) (48 + v % 10) (low-digits n (v / 10)) (is-digit (v % 10) m)
+low-digits (suc n) v = let m : v % 10 < 10 = omega arith in all-snoc figure (lowDigits n (v / 10)) (48 + v % 10) (low-digits n (v / 10)) (is-figure (v % 10) m)
+
+-- one 0, or no 0 first
+abbrev Led : List ℕ → Type 0
+Led d = (d ≡ bytes "0") ⊎ (eqb (getD d 0 0) (byte "0") ≡ false)
 
 -- what is shown of digits without the zeros that lead
 record Trimmed (l d : List ℕ) : Type 0 where
   value : positional 10 0 d ≡ positional 10 0 l
-  digits : all (isDigit 10) d ≡ true
+  digits : all figure d ≡ true
   some : 0 < length d
-  short : length d ≤ length l
-  lead : zeroLed d ≡ false
+  lead : Led d
 
-trim-by : (b : Bool) (x y : ℕ) (l : List ℕ) → eqb x 48 ≡ b → all (isDigit 10) (x ∷ (y ∷ l)) ≡ true → Trimmed (y ∷ l) (trimmed (y ∷ l)) → Trimmed (x ∷ (y ∷ l)) (cond b (trimmed (y ∷ l)) (x ∷ (y ∷ l)))
-unfolding zeroLed digitOf
-trim-by true x y l e h i = record { value = i .value ∙ (rw (eqb-true x 48 e)); digits = i .digits; some = i .some; short = omega (arith, i .short); lead = i .lead }
-trim-by false x y l e h i = record { value = refl; digits = h; some = omega arith; short = omega arith; lead = rw e }
+trim-by : (b : Bool) (x y : ℕ) (l : List ℕ) → eqb x 48 ≡ b → all figure (x ∷ (y ∷ l)) ≡ true → Trimmed (y ∷ l) (trimmed (y ∷ l)) → Trimmed (x ∷ (y ∷ l)) (cond b (trimmed (y ∷ l)) (x ∷ (y ∷ l)))
+unfolding digitOf
+trim-by true x y l e h i = record { value = i .value ∙ rw (eqb-true x 48 e); digits = i .digits; some = i .some; lead = i .lead }
+trim-by false x y l e h i = record { value = refl; digits = h; some = omega arith; lead = inr e }
 
-trim : (x : ℕ) (l : List ℕ) → all (isDigit 10) (x ∷ l) ≡ true → Trimmed (x ∷ l) (trimmed (x ∷ l))
-unfolding trimmed zeroLed
-trim x [] h = record { value = refl; digits = h; some = omega arith; short = omega arith; lead = and-false (eqb x 48) }
-trim x (y ∷ l) h = trim-by (eqb x 48) x y l refl h (trim y l (and-split (isDigit 10 x) (all (isDigit 10) (y ∷ l)) h .1))
+trim : (x : ℕ) (l : List ℕ) → all figure (x ∷ l) ≡ true → Trimmed (x ∷ l) (trimmed (x ∷ l))
+unfolding trimmed
+trim x [] h = record { value = refl; digits = h; some = omega arith; lead = go (bool (eqb x 48)) }
+  where
+    go : (eqb x 48 ≡ true) ⊎ (eqb x 48 ≡ false) → Led (x ∷ [])
+    go (inl e) = inl (rw (eqb-true x 48 e))
+    go (inr e) = inr e
+trim x (y ∷ l) h = trim-by (eqb x 48) x y l refl h (trim y l (and-split (figure x) (all figure (y ∷ l)) h .1))
 
-trim-some : (l : List ℕ) → 0 < length l → all (isDigit 10) l ≡ true → Trimmed l (trimmed l)
+trim-some : (l : List ℕ) → 0 < length l → all figure l ≡ true → Trimmed l (trimmed l)
 trim-some [] n h = absurd (omega arith)
 trim-some (x ∷ l) n h = trim x l h
 
@@ -181,27 +200,27 @@ decimal-trimmed : (v : ℕ) → Trimmed (lowDigits 20 v) (decimal v)
 unfolding decimal
 decimal-trimmed v = trim-some (lowDigits 20 v) (omega (arith, digits-length 20 v)) (low-digits 20 v)
 
--- decimal digits hold no 0x
-not-digit : (y k : ℕ) → isDigit 10 y ≡ true → isDigit 10 k ≡ false → eqb y k ≡ false
-not-digit y k h e = go (eqb y k) refl
-  where
-    go : (b : Bool) → eqb y k ≡ b → b ≡ false
-    go true q = never (sym e ∙ (ap (isDigit 10) (sym (eqb-true y k q)) ∙ h))
-    go false q = refl
+-- each row but the last asks for a 0 first
+last-row : {A : Type 0} (o : A) (f : Spelling → List ℕ → A) (d : List ℕ) → eqb (getD d 0 0) (byte "0") ≡ false → byRow o f spellings d ≡ f decimals d
+last-row o f [] h = refl
+last-row o f (x ∷ d) h = rw h
 
-no-hex : (w : List ℕ) → all (isDigit 10) w ≡ true → hexMark w ≡ false
-unfolding hexMark isDigit digitOf
-no-hex [] h = refl
-no-hex (x ∷ []) h = and-false (eqb x 48)
-no-hex (x ∷ (y ∷ w)) h =
-    let p = and-split (isDigit 10 x) (all (isDigit 10) (y ∷ w)) h in
-    let q = and-split (isDigit 10 y) (all (isDigit 10) w) (p .1) in
-    rw (not-digit y 120 (q .0) refl, not-digit y 88 (q .0) refl) (and-false (eqb x 48))
+figures-all : (d : List ℕ) → all figure d ≡ true → digitsLen decimals d ≡ length d
+figures-all d h = rw append-nil at (run-all figure d [] h refl)
+
+-- one 0 goes by the row of octals, and has the same value there; any others go by the last row
+figures-number : (d : List ℕ) → all figure d ≡ true → 0 < length d → Led d → isNumber d ≡ true
+unfolding isNumber spells
+figures-number d h n (inl e) = rw e
+figures-number d h n (inr e) = last-row false spells d e ∙ rw (figures-all d h, le-leb 1 (length d) n, drop-length d)
+
+figures-value : (d : List ℕ) → all figure d ≡ true → Led d → valueOf d ≡ positional 10 0 d
+unfolding valueOf worth digitOf
+figures-value d h (inl e) = rw e
+figures-value d h (inr e) = last-row 0 worth d e ∙ rw (figures-all d h, take-length d)
 
 pub decimal-number : (v : ℕ) → isNumber (decimal v) ≡ true
-unfolding isNumber someDigits
-decimal-number v = let t = decimal-trimmed v in rw (no-hex (decimal v) (t .digits), t .lead, lt-ltb 0 (length (decimal v)) (t .some)) (t .digits)
+decimal-number v = let t = decimal-trimmed v in figures-number (decimal v) (t .digits) (t .some) (t .lead)
 
 pub decimal-value : (v : ℕ) → v < 10 ^ 20 → valueOf (decimal v) ≡ v
-unfolding valueOf
-decimal-value v h = let t = decimal-trimmed v in rw (no-hex (decimal v) (t .digits)) (t .value ∙ low-value 20 v h)
+decimal-value v h = let t = decimal-trimmed v in figures-value (decimal v) (t .digits) (t .lead) ∙ (t .value ∙ low-value 20 v h)

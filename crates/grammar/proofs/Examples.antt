@@ -9,7 +9,7 @@ use Rattle.tokens.specs.declared.Name.{Name}
 use Rattle.tokens.specs.Text.{bytes}
 use Rattle.tokens.specs.Bytes.{letter, wordByte, opcodeByte, blank, afterBlanks, tokenLen, tokenOf, afterToken}
 use Rattle.tokens.specs.Names.{sigil, isName, packed, lowBytes, strip, nameBytes, nameGiven}
-use Rattle.tokens.specs.Numbers.{digitOf, isDigit, hexMark, someDigits, zeroLed, isNumber, valueOf, lowDigits, trimmed, decimal}
+use Rattle.tokens.specs.Numbers.{digitOf, spells, worth, isNumber, valueOf, lowDigits, trimmed, decimal}
 use Rattle.tokens.specs.Cursors.{markC, endC, nameC, numberC}
 use Rattle.statement.specs.declared.Statement.{Statement}
 use Rattle.statement.specs.Forms.{word}
@@ -49,7 +49,7 @@ unfolding given rowGiven textOf rowText moreRowText namesText moreNamesText oper
 statements-read = all-read (typed ++ (accesses ++ mmas)) refl refl
 
 pub examples : Examples
-unfolding readOf registersOf wholeC answerOf operandsC rowC moreRowC nameC numberC inBracketsC offsetC insideC addressC operandC moreC namesC endC markC recognise opcodes word opcodeByte wordByte letter afterBlanks blank tokenOf tokenLen afterToken isName sigil packed isNumber valueOf hexMark zeroLed someDigits isDigit digitOf
+unfolding readOf registersOf wholeC answerOf operandsC rowC moreRowC nameC numberC inBracketsC offsetC insideC addressC operandC moreC namesC endC markC recognise opcodes word opcodeByte wordByte letter afterBlanks blank tokenOf tokenLen afterToken isName sigil packed isNumber valueOf spells worth digitOf
     lowBytes strip nameBytes lowDigits trimmed decimal addressText operandText moreNamesText namesText moreRowText rowText textOf
     afterComma afterCommas operandFrom nameFrom operandPlace namePlace
 examples = record { reasons = refl; statements = statements-read; stops = refl; long = refl; operands = refl; canonicals-are = refl }

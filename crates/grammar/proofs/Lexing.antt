@@ -1,9 +1,9 @@
 -- Marks, names and numbers are read exactly where a text spells them: past the spaces there is one token, and its bytes say what it is. Assumes nothing.
-use Prim.Native.Nat.{ℕ, zero, suc, _+_, _≤_}
+use Prim.Native.Nat.{ℕ, zero, suc, _+_, _<_}
 use native.Mathlib.Omega.{arith}
 use mathlib.Core.Path.{_≡_, refl, sym, ap, _∙_}
 use mathlib.Core.List.{List, [], _∷_, _++_}
-use mathlib.Core.Bool.{Bool, true, false, _&&_, _||_, not, cond}
+use mathlib.Core.Bool.{Bool, true, false, _&&_, _||_, cond}
 use lib.ListN.{length, take, drop, take-append-drop}
 use lib.Seq.{take-append-seam, drop-append-seam}
 use lib.Dec.{eqb, leb, ltb}
@@ -12,11 +12,11 @@ use Rattle.tokens.specs.Text.{byte}
 use Rattle.tokens.specs.declared.Name.{Name}
 use Rattle.tokens.specs.Bytes.{between, letter, wordByte, blank, runLen, all, afterBlanks, tokenLen, tokenOf, afterToken}
 use Rattle.tokens.specs.Names.{sigil, isName, packed, noName}
-use Rattle.tokens.specs.Numbers.{isDigit, hexMark, someDigits, zeroLed, isNumber, valueOf}
+use Rattle.tokens.specs.Numbers.{isNumber, valueOf}
 use Rattle.tokens.specs.Cursors.{Rest, on, off, large, Took, markHere, markC, endC, nameHere, nameC, numberIs, numberHere, numberC}
 use Rattle.laws.proofs.BoolLaws.{never, and-split}
 use Rattle.tokens.proofs.Runs.{run-all, run-ends}
-use Rattle.tokens.proofs.Classes.{figure-word, digit-word, x-word}
+use Rattle.tokens.proofs.Spellings.{number-words}
 use Rattle.grammar.specs.Spells.{spaces, Mark, Word, NameText, NumberText}
 
 -- ---- spaces
@@ -190,35 +190,13 @@ name-whole (x ∷ u) h =
     let q = and-split (leb (length u) 15) (all wordByte u) (p .1) in
     rw (name-starts x (ltb 0 (length u)) (p .0), q .1)
 
-digits-word : (base : ℕ) (l : List ℕ) → base ≤ 16 → all (isDigit base) l ≡ true → all wordByte l ≡ true
-digits-word base [] b h = refl
-digits-word base (x ∷ l) b h = let p = and-split (isDigit base x) (all (isDigit base) l) h in rw (digit-word base x b (p .0)) (digits-word base l b (p .1))
-
-words-whole : (l : List ℕ) → ltb 0 (length l) ≡ true → all wordByte l ≡ true → whole l ≡ true
+words-whole : (w : List ℕ) → 0 < length w → all wordByte w ≡ true → whole w ≡ true
 unfolding whole
-words-whole [] h k = h
-words-whole (x ∷ l) h k = let p = and-split (wordByte x) (all wordByte l) k in rw (p .0, p .1)
-
-hex-whole : (w : List ℕ) → hexMark w ≡ true → someDigits 16 (drop 2 w) ≡ true → whole w ≡ true
-unfolding hexMark someDigits whole
-hex-whole [] h k = never k
-hex-whole (x ∷ []) h k = never k
-hex-whole (x ∷ (y ∷ u)) h k =
-    let p = and-split (eqb x (byte "0")) (eqb y (byte "x") || eqb y (byte "X")) h in
-    let q = and-split (ltb 0 (length u)) (all (isDigit 16) u) k in
-    let z : wordByte x ≡ true = rw (eqb-true x (byte "0") (p .0)) (figure-word (byte "0") refl) in
-    rw (z, x-word y (p .1), digits-word 16 u (omega arith) (q .1))
+words-whole [] n h = absurd (omega arith)
+words-whole (x ∷ w) n h = let p = and-split (wordByte x) (all wordByte w) h in rw (p .0, p .1)
 
 pub number-whole : (w : List ℕ) → isNumber w ≡ true → whole w ≡ true
-unfolding isNumber someDigits
-number-whole w h = go (hexMark w) refl h
-  where
-    go : (b : Bool) → hexMark w ≡ b → cond b (someDigits 16 (drop 2 w)) (not (zeroLed w) && someDigits 10 w) ≡ true → whole w ≡ true
-    go true e k = hex-whole w e k
-    go false e k =
-        let p = and-split (not (zeroLed w)) (someDigits 10 w) k in
-        let q = and-split (ltb 0 (length w)) (all (isDigit 10) w) (p .1) in
-        words-whole w (q .0) (digits-word 10 w (omega arith) (q .1))
+number-whole w h = let p = number-words w h in words-whole w (p .1) (p .0)
 
 -- ---- names
 name-here : (r : Rest) (l : List ℕ) → nameHere r (afterBlanks l) .next .ok ≡ true → NameText (nameHere r (afterBlanks l) .value) l (nameHere r (afterBlanks l) .next .rest)

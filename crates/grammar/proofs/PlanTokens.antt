@@ -12,7 +12,7 @@ use Rattle.tokens.specs.declared.Name.{Name}
 use Rattle.tokens.specs.Text.{byte, bytes}
 use Rattle.tokens.specs.Bytes.{letter, wordByte, blank, runLen, afterBlanks, tokenLen, tokenOf, afterToken}
 use Rattle.tokens.specs.Names.{isName, packed, noName}
-use Rattle.tokens.specs.Numbers.{digitOf, isDigit, hexMark, zeroLed, someDigits, isNumber, valueOf}
+use Rattle.tokens.specs.Numbers.{spells, worth, isNumber, valueOf}
 use Rattle.tokens.specs.Cursors.{Rest, on, off, Took, markHere, markC, endC, nameC, numberC}
 use Rattle.statement.specs.Forms.{Slot, name, number, inBrackets, address, operand, names}
 use Rattle.laws.proofs.BoolLaws.{never}
@@ -132,7 +132,7 @@ module _ (strict : Bool) where
   name-reads = kept-token nameKind (λ r. nameC r .next) name-token name-kept
 
   number-fits : (limit : ℕ) → numberTest strict limit (bytes "0") ≡ true
-  unfolding numberTest isNumber hexMark zeroLed someDigits isDigit digitOf valueOf
+  unfolding numberTest isNumber spells valueOf worth
   number-fits limit = go strict
     where
       go : (s : Bool) → cond s (leb 0 limit) true ≡ true
@@ -140,7 +140,7 @@ module _ (strict : Bool) where
       go false = refl
 
   pub numberKind : ℕ → Kind
-  unfolding numberTest isNumber hexMark zeroLed someDigits isDigit digitOf blank
+  unfolding numberTest isNumber spells blank
   numberKind limit = record { test = numberTest strict limit; none = refl; wit = byte "0"; fits = number-fits limit; dark = refl }
 
 number-at : (s k o n c : Bool) (limit : ℕ) (l f : List ℕ) → isNumber (tokenOf (afterBlanks l)) ≡ n → leb (valueOf (tokenOf (afterBlanks l))) limit ≡ c

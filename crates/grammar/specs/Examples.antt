@@ -89,16 +89,16 @@ words =
     ("mov.b32 exit, 1;", 0) ∷
     []
 
--- Numbers: no leading zero, hex of either case, 4 by value, and 3 before 4.
+-- Numbers: 4 by value, and 3 before 4.
 abbrev pub numbers : List (String × ℕ)
 numbers =
     ("mov.b32 x, 0;", 0) ∷
     ("mov.b32 x, 0X00fF;", 0) ∷
-    ("mov.b32 x, 064;", 3) ∷
-    ("mov.b32 x, 00;", 3) ∷
+    ("mov.b32 x, 064;", 0) ∷
+    ("mov.b32 x, 00;", 0) ∷
     ("mov.b32 x, 0x;", 3) ∷
-    ("mov.b32 x, 64U;", 3) ∷
-    ("mov.b32 x, 0b1;", 3) ∷
+    ("mov.b32 x, 64U;", 0) ∷
+    ("mov.b32 x, 0b1;", 0) ∷
     ("mov.b32 x, -1;", 3) ∷
     ("mov.b32 x, +1;", 3) ∷
     ("mov.b32 x, 4294967295;", 0) ∷

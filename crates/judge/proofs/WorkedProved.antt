@@ -5,7 +5,7 @@ use Rattle.instruction.specs.Instruction as instruction
 use Rattle.shared_memory.specs.Shared as shared
 use Rattle.tokens.specs.Bytes.{letter, wordByte, opcodeByte, blank, afterBlanks, tokenLen, tokenOf, afterToken}
 use Rattle.tokens.specs.Names.{sigil, isName, packed}
-use Rattle.tokens.specs.Numbers.{digitOf, isDigit, hexMark, someDigits, zeroLed, isNumber, valueOf}
+use Rattle.tokens.specs.Numbers.{digitOf, spells, worth, isNumber, valueOf}
 use Rattle.tokens.specs.Cursors.{markC, endC, nameC, numberC}
 use Rattle.lines.specs.Sheet as lines
 use Rattle.statement.specs.Cells as cells
@@ -25,7 +25,7 @@ unfolding judgedOf linesOf byteColumns byteColumn lines.upto lines.textOf lines.
     lines.warpOf lines.plain lines.laidOut lines.contentOf lines.oversize
     reading.readOf reading.wholeC reading.answerOf reading.operandsC reading.rowC reading.moreRowC nameC numberC reading.inBracketsC reading.offsetC
     reading.insideC reading.addressC reading.operandC reading.moreC reading.namesC endC markC recognise opcodes word opcodeByte wordByte letter afterBlanks blank
-    tokenOf tokenLen afterToken isName sigil packed isNumber valueOf hexMark zeroLed someDigits isDigit digitOf afterComma afterCommas operandFrom nameFrom
+    tokenOf tokenLen afterToken isName sigil packed isNumber valueOf spells worth digitOf afterComma afterCommas operandFrom nameFrom
     operandPlace namePlace every least s.isLive s.columnsOf s.without s.total s.covers s.isFree s.freeFrom s.slot s.lowest s.isBound s.widthOf s.numberOf s.bind
     cells.counted reasons.named reasons.roomed reasons.laneOfWarp reasons.laned reasons.warped reasons.sized reasons.permitted reasons.placed
     reasons.instructionOf reasons.reads reasons.mListed reasons.nListed reasons.typesListed reasons.inside reasons.cleared reasons.openRows
