@@ -23,8 +23,10 @@ columns =
     ∷ ("exit", (3, 5))
     ∷ ("exit; ", (3, 6))
     ∷ ("mov.b32 i 7;", (3, 11))
+    ∷ ("mov.b32 i, 019;", (3, 12))
     -- a number that is too large
     ∷ ("mov.b32 i,  4294967296;", (4, 13))
+    ∷ ("mov.b32 i, 040000000000U;", (4, 12))
     ∷ ("tcgen05.ld.sync.aligned.32x32b.x1.b32 {r}, [t+4294967296];", (4, 47))
     -- no form before too large
     ∷ ("mov.b32 i, 4294967296", (3, 22))

@@ -52,4 +52,4 @@ pub examples : Examples
 unfolding readOf registersOf wholeC answerOf operandsC rowC moreRowC nameC numberC inBracketsC offsetC insideC addressC operandC moreC namesC endC markC recognise opcodes word opcodeByte wordByte letter afterBlanks blank tokenOf tokenLen afterToken isName sigil packed isNumber valueOf spells worth digitOf
     lowBytes strip nameBytes lowDigits trimmed decimal addressText operandText moreNamesText namesText moreRowText rowText textOf
     afterComma afterCommas operandFrom nameFrom operandPlace namePlace
-examples = record { reasons = refl; statements = statements-read; stops = refl; long = refl; operands = refl; canonicals-are = refl }
+examples = record { reasons = refl; limits-are = refl; statements = statements-read; stops = refl; numbers-stop = refl; long = refl; operands = refl; canonicals-are = refl; decimals-are = refl }

@@ -120,6 +120,56 @@ numbers =
     ("tcgen05.mma.cta_group::1.kind::f16 [d], [a+4294967296], b, i, p;", 4) ∷
     []
 
+-- In each base, on both sides of the limit: 4 goes by the value, however many digits there are, and a U is no digit.
+abbrev pub limits : List (String × ℕ)
+limits =
+    ("mov.b32 x, 0xFFFFFFFF;", 0) ∷
+    ("mov.b32 x, 0x100000000;", 4) ∷
+    ("mov.b32 x, 0b11111111111111111111111111111111;", 0) ∷
+    ("mov.b32 x, 0b100000000000000000000000000000000;", 4) ∷
+    ("mov.b32 x, 037777777777;", 0) ∷
+    ("mov.b32 x, 040000000000;", 4) ∷
+    ("mov.b32 x, 4294967295U;", 0) ∷
+    ("mov.b32 x, 4294967296U;", 4) ∷
+    ("mov.b32 x, 0XffffffffU;", 0) ∷
+    ("mov.b32 x, 0X100000000U;", 4) ∷
+    ("mov.b32 x, 0B11111111111111111111111111111111U;", 0) ∷
+    ("mov.b32 x, 0B100000000000000000000000000000000U;", 4) ∷
+    ("mov.b32 x, 037777777777U;", 0) ∷
+    ("mov.b32 x, 040000000000U;", 4) ∷
+    ("mov.b64 x, 0xFFFFFFFFFFFFFFFF;", 0) ∷
+    ("mov.b64 x, 0x10000000000000000;", 4) ∷
+    ("mov.b64 x, 0b1111111111111111111111111111111111111111111111111111111111111111;", 0) ∷
+    ("mov.b64 x, 0b10000000000000000000000000000000000000000000000000000000000000000;", 4) ∷
+    ("mov.b64 x, 01777777777777777777777;", 0) ∷
+    ("mov.b64 x, 02000000000000000000000;", 4) ∷
+    ("mov.b64 x, 18446744073709551615U;", 0) ∷
+    ("mov.b64 x, 18446744073709551616U;", 4) ∷
+    ("mov.b64 x, 0x10000000000000001;", 4) ∷
+    ("mov.b64 x, 0b10000000000000000000000000000000000000000000000000000000000000001;", 4) ∷
+    ("mov.b64 x, 02000000000000000000001;", 4) ∷
+    ("mov.b64 x, 18446744073709551617U;", 4) ∷
+    ("mov.b32 x, 0x000000000000000000000000000000000000000000000000000000000000000000000000000000001U;", 0) ∷
+    ("mov.b32 x, 0b000000000000000000000000000000000000000000000000000000000000000000000000000000001;", 0) ∷
+    ("mov.b32 x, 000000000000000000000000000000000000000000000000000000000000000000000000000000001;", 0) ∷
+    ("mov.b32 x, 0b10000000000000000000000000000000000000000000000000000000000000000000000000000000000000000000000000000000000000000000000000000000000000000000000000000000000000000;", 4) ∷
+    ("mov.b32 x, 0707070707070707070707070707070707070707070707070707070707070707070707070707070707070707070707070707070707070707070707070707070707070707070707070707070707070707;", 4) ∷
+    ("tcgen05.alloc.cta_group::1.sync.aligned.b32 [t], 037777777777U;", 0) ∷
+    ("tcgen05.alloc.cta_group::1.sync.aligned.b32 [t], 040000000000U;", 4) ∷
+    ("tcgen05.dealloc.cta_group::1.sync.aligned.b32 t, 037777777777U;", 0) ∷
+    ("tcgen05.dealloc.cta_group::1.sync.aligned.b32 t, 040000000000U;", 4) ∷
+    ("tcgen05.ld.sync.aligned.32x32b.x1.b32 {r}, [t+037777777777U];", 0) ∷
+    ("tcgen05.ld.sync.aligned.32x32b.x1.b32 {r}, [t+040000000000U];", 4) ∷
+    ("tcgen05.st.sync.aligned.32x32b.x1.b32 [t+037777777777U], {r};", 0) ∷
+    ("tcgen05.st.sync.aligned.32x32b.x1.b32 [t+040000000000U], {r};", 4) ∷
+    ("tcgen05.mma.sp.cta_group::1.kind::f16 [d+0xFFFFFFFFU], [a+0b11111111111111111111111111111111], b, [m+037777777777], i, p;", 0) ∷
+    ("tcgen05.mma.sp.cta_group::1.kind::f16 [d+040000000000], [a+0b1], b, [m+0x1U], i, p;", 4) ∷
+    ("tcgen05.mma.sp.cta_group::1.kind::f16 [d+01], [a+0b100000000000000000000000000000000], b, [m+0x1U], i, p;", 4) ∷
+    ("tcgen05.mma.sp.cta_group::1.kind::f16 [d+01], [a+0b1], b, [m+0x100000000U], i, p;", 4) ∷
+    ("mov.b32 x, 040000000000U", 3) ∷
+    ("mov.b32 x, 0b100000000000000000000000000000000;;", 3) ∷
+    []
+
 -- Forms.
 abbrev pub forms : List (String × ℕ)
 forms =
@@ -226,6 +276,42 @@ places =
     ("tcgen05.ld.sync.aligned.32x32b.x128.b32 {r,r,r,r,r,r,r,r,r,r,r,r,r,r,r,r,r,r,r,r,r,r,r,r,r,r,r,r,r,r,r,r,r,r,r,r,r,r,r,r,r,r,r,r,r,r,r,r,r,r,r,r,r,r,r,r,r,r,r,r,r,r,r,r,r,r,r,r,r,r,r,r,r,r,r,r,r,r,r,r,r,r,r,r,r,r,r,r,r,r,r,r,r,r,r,r,r,r,r,r,r,r,r,r,r,r,r,r,r,r,r,r,r,r,r,r,r,r,r,r,r,r,r,r,r,r,r,r,r}, [t];", NoForm 296) ∷
     []
 
+-- Of numbers, both places are those of the token's first byte, wherever in it a wrong byte stands. Digits of an opcode are no number.
+abbrev pub numberPlaces : List (String × Reading)
+numberPlaces =
+    ("mov.b32 x, 08;", NoForm 11) ∷
+    ("mov.b32 x, 019;", NoForm 11) ∷
+    ("mov.b32 x, 0b;", NoForm 11) ∷
+    ("mov.b32 x, 0bU;", NoForm 11) ∷
+    ("mov.b32 x, 0b2;", NoForm 11) ∷
+    ("mov.b32 x, 0b12;", NoForm 11) ∷
+    ("mov.b32 x, 0b102;", NoForm 11) ∷
+    ("mov.b32 x, 0x;", NoForm 11) ∷
+    ("mov.b32 x, 0xU;", NoForm 11) ∷
+    ("mov.b32 x, 0x1G;", NoForm 11) ∷
+    ("mov.b32 x, 0xUU;", NoForm 11) ∷
+    ("mov.b32 x, 0U1;", NoForm 11) ∷
+    ("mov.b32 x, 64u;", NoForm 11) ∷
+    ("mov.b32 x, 0UU;", NoForm 11) ∷
+    ("mov.b32 x, 64UU;", NoForm 11) ∷
+    ("mov.b32 x, 64U1;", NoForm 11) ∷
+    ("mov.b32 x, 0o7;", NoForm 11) ∷
+    ("mov.b32 x, U;", NoForm 11) ∷
+    ("mov.b32 x, 0_1;", NoForm 11) ∷
+    ("mov.b32 x, 0x1u;", NoForm 11) ∷
+    ("mov.b32 x,   0000000000000008;", NoForm 13) ∷
+    ("tcgen05.alloc.cta_group::1.sync.aligned.b32 [t], 0b2U;", NoForm 49) ∷
+    ("tcgen05.dealloc.cta_group::1.sync.aligned.b32 t, 09;", NoForm 49) ∷
+    ("tcgen05.ld.sync.aligned.32x32b.x1.b32 {r}, [t+0b];", NoForm 46) ∷
+    ("tcgen05.mma.sp.cta_group::1.kind::f16 [d+0], [a+0], b, [m+08], i, p;", NoForm 58) ∷
+    ("mov.b32 x, 040000000000U, 1;", NoForm 24) ∷
+    ("mov.b32 x, 040000000000U;", TooLarge 11) ∷
+    ("tcgen05.ld.sync.aligned.32x32b.x1.b32 {r}, [t+ 0b100000000000000000000000000000000];", TooLarge 47) ∷
+    ("tcgen05.mma.sp.cta_group::1.kind::f16 [d+040000000000U], [a+0x100000000U], b, [m+0], i, p;", TooLarge 41) ∷
+    ("tcgen05.ld.sync.aligned.32x32b.x1U.b32 {r}, [t];", NoForm 0) ∷
+    ("tcgen05.alloc.cta_group::01.sync.aligned.b32 [t], 32;", NoForm 0) ∷
+    []
+
 -- In a text of over 4,096 bytes it is that of the token too, or, where there is none, the end. Four texts with n spaces in them.
 abbrev pub spaced : ℕ → List (List ℕ)
 spaced n =
@@ -279,11 +365,46 @@ canonicals =
     ("tcgen05.wait::ld.sync.aligned ;", bytes "tcgen05.wait::ld.sync.aligned;") ∷
     []
 
+-- Numbers of each spelling, in decimal.
+abbrev pub inDecimal : List (String × List ℕ)
+inDecimal =
+    ("mov.b32 x, 0;", bytes "mov.b32 x, 0;") ∷
+    ("mov.b32 x, 00;", bytes "mov.b32 x, 0;") ∷
+    ("mov.b32 x, 000;", bytes "mov.b32 x, 0;") ∷
+    ("mov.b32 x, 0U;", bytes "mov.b32 x, 0;") ∷
+    ("mov.b32 x, 00U;", bytes "mov.b32 x, 0;") ∷
+    ("mov.b32 x, 0x0;", bytes "mov.b32 x, 0;") ∷
+    ("mov.b32 x, 0b0U;", bytes "mov.b32 x, 0;") ∷
+    ("mov.b32 x, 0B1;", bytes "mov.b32 x, 1;") ∷
+    ("mov.b32 x, 0b100000;", bytes "mov.b32 x, 32;") ∷
+    ("mov.b32 x, 0B100000U;", bytes "mov.b32 x, 32;") ∷
+    ("mov.b32 x, 040;", bytes "mov.b32 x, 32;") ∷
+    ("mov.b32 x, 040U;", bytes "mov.b32 x, 32;") ∷
+    ("mov.b32 x, 064;", bytes "mov.b32 x, 52;") ∷
+    ("mov.b32 x, 0777;", bytes "mov.b32 x, 511;") ∷
+    ("mov.b32 x, 0X20U;", bytes "mov.b32 x, 32;") ∷
+    ("mov.b32 x, 0xaBcDeF;", bytes "mov.b32 x, 11259375;") ∷
+    ("mov.b32 x, 64U;", bytes "mov.b32 x, 64;") ∷
+    ("mov.b32 x, 4294967295U;", bytes "mov.b32 x, 4294967295;") ∷
+    ("mov.b64 x, 0xFFFFFFFFFFFFFFFFU;", bytes "mov.b64 x, 18446744073709551615;") ∷
+    ("mov.b64 x, 0b1111111111111111111111111111111111111111111111111111111111111111U;", bytes "mov.b64 x, 18446744073709551615;") ∷
+    ("mov.b64 x, 01777777777777777777777U;", bytes "mov.b64 x, 18446744073709551615;") ∷
+    ("mov.b64 x, 18446744073709551615U;", bytes "mov.b64 x, 18446744073709551615;") ∷
+    ("tcgen05.alloc.cta_group::1.sync.aligned.b32 [x],01000U;", bytes "tcgen05.alloc.cta_group::1.sync.aligned.b32 [x], 512;") ∷
+    ("tcgen05.dealloc.cta_group::1.sync.aligned.b32 t, 0b1000000;", bytes "tcgen05.dealloc.cta_group::1.sync.aligned.b32 t, 64;") ∷
+    ("tcgen05.ld.sync.aligned.32x32b.x1.b32 {r}, [x+020];", bytes "tcgen05.ld.sync.aligned.32x32b.x1.b32 {r}, [x+16];") ∷
+    ("tcgen05.st.sync.aligned.32x32b.x1.b32 [x+0U], {r};", bytes "tcgen05.st.sync.aligned.32x32b.x1.b32 [x], {r};") ∷
+    ("tcgen05.mma.sp.cta_group::1.kind::f16 [d+0b10], [a+010U], b, [m+0X1fU], i, p;", bytes "tcgen05.mma.sp.cta_group::1.kind::f16 [d+2], [a+8], b, [m+31], i, p;") ∷
+    []
+
 -- ---- the claim: each text of each table has what stands beside it
 pub record Examples : Type 0 where
   pub reasons : Gives reasonFor (spacing ++ (words ++ (numbers ++ forms)))
+  pub limits-are : Gives reasonFor limits
   pub statements : AllRead (typed ++ (accesses ++ mmas))
   pub stops : Gives reading places
+  pub numbers-stop : Gives reading numberPlaces
   pub long : Gives (λ n. map readOf (spaced n)) lengths
   pub operands : Gives placesOf operandPlaces
   pub canonicals-are : Gives canonical canonicals
+  pub decimals-are : Gives canonical inDecimal

@@ -35,6 +35,7 @@ worked =
     record {
       headers-are = refl;
       ends-are = refl;
+      passes-are = refl;
       layouts-are = refl;
       stops-are = refl;
       requests-are = refl;

@@ -27,6 +27,10 @@ lined (l ∷ ls) = bytes l ++ (lf ∷ lined ls)
 abbrev pub below : List String → ℕ × ℕ × ℕ
 below lines = answered (judgedOf (header ++ (lf ∷ lined lines)) 0)
 
+-- the same, with a place lent for one start
+abbrev pub lent : List String → ℕ × ℕ × ℕ
+lent lines = answered (judgedOf (header ++ (lf ∷ lined lines)) 1)
+
 -- ---- lines that come before
 abbrev pub alloc32 : String
 alloc32 = "0\ttcgen05.alloc.cta_group::1.sync.aligned.b32 [t], 32;"
@@ -70,6 +74,14 @@ ends =
     (alloc32 ∷ dealloc32 ∷ exit ∷ [], (16, 4, 1)) ∷
     []
 
+-- What is asked for is given back, each number in whatever base: passed.
+abbrev pub passes : List (List String × (ℕ × ℕ × ℕ))
+passes =
+    (alloc32 ∷ dealloc32 ∷ exit ∷ [], (0, 4, 0)) ∷
+    ("0\ttcgen05.alloc.cta_group::1.sync.aligned.b32 [t], 040U;" ∷ dealloc32 ∷ exit ∷ [], (0, 4, 0)) ∷
+    (alloc32 ∷ "0\ttcgen05.dealloc.cta_group::1.sync.aligned.b32 t, 0b100000;" ∷ exit ∷ [], (0, 4, 0)) ∷
+    []
+
 -- A line of wrong layout has column 1.
 abbrev pub layouts : List (List String × (ℕ × ℕ × ℕ))
 layouts =
@@ -89,8 +101,10 @@ stops =
     ("0\texit; " ∷ [], (3, 2, 8)) ∷
     ("*\texit ;;" ∷ [], (3, 2, 9)) ∷
     ("0\tmov.b32 x y" ∷ [], (3, 2, 13)) ∷
+    ("0\tmov.b32 x, 08;" ∷ [], (3, 2, 14)) ∷
     ("0\tmov.b32 x, 4294967296, 1;" ∷ [], (3, 2, 24)) ∷
     ("0\tmov.b32 x, 4294967296;" ∷ [], (4, 2, 14)) ∷
+    ("0\tmov.b32 x, 0b100000000000000000000000000000000;" ∷ [], (4, 2, 14)) ∷
     ("0\tmov.b32%x   ,   4294967296 ;" ∷ [], (4, 2, 19)) ∷
     ("0\ttcgen05.ld.sync.aligned.32x32b.x1.b32 {r0, 5}, [t];" ∷ [], (3, 2, 46)) ∷
     ("3\ttcgen05.ld.sync.aligned.32x32b.x1.b32 {r},[ t + 4294967296 ];" ∷ [], (4, 2, 51)) ∷
@@ -100,6 +114,7 @@ stops =
 abbrev pub requests : List (List String × (ℕ × ℕ × ℕ))
 requests =
     ("0\ttcgen05.alloc.cta_group::1.sync.aligned.b32 [t], 33;" ∷ [], (9, 2, 52)) ∷
+    ("0\ttcgen05.alloc.cta_group::1.sync.aligned.b32 [x], 064;" ∷ [], (9, 2, 52)) ∷
     ("0\ttcgen05.alloc.cta_group::1.sync.aligned.b32[t],33;" ∷ [], (9, 2, 50)) ∷
     ("0\ttcgen05.alloc.cta_group::1.sync.aligned.b32  [  t ] ,   33 ;" ∷ [], (9, 2, 59)) ∷
     (alloc64 ∷ "0\ttcgen05.alloc.cta_group::1.sync.aligned.b32 [ t ], 32;" ∷ [], (6, 3, 49)) ∷
@@ -146,6 +161,7 @@ mmas =
 pub record Worked : Type 0 where
   pub headers-are : Gives pointed headers
   pub ends-are : Gives below ends
+  pub passes-are : Gives lent passes
   pub layouts-are : Gives below layouts
   pub stops-are : Gives below stops
   pub requests-are : Gives below requests
