@@ -6,42 +6,64 @@ use native.Mathlib.Omega.{arith}
 use native.Mathlib.Decide.{decLe}
 use mathlib.Core.Path.{_≡_, refl, sym, ap, _∙_}
 use mathlib.Core.List.{List, [], _∷_}
-use mathlib.Core.Bool.{Bool, true, false, _&&_, _||_, not, true≢false, cond}
+use mathlib.Core.Bool.{Bool, true, false, _&&_, _||_, not, true≢false, cond, and-false}
 use lib.ListN.{length, getD, take, drop, drop-of-length-le}
-use lib.Seq.{drop-cons, drop-drop, length-take-le, getD-drop}
+use lib.Seq.{drop-cons, drop-drop, getD-drop, length-take-le}
 use lib.Dec.{ltb, leb, eqb}
 use borrow.Author.Tests.{eq-eqb, ne-eqb, le-leb, lt-leb, lt-ltb, le-ltb, ltb-true, ltb-false, not-true}
+use Rattle.laws.proofs.BoolLaws.{never, and-split}
 use Rattle.tokens.specs.declared.Numeral.{Numeral}
-use Rattle.tokens.specs.Bytes.{wordByte, runLen, all, tokenLen, tokenOf, afterToken}
-use Rattle.tokens.specs.Numbers.{digitOf, isDigit, hexMark, zeroLed, someDigits, isNumber, valueOf, numeralOf, fitted, noNumeral, positional}
+use Rattle.tokens.specs.Text.{bytes}
+use Rattle.tokens.specs.Bytes.{sameBytes, wordByte, letter, runLen, all, tokenLen, tokenOf, afterToken}
+use Rattle.tokens.specs.Numbers.{digitOf, among, positional, Spelling, hexadecimals, binaries, octals, decimals, spellings, begins, byRow, digitsLen, ending, spells, worth, isNumber, valueOf, numeralOf, fitted, noNumeral}
 use Rattle.tokens.specs.Cursors.{Rest, on, off, numberHere}
-use Rattle.lexer.specs.Runs.{baseOf, digitsLen, digitsAfter, wholeRun, runNumeral, numeralLen}
-use mathlib.Core.Bool.{and-false}
-use Rattle.laws.proofs.BoolLaws.{not-or}
+use Rattle.lexer.specs.declared.number.Notation.{Notation}
+use Rattle.lexer.specs.declared.number.Notation.the-variants as notation
+use Rattle.lexer.specs.Runs.{rowOf, digitBelow, roomyOf, digitsAfter, wordsOf, tailLen, rowNumeral}
 use Rattle.tokens.proofs.Runs.{run-stop, run-past, run-le}
-use Rattle.tokens.proofs.Classes.{figure-word, digit-word, x-word}
+use Rattle.tokens.proofs.Lengths.{token-le}
+use Rattle.tokens.proofs.Spellings.{among-each, not-among, digitsBelow, digits-below, each, prefixWords, wordy, spellings-wordy, begins-length, number-words}
 use Rattle.lexer.proofs.Laws.{word-0}
 
+-- ---- what is computed once for each notation
+row-below : (n : Notation) → digitsBelow (rowOf n) ≡ true
+unfolding digitOf
+row-below notation.Hexadecimal = refl
+row-below notation.Binary = refl
+row-below notation.Octal = refl
+row-below notation.Decimal = refl
+
+pub row-some : (n : Notation) → 0 < rowOf n .base
+row-some notation.Hexadecimal = omega arith
+row-some notation.Binary = omega arith
+row-some notation.Octal = omega arith
+row-some notation.Decimal = omega arith
+
 -- ---- digits
-pub digit-no : (base x : ℕ) → base ≤ digitOf x → isDigit base x ≡ false
-unfolding isDigit
-digit-no base x h = le-ltb _ _ h
+pub digit-same : (n : Notation) (x : ℕ) → among (rowOf n .digits) x ≡ digitBelow (rowOf n .base) x
+digit-same n x = digits-below (rowOf n) (row-below n) x
 
-pub digit-is : (base x : ℕ) → digitOf x < base → isDigit base x ≡ true
-unfolding isDigit
-digit-is base x h = lt-ltb _ _ h
+pub digit-no : (n : Notation) (x : ℕ) → rowOf n .base ≤ digitOf x → among (rowOf n .digits) x ≡ false
+digit-no n x h = digit-same n x ∙ le-ltb _ _ h
 
-pub room-16 : (v d : ℕ) → d < 16 → leb v 0x0fff_ffff_ffff_ffff ≡ ltb (v * 16 + d) (2 ^ 64)
-room-16 v d h = go (decLe v 0x0fff_ffff_ffff_ffff)
-  where
-    go : Dec (v ≤ 0x0fff_ffff_ffff_ffff) → leb v 0x0fff_ffff_ffff_ffff ≡ ltb (v * 16 + d) (2 ^ 64)
-    go (yes p) = rw (le-leb _ _ p, lt-ltb (v * 16 + d) (2 ^ 64) (omega arith))
-    go (no q) = let p : 0x0fff_ffff_ffff_ffff < v = omega arith in rw (lt-leb _ _ p, le-ltb (v * 16 + d) (2 ^ 64) (omega arith))
+pub digit-is : (n : Notation) (x : ℕ) → digitOf x < rowOf n .base → among (rowOf n .digits) x ≡ true
+digit-is n x h = digit-same n x ∙ lt-ltb _ _ h
 
-pub room-below : (v d : ℕ) → d < 10 → v < 1844674407370955161 → true ≡ ltb (v * 10 + d) (2 ^ 64)
-room-below v d h p = rw (lt-ltb (v * 10 + d) (2 ^ 64) (omega arith))
+run-same : (f g : ℕ → Bool) → ((x : ℕ) → f x ≡ g x) → (l : List ℕ) → runLen f l ≡ runLen g l
+run-same f g h [] = refl
+run-same f g h (x ∷ l) = rw (h x, run-same f g h l)
 
-pub room-last : (v d : ℕ) → d < 10 → 1844674407370955161 ≤ v → (eqb v 1844674407370955161 && leb d 5) ≡ ltb (v * 10 + d) (2 ^ 64)
+pub run-below : (n : Notation) (l : List ℕ) → runLen (digitBelow (rowOf n .base)) l ≡ digitsLen (rowOf n) l
+run-below n l = sym (run-same (among (rowOf n .digits)) (digitBelow (rowOf n .base)) (digit-same n) l)
+
+-- ---- room for a digit more
+pub room-below : (n : Notation) (v d : ℕ) → d < rowOf n .base → v ≤ roomyOf n → true ≡ ltb (v * rowOf n .base + d) (2 ^ 64)
+room-below notation.Hexadecimal v d h p = rw (lt-ltb (v * 16 + d) (2 ^ 64) (omega arith))
+room-below notation.Binary v d h p = rw (lt-ltb (v * 2 + d) (2 ^ 64) (omega arith))
+room-below notation.Octal v d h p = rw (lt-ltb (v * 8 + d) (2 ^ 64) (omega arith))
+room-below notation.Decimal v d h p = rw (lt-ltb (v * 10 + d) (2 ^ 64) (omega arith))
+
+room-last : (v d : ℕ) → d < 10 → 1844674407370955160 < v → (eqb v 1844674407370955161 && leb d 5) ≡ ltb (v * 10 + d) (2 ^ 64)
 room-last v d h g = go (decLe (2 ^ 64) (v * 10 + d))
   where
     over : Dec (v ≤ 1844674407370955161) → (2 ^ 64 ≤ v * 10 + d) → (eqb v 1844674407370955161 && leb d 5) ≡ false
@@ -52,294 +74,351 @@ room-last v d h g = go (decLe (2 ^ 64) (v * 10 + d))
     go (yes p) = rw (le-ltb (v * 10 + d) (2 ^ 64) p) (over (decLe v 1844674407370955161) p)
     go (no q) = rw (lt-ltb (v * 10 + d) (2 ^ 64) (omega arith), eq-eqb v 1844674407370955161 (omega arith), le-leb d 5 (omega arith))
 
+-- and past that
+abbrev roomBy : Notation → ℕ → ℕ → Bool
+roomBy notation.Hexadecimal v d = false
+roomBy notation.Binary v d = false
+roomBy notation.Octal v d = false
+roomBy notation.Decimal v d = eqb v 1844674407370955161 && leb d 5
+
+room-over : (n : Notation) (v d : ℕ) → d < rowOf n .base → roomyOf n < v → roomBy n v d ≡ ltb (v * rowOf n .base + d) (2 ^ 64)
+room-over notation.Hexadecimal v d h p = rw (le-ltb (v * 16 + d) (2 ^ 64) (omega arith))
+room-over notation.Binary v d h p = rw (le-ltb (v * 2 + d) (2 ^ 64) (omega arith))
+room-over notation.Octal v d h p = rw (le-ltb (v * 8 + d) (2 ^ 64) (omega arith))
+room-over notation.Decimal v d h p = room-last v d h p
+
+pub room-past : (n k : Notation) (most v d : ℕ) → n ≡ k → (most ≡ roomyOf n) × (d < rowOf n .base) → most < v → roomBy k v d ≡ ltb (v * rowOf n .base + d) (2 ^ 64)
+room-past n k most v d e h g = ap (λ (k : Notation). roomBy k v d) (sym e) ∙ room-over n v d (h .1) (rw (h .0) at g)
+
 -- a number is at least what stands before its last digits
 grows : (base v : ℕ) → 0 < base → (l : List ℕ) → v ≤ positional base v l
 grows base v h [] = omega arith
 grows base v h (x ∷ l) = omega (arith, grows base (v * base + digitOf x) h l, le-mul-of-pos-right v h)
 
-pub base-some : (hex : Bool) → 0 < baseOf hex
-base-some true = omega arith
-base-some false = omega arith
-
-pub fit-small : (v w : ℕ) → v < 2 ^ 64 → v ≡ w → record { ok = true; over = false; value = v } ≡ fitted w
+pub fit-small : (used v w : ℕ) → v < 2 ^ 64 → v ≡ w → record { ok = true; over = false; value = v; used = used } ≡ fitted used w
 unfolding fitted
-fit-small v w h e = rw (← e, lt-ltb v (2 ^ 64) h)
+fit-small used v w h e = rw (← e, lt-ltb v (2 ^ 64) h)
 
-pub fit-over : (w : ℕ) → 2 ^ 64 ≤ w → record { ok = true; over = true; value = 0 } ≡ fitted w
+pub fit-over : (used w : ℕ) → 2 ^ 64 ≤ w → record { ok = true; over = true; value = 0; used = used } ≡ fitted used w
 unfolding fitted
-fit-over w h = rw (le-ltb w (2 ^ 64) h)
+fit-over used w h = rw (le-ltb w (2 ^ 64) h)
+
+-- the same number of other bytes
+refit : (k used v : ℕ) (d : Numeral) → d ≡ fitted k v → record { ok = true; over = d .over; value = d .value; used = used } ≡ fitted used v
+unfolding fitted
+refit k used v d e = ap (λ (n : Numeral). record { ok = true; over = n .over; value = n .value; used = used }) e ∙ go (ltb v (2 ^ 64))
+  where
+    by : Bool → ℕ → Numeral
+    by b k = cond b (record { ok = true; over = false; value = v; used = k }) (record { ok = true; over = true; value = 0; used = k })
+
+    go : (b : Bool) → record { ok = true; over = by b k .over; value = by b k .value; used = used } ≡ by b used
+    go true = refl
+    go false = refl
 
 -- one turn of the loop that reads digits
-module _ (base : ℕ) (s : List ℕ) (v i : ℕ) where
-  pub after-step : i < length s → digitOf (getD s i 0) < base
-      → digitsAfter base v (drop i s) ≡ digitsAfter base (v * base + digitOf (getD s i 0)) (drop (i + 1) s)
-  after-step h g = rw (add-one i, drop-cons s i 0 h, digit-is base (getD s i 0) g)
+module _ (n : Notation) (s : List ℕ) (v i : ℕ) where
+  pub after-step : i < length s → digitOf (getD s i 0) < rowOf n .base
+      → digitsAfter (rowOf n) v (drop i s) ≡ digitsAfter (rowOf n) (v * rowOf n .base + digitOf (getD s i 0)) (drop (i + 1) s)
+  after-step h g = rw (add-one i, drop-cons s i 0 h, digit-is n (getD s i 0) g)
 
-  pub after-stop : i < length s → base ≤ digitOf (getD s i 0) → digitsAfter base v (drop i s) ≡ v
-  after-stop h g = rw (run-stop (isDigit base) s i h (digit-no base (getD s i 0) g))
+  pub after-stop : i < length s → rowOf n .base ≤ digitOf (getD s i 0) → digitsAfter (rowOf n) v (drop i s) ≡ v
+  after-stop h g = rw (run-stop (among (rowOf n .digits)) s i h (digit-no n (getD s i 0) g))
 
-  pub after-past : length s ≤ i → digitsAfter base v (drop i s) ≡ v
-  after-past h = rw (run-past (isDigit base) s i h)
+  pub after-past : length s ≤ i → digitsAfter (rowOf n) v (drop i s) ≡ v
+  after-past h = rw (run-past (among (rowOf n .digits)) s i h)
 
-  pub after-over : i < length s → 0 < base → digitOf (getD s i 0) < base → 2 ^ 64 ≤ v * base + digitOf (getD s i 0) → 2 ^ 64 ≤ digitsAfter base v (drop i s)
-  after-over h b g o =
+  pub after-over : i < length s → digitOf (getD s i 0) < rowOf n .base → 2 ^ 64 ≤ v * rowOf n .base + digitOf (getD s i 0) → 2 ^ 64 ≤ digitsAfter (rowOf n) v (drop i s)
+  after-over h g o =
       rw (after-step h g)
-      (omega (arith, grows base (v * base + digitOf (getD s i 0)) b (take (digitsLen base (drop (i + 1) s)) (drop (i + 1) s))))
+      (omega (arith, grows (rowOf n .base) (v * rowOf n .base + digitOf (getD s i 0)) (row-some n) (take (digitsLen (rowOf n) (drop (i + 1) s)) (drop (i + 1) s))))
 
--- ---- a digit is a word byte
--- ---- a run of digits against the run of word bytes that it starts
-module _ (base : ℕ) (small : base ≤ 16) where
-  run-all : (m : List ℕ) → all (isDigit base) (take (runLen wordByte m) m) ≡ not (wordByte (getD m (digitsLen base m) 0))
-  run-all [] = rw word-0
-  run-all (x ∷ m) = go (isDigit base x) (wordByte x) refl refl (run-all m)
-    where
-      go : (d w : Bool) → isDigit base x ≡ d → wordByte x ≡ w → all (isDigit base) (take (runLen wordByte m) m) ≡ not (wordByte (getD m (digitsLen base m) 0))
-          → all (isDigit base) (take (cond w (suc (runLen wordByte m)) 0) (x ∷ m)) ≡ not (wordByte (getD (x ∷ m) (cond d (suc (digitsLen base m)) 0) 0))
-      go true true p q k = rw p k
-      go true false p q k = absurd (true≢false (sym (digit-word base x small p) ∙ q))
-      go false true p q k = rw (p, q)
-      go false false p q k = rw q
+-- ---- the word bytes at the head
+-- of n bytes of a run at the head of l, all of them word bytes, and the word bytes w there
+abbrev Parts : (ℕ → Bool) → List ℕ → ℕ → List ℕ → Type 0
+Parts f l n w = (runLen f w ≡ n) × (take n w ≡ take n l) × (drop n w ≡ wordsOf (drop n l)) × (length w ≡ n + length (wordsOf (drop n l)))
 
-  run-len : (m : List ℕ) → wordByte (getD m (digitsLen base m) 0) ≡ false → runLen wordByte m ≡ digitsLen base m
-  run-len [] h = refl
-  run-len (x ∷ m) h = go (isDigit base x) (wordByte x) refl refl (run-len m) h
-    where
-      go : (d w : Bool) → isDigit base x ≡ d → wordByte x ≡ w → (wordByte (getD m (digitsLen base m) 0) ≡ false → runLen wordByte m ≡ digitsLen base m)
-          → wordByte (getD (x ∷ m) (cond d (suc (digitsLen base m)) 0) 0) ≡ false → cond w (suc (runLen wordByte m)) 0 ≡ cond d (suc (digitsLen base m)) 0
-      go true true p q k h = ap suc (k h)
-      go true false p q k h = absurd (true≢false (sym (digit-word base x small p) ∙ q))
-      go false true p q k h = absurd (true≢false (sym q ∙ h))
-      go false false p q k h = refl
-
-  -- the run of word bytes as digits, where it is the run of digits, and else none
-  run-numeral : (m : List ℕ)
-      → runNumeral base m ≡ cond (someDigits base (take (runLen wordByte m) m)) (fitted (positional base 0 (take (runLen wordByte m) m))) noNumeral
-  unfolding runNumeral wholeRun someDigits
-  run-numeral m = go (wordByte (getD m (digitsLen base m) 0)) refl
-    where
-      go : (w : Bool) → wordByte (getD m (digitsLen base m) 0) ≡ w
-          → cond (ltb 0 (digitsLen base m) && not (wordByte (getD m (digitsLen base m) 0))) (fitted (digitsAfter base 0 m)) noNumeral
-          ≡ cond (ltb 0 (length (take (runLen wordByte m) m)) && all (isDigit base) (take (runLen wordByte m) m)) (fitted (positional base 0 (take (runLen wordByte m) m))) noNumeral
-      go true e = rw (run-all m, e, and-false (ltb 0 (digitsLen base m)), and-false (ltb 0 (length (take (runLen wordByte m) m))))
-      go false e = rw (run-all m, e, run-len m e, length-take-le (digitsLen base m) m (run-le (isDigit base) m))
-
-  run-end : (m : List ℕ) → runNumeral base m .ok ≡ true → runLen wordByte m ≡ digitsLen base m
-  unfolding runNumeral wholeRun
-  run-end m h = go (ltb 0 (digitsLen base m)) (wordByte (getD m (digitsLen base m) 0)) refl h
-    where
-      go : (a w : Bool) → wordByte (getD m (digitsLen base m) 0) ≡ w → cond (a && not w) (fitted (digitsAfter base 0 m)) noNumeral .ok ≡ true → runLen wordByte m ≡ digitsLen base m
-      go true true e h = absurd (true≢false (sym h))
-      go true false e h = run-len m e
-      go false w e h = absurd (true≢false (sym h))
-
--- the same in the words of the code: e is where the digits end
-some-by : (at n : ℕ) → ltb 0 n ≡ not (leb (at + n) at)
-some-by at n = go (decLe n 0)
+words-parts : (f : ℕ → Bool) → ((x : ℕ) → f x ≡ true → wordByte x ≡ true) → (l : List ℕ) → Parts f l (runLen f l) (wordsOf l)
+words-parts f are [] = (refl, refl, refl, refl)
+words-parts f are (x ∷ l) = go (f x) (wordByte x) refl refl (words-parts f are l)
   where
-    go : Dec (n ≤ 0) → ltb 0 n ≡ not (leb (at + n) at)
-    go (yes p) = rw (le-ltb 0 n p, le-leb (at + n) at (omega arith))
-    go (no q) = rw (lt-ltb 0 n (omega arith), lt-leb (at + n) at (omega arith))
+    go : (b w : Bool) → f x ≡ b → wordByte x ≡ w → Parts f l (runLen f l) (wordsOf l)
+        → Parts f (x ∷ l) (cond b (suc (runLen f l)) 0) (take (cond w (suc (runLen wordByte l)) 0) (x ∷ l))
+    go true true p q i = (rw p (ap suc (i .0)), ap (λ (m : List ℕ). x ∷ m) (i .1), i .2, omega (arith, i .3))
+    go true false p q i = absurd (true≢false (sym (are x p) ∙ q))
+    go false true p q i = (rw p, refl, rw q, rw q (omega arith))
+    go false false p q i = (refl, refl, rw q, rw q)
 
-whole-by : (base : ℕ) (s : List ℕ) (at e : ℕ) → e ≡ at + digitsLen base (drop at s) → wholeRun base (drop at s) ≡ not (leb e at || wordByte (getD s e 0))
-unfolding wholeRun
-whole-by base s at e h =
-    rw (h, getD-drop at s (digitsLen base (drop at s)) 0, some-by at (digitsLen base (drop at s)))
-    (sym (not-or (leb (at + digitsLen base (drop at s)) at) (wordByte (getD s (at + digitsLen base (drop at s)) 0))))
+row-words : (n : Notation) → all wordByte (rowOf n .digits) ≡ true
+unfolding wordByte letter
+row-words notation.Hexadecimal = refl
+row-words notation.Binary = refl
+row-words notation.Octal = refl
+row-words notation.Decimal = refl
 
-module _ (base : ℕ) (s : List ℕ) (at e : ℕ) (h : e ≡ at + digitsLen base (drop at s)) where
-  pub whole-none : (leb e at || wordByte (getD s e 0)) ≡ true → noNumeral ≡ runNumeral base (drop at s)
-  unfolding runNumeral
-  whole-none t = rw (whole-by base s at e h, t)
+pub prefix-le : (n : Notation) → length (rowOf n .prefix) ≤ 2
+prefix-le notation.Hexadecimal = omega arith
+prefix-le notation.Binary = omega arith
+prefix-le notation.Octal = omega arith
+prefix-le notation.Decimal = omega arith
 
-  pub whole-some : (leb e at || wordByte (getD s e 0)) ≡ false → fitted (digitsAfter base 0 (drop at s)) ≡ runNumeral base (drop at s)
-  unfolding runNumeral
-  whole-some t = rw (whole-by base s at e h, t)
+row-unsigned : (n : Notation) → rowOf n .unsigned ≡ true
+row-unsigned notation.Hexadecimal = refl
+row-unsigned notation.Binary = refl
+row-unsigned notation.Octal = refl
+row-unsigned notation.Decimal = refl
 
--- ---- the token at the head
-token-word : (x : ℕ) (m : List ℕ) → wordByte x ≡ true → tokenOf (x ∷ m) ≡ x ∷ take (runLen wordByte m) m
+-- ---- what follows the digits
+ending-length : (l : List ℕ) → ending true l ≡ true → length l ≤ 1
+ending-length [] h = omega arith
+ending-length (x ∷ []) h = omega arith
+ending-length (x ∷ (y ∷ l)) h = never (sym (and-false (eqb x 85)) ∙ h)
+
+tail-by : (b : Bool) (k : ℕ) → (b ≡ true → k ≤ 1) → 1 < cond b k 2 → b ≡ false
+tail-by true k h g = absurd (omega (arith, h refl))
+tail-by false k h g = refl
+
+tail-is : (b : Bool) (k : ℕ) → cond b k 2 ≤ 1 → (b ≡ true) × (cond b k 2 ≡ k)
+tail-is true k g = (refl, refl)
+tail-is false k g = absurd (omega arith)
+
+-- after a first word byte
+more-by : (a b : Bool) (m : List ℕ) → wordByte (getD m 0 0) ≡ b → (not a || b) ≡ true → (a && sameBytes (wordsOf m) []) ≡ false
+more-by true true [] e k = never (sym word-0 ∙ e)
+more-by true true (y ∷ m) e k = rw e
+more-by true false m e k = never k
+more-by false b m e k = refl
+
+words-none : (m : List ℕ) → wordByte (getD m 0 0) ≡ false → wordsOf m ≡ []
+words-none [] e = refl
+words-none (y ∷ m) e = rw e
+
+one-by : (a b : Bool) → (not a || b) ≡ false → (a ≡ true) × (b ≡ false)
+one-by true b k = (refl, k)
+one-by false b k = never (sym k)
+
+module _ (s : List ℕ) (at : ℕ) where
+  pub tail-past : length s ≤ at → 0 ≡ tailLen (drop at s)
+  unfolding tailLen
+  tail-past h = rw (drop-of-length-le s h)
+
+  module _ (h : at < length s) where
+    pub tail-other : wordByte (getD s at 0) ≡ false → 0 ≡ tailLen (drop at s)
+    unfolding tailLen
+    tail-other e = rw (drop-cons s at 0 h, e)
+
+    next : getD (drop (suc at) s) 0 0 ≡ getD s (at + 1) 0
+    next = rw (getD-drop, add-zero, add-one at)
+
+    pub tail-more : wordByte (getD s at 0) ≡ true → (not (eqb (getD s at 0) 85) || wordByte (getD s (at + 1) 0)) ≡ true → 2 ≡ tailLen (drop at s)
+    unfolding tailLen
+    tail-more e k = rw (drop-cons s at 0 h, e, more-by (eqb (getD s at 0) 85) (wordByte (getD s (at + 1) 0)) (drop (suc at) s) (rw next) k)
+
+    pub tail-one : wordByte (getD s at 0) ≡ true → (not (eqb (getD s at 0) 85) || wordByte (getD s (at + 1) 0)) ≡ false → 1 ≡ tailLen (drop at s)
+    unfolding tailLen
+    tail-one e k =
+        let p = one-by (eqb (getD s at 0) 85) (wordByte (getD s (at + 1) 0)) k in
+        rw (drop-cons s at 0 h, e, p .0, words-none (drop (suc at) s) (rw next (p .1)))
+
+-- ---- a number by its row, in the words of the code: its digits start at `first` and end at `end`
+module _ (n : Notation) (s : List ℕ) (first end : ℕ) (h : end ≡ first + digitsLen (rowOf n) (drop first s)) where
+  parts : Parts (among (rowOf n .digits)) (drop first s) (digitsLen (rowOf n) (drop first s)) (wordsOf (drop first s))
+  parts = words-parts (among (rowOf n .digits)) (λ x. among-each wordByte (rowOf n .digits) x (row-words n)) (drop first s)
+
+  count : end - first ≡ digitsLen (rowOf n) (drop first s)
+  count = omega (arith, h)
+
+  after : drop (digitsLen (rowOf n) (drop first s)) (drop first s) ≡ drop end s
+  after = rw (drop-drop, h)
+
+  row-spells : spells (rowOf n) (wordsOf (drop first s)) ≡ (leb (rowOf n .fewest) (end - first) && ending true (wordsOf (drop end s)))
+  unfolding spells
+  row-spells = rw (parts .0, parts .2, after, count, row-unsigned n)
+
+  pub spelled-few : leb (rowOf n .fewest) (end - first) ≡ false → noNumeral ≡ rowNumeral (rowOf n) (drop first s)
+  unfolding rowNumeral
+  spelled-few e = rw (row-spells, e)
+
+  pub spelled-more : 1 < tailLen (drop end s) → noNumeral ≡ rowNumeral (rowOf n) (drop first s)
+  unfolding rowNumeral tailLen
+  spelled-more g =
+      let l = wordsOf (drop end s) in
+      rw (row-spells, tail-by (ending true l) (length l) (ending-length l) g, and-false (leb (rowOf n .fewest) (end - first)))
+
+  row-worth : worth (rowOf n) (wordsOf (drop first s)) ≡ digitsAfter (rowOf n) 0 (drop first s)
+  unfolding worth
+  row-worth = rw (parts .0, parts .1)
+
+  tails : tailLen (drop end s) ≤ 1 → (ending true (wordsOf (drop end s)) ≡ true) × (tailLen (drop end s) ≡ length (wordsOf (drop end s)))
+  unfolding tailLen
+  tails g = tail-is (ending true (wordsOf (drop end s))) (length (wordsOf (drop end s))) g
+
+  pub spelled-is : (used : ℕ) (d : Numeral) → leb (rowOf n .fewest) (end - first) ≡ true → tailLen (drop end s) ≤ 1
+      → used ≡ length (rowOf n .prefix) + (end - first) + tailLen (drop end s)
+      → d ≡ fitted (d .used) (digitsAfter (rowOf n) 0 (drop first s))
+      → record { ok = true; over = d .over; value = d .value; used = used } ≡ rowNumeral (rowOf n) (drop first s)
+  unfolding rowNumeral
+  spelled-is used d e g k q =
+      let l = wordsOf (drop end s) in
+      let t = tails g in
+      let m : length (wordsOf (drop first s)) ≡ digitsLen (rowOf n) (drop first s) + length l = parts .3 ∙ rw after in
+      let u : used ≡ length (rowOf n .prefix) + length (wordsOf (drop first s)) = omega (arith, k, m, t .1, count) in
+      rw (row-spells, e, t .0, row-worth, ← u) (refit (d .used) used (digitsAfter (rowOf n) 0 (drop first s)) d q)
+
+-- ---- a token by the first row with whose prefix it begins
+prefix-begins : (p : List (List ℕ)) → prefixWords p ≡ true → (l : List ℕ) → begins p (wordsOf l) ≡ begins p l
+prefix-begins [] h l = refl
+prefix-begins (c ∷ p) h [] = refl
+prefix-begins (c ∷ p) h (x ∷ l) = let q = and-split (all wordByte c) (prefixWords p) h in go (wordByte x) refl (q .0) (prefix-begins p (q .1) l)
+  where
+    go : (w : Bool) → wordByte x ≡ w → all wordByte c ≡ true → begins p (wordsOf l) ≡ begins p l → begins (c ∷ p) (take (cond w (suc (runLen wordByte l)) 0) (x ∷ l)) ≡ begins (c ∷ p) (x ∷ l)
+    go true e h i = rw i
+    go false e h i = rw (not-among wordByte c x h e)
+
+prefix-words : (p : List (List ℕ)) → prefixWords p ≡ true → (l : List ℕ) → begins p l ≡ true → drop (length p) (wordsOf l) ≡ wordsOf (drop (length p) l)
+prefix-words [] h l b = refl
+prefix-words (c ∷ p) h [] b = refl
+prefix-words (c ∷ p) h (x ∷ l) b =
+    let q = and-split (all wordByte c) (prefixWords p) h in
+    let t = and-split (among c x) (begins p l) b in
+    rw (among-each wordByte c x (q .0) (t .0)) (prefix-words p (q .1) l (t .1))
+
+rows-by : (rows : List Spelling) → each wordy rows ≡ true → (l : List ℕ)
+    → cond (byRow false spells rows (wordsOf l)) (fitted (length (wordsOf l)) (byRow 0 worth rows (wordsOf l))) noNumeral ≡ byRow noNumeral rowNumeral rows l
+unfolding rowNumeral
+rows-by [] h l = refl
+rows-by (r ∷ rows) h l =
+    let q = and-split (wordy r) (each wordy rows) h in
+    let t = and-split (prefixWords (r .prefix)) (all wordByte (r .digits) && ltb 0 (length (r .prefix) + r .fewest)) (q .0) in
+    rw (prefix-begins (r .prefix) (t .0) l) (go (begins (r .prefix) l) refl (t .0) (rows-by rows (q .1) l))
+  where
+    go : (b : Bool) → begins (r .prefix) l ≡ b → prefixWords (r .prefix) ≡ true
+        → cond (byRow false spells rows (wordsOf l)) (fitted (length (wordsOf l)) (byRow 0 worth rows (wordsOf l))) noNumeral ≡ byRow noNumeral rowNumeral rows l
+        → cond (cond b (spells r (drop (length (r .prefix)) (wordsOf l))) (byRow false spells rows (wordsOf l)))
+        (fitted (length (wordsOf l)) (cond b (worth r (drop (length (r .prefix)) (wordsOf l))) (byRow 0 worth rows (wordsOf l)))) noNumeral
+        ≡ cond b (rowNumeral r (drop (length (r .prefix)) l)) (byRow noNumeral rowNumeral rows l)
+    go true e h i =
+        let b = prefix-begins (r .prefix) h l ∙ e in
+        let k : length (wordsOf l) ≡ length (r .prefix) + length (drop (length (r .prefix)) (wordsOf l)) = begins-length (r .prefix) (wordsOf l) b in
+        let d = prefix-words (r .prefix) h l e in
+        rw (k, d)
+    go false e h i = i
+
+-- no number starts with a byte that is no word byte, so that the token is the word bytes
+no-number : (x : ℕ) (u : List ℕ) → wordByte x ≡ false → isNumber (x ∷ u) ≡ false
+no-number x u e = go (isNumber (x ∷ u)) refl
+  where
+    go : (b : Bool) → isNumber (x ∷ u) ≡ b → b ≡ false
+    go true q = never (sym e ∙ and-split (wordByte x) (all wordByte u) (number-words (x ∷ u) q .0) .0)
+    go false q = refl
+
+no-numeral : (x : ℕ) (u : List ℕ) → wordByte x ≡ false → numeralOf (x ∷ u) ≡ noNumeral
+unfolding numeralOf
+no-numeral x u e = rw (no-number x u e)
+
+empty-numeral : numeralOf [] ≡ noNumeral
+unfolding numeralOf isNumber spells
+empty-numeral = refl
+
+token-words : (l : List ℕ) → numeralOf (tokenOf l) ≡ numeralOf (wordsOf l)
 unfolding tokenOf tokenLen
-token-word x m e = rw e
-
-token-len : (x : ℕ) (m : List ℕ) → wordByte x ≡ true → tokenLen (x ∷ m) ≡ suc (runLen wordByte m)
-unfolding tokenLen
-token-len x m e = rw e
-
-run-word : (x : ℕ) (m : List ℕ) → wordByte x ≡ true → runLen wordByte (x ∷ m) ≡ suc (runLen wordByte m)
-run-word x m e = rw e
-
-digit-not : (base x : ℕ) → base ≤ 16 → wordByte x ≡ false → isDigit base x ≡ false
-digit-not base x b h = go (isDigit base x) refl
+token-words [] = refl
+token-words (x ∷ l) = go (wordByte x) refl
   where
-    go : (d : Bool) → isDigit base x ≡ d → d ≡ false
-    go true e = absurd (true≢false (sym (digit-word base x b e) ∙ h))
-    go false e = refl
+    go : (w : Bool) → wordByte x ≡ w → numeralOf (x ∷ take (cond (w || eqb x 37) (runLen wordByte l) 0) l) ≡ numeralOf (take (cond w (suc (runLen wordByte l)) 0) (x ∷ l))
+    go true e = refl
+    go false e = no-numeral x (take (cond (eqb x 37) (runLen wordByte l) 0) l) e ∙ sym empty-numeral
 
-run-none : (base x : ℕ) (m : List ℕ) → isDigit base x ≡ false → runNumeral base (x ∷ m) ≡ noNumeral
-unfolding runNumeral wholeRun
-run-none base x m e = rw e
-
--- a token that does not start with 0
-other-numeral : (x : ℕ) (u : List ℕ) → eqb x 48 ≡ false → numeralOf (x ∷ u) ≡ cond (someDigits 10 (x ∷ u)) (fitted (positional 10 0 (x ∷ u))) noNumeral
-unfolding numeralOf isNumber valueOf hexMark zeroLed
-other-numeral x u e = rw e
-
-other-none : (x : ℕ) (u : List ℕ) (n : Numeral) → isDigit 10 x ≡ false → cond (someDigits 10 (x ∷ u)) n noNumeral ≡ noNumeral
-unfolding someDigits
-other-none x u n e = rw (e, and-false (ltb 0 (suc (length u))))
-
-other-token : (x : ℕ) (m : List ℕ) → eqb x 48 ≡ false → isDigit 10 x ≡ false → numeralOf (tokenOf (x ∷ m)) ≡ noNumeral
-unfolding tokenOf tokenLen
-other-token x m e d =
-    let u = take (cond (wordByte x || eqb x 37) (runLen wordByte m) 0) m in
-    other-numeral x u e ∙ other-none x u (fitted (positional 10 0 (x ∷ u))) d
-
-head-decimal : (x : ℕ) (m : List ℕ) → eqb x 48 ≡ false → runNumeral 10 (x ∷ m) ≡ numeralOf (tokenOf (x ∷ m))
-head-decimal x m other = go (wordByte x) refl
-  where
-    go : (w : Bool) → wordByte x ≡ w → runNumeral 10 (x ∷ m) ≡ numeralOf (tokenOf (x ∷ m))
-    go true e = run-numeral 10 (omega arith) (x ∷ m) ∙ rw (run-word x m e, token-word x m e) (sym (other-numeral x (take (runLen wordByte m) m) other))
-    go false e = let d = digit-not 10 x (omega arith) e in run-none 10 x m d ∙ sym (other-token x m other d)
-
-head-decimal-end : (x : ℕ) (m : List ℕ) → runNumeral 10 (x ∷ m) .ok ≡ true → tokenLen (x ∷ m) ≡ digitsLen 10 (x ∷ m)
-head-decimal-end x m h = go (wordByte x) refl
-  where
-    go : (w : Bool) → wordByte x ≡ w → tokenLen (x ∷ m) ≡ digitsLen 10 (x ∷ m)
-    go true e = token-len x m e ∙ sym (run-word x m e) ∙ run-end 10 (omega arith) (x ∷ m) h
-    go false e = absurd (true≢false (sym h ∙ ap (λ (n : Numeral). n .ok) (run-none 10 x m (digit-not 10 x (omega arith) e))))
-
--- a token that starts with 0x or 0X
-word-48 : wordByte 48 ≡ true
-word-48 = figure-word 48 refl
-
-hex-numeral : (y : ℕ) (w : List ℕ) → (eqb y 120 || eqb y 88) ≡ true → numeralOf (48 ∷ (y ∷ w)) ≡ cond (someDigits 16 w) (fitted (positional 16 0 w)) noNumeral
-unfolding numeralOf isNumber valueOf hexMark
-hex-numeral y w h = rw h
-
-head-hex : (m : List ℕ) → (eqb (getD m 0 0) 120 || eqb (getD m 0 0) 88) ≡ true → runNumeral 16 (drop 1 m) ≡ numeralOf (tokenOf (48 ∷ m))
-head-hex [] h = absurd (true≢false (sym h))
-head-hex (y ∷ u) h =
-    run-numeral 16 (omega arith) u ∙ rw (token-word 48 (y ∷ u) word-48, run-word y u (x-word y h)) (sym (hex-numeral y (take (runLen wordByte u) u) h))
-
-head-hex-end : (m : List ℕ) → (eqb (getD m 0 0) 120 || eqb (getD m 0 0) 88) ≡ true → runNumeral 16 (drop 1 m) .ok ≡ true
-    → tokenLen (48 ∷ m) ≡ 2 + digitsLen 16 (drop 1 m)
-head-hex-end [] h k = absurd (true≢false (sym h))
-head-hex-end (y ∷ u) h k =
-    let e = token-len 48 (y ∷ u) word-48 ∙ ap suc (run-word y u (x-word y h)) in
-    omega (arith, e, run-end 16 (omega arith) u k)
-
--- a token that starts with 0 only
-zero-numeral : record { ok = true; over = false; value = 0 } ≡ numeralOf (48 ∷ [])
-unfolding numeralOf isNumber valueOf hexMark zeroLed someDigits isDigit digitOf fitted
-zero-numeral = refl
-
-zero-led : (y : ℕ) (w : List ℕ) → (eqb y 120 || eqb y 88) ≡ false → noNumeral ≡ numeralOf (48 ∷ (y ∷ w))
-unfolding numeralOf isNumber hexMark zeroLed
-zero-led y w h = rw (h, lt-ltb 1 (suc (suc (length w))) (omega arith))
-
-head-zero : (m : List ℕ) → (eqb (getD m 0 0) 120 || eqb (getD m 0 0) 88) ≡ false
-    → record { ok = not (wordByte (getD m 0 0)); over = false; value = 0 } ≡ numeralOf (tokenOf (48 ∷ m))
-head-zero [] h = rw (word-0, token-word 48 [] word-48) zero-numeral
-head-zero (y ∷ u) h = go (wordByte y) refl
-  where
-    go : (w : Bool) → wordByte y ≡ w → record { ok = not (wordByte y); over = false; value = 0 } ≡ numeralOf (tokenOf (48 ∷ (y ∷ u)))
-    go true e = rw (token-word 48 (y ∷ u) word-48, e) (zero-led y (take (runLen wordByte u) u) h)
-    go false e = rw (token-word 48 (y ∷ u) word-48, e) zero-numeral
-
-head-zero-end : (m : List ℕ) → not (wordByte (getD m 0 0)) ≡ true → tokenLen (48 ∷ m) ≡ 1
-head-zero-end [] h = token-len 48 [] word-48
-head-zero-end (y ∷ u) h = token-len 48 (y ∷ u) word-48 ∙ (rw (not-true (wordByte y) h))
+pub numeral-rows : (l : List ℕ) → numeralOf (tokenOf l) ≡ byRow noNumeral rowNumeral spellings l
+unfolding numeralOf isNumber valueOf
+numeral-rows l = token-words l ∙ rows-by spellings spellings-wordy l
 
 -- ---- the token at a position
+zero-numeral : record { ok = true; over = false; value = 0; used = 1 } ≡ numeralOf (48 ∷ [])
+unfolding numeralOf isNumber valueOf spells worth fitted
+zero-numeral = refl
+
+word-48 : wordByte 48 ≡ true
+unfolding wordByte letter
+word-48 = refl
+
+pub numeral-past : (s : List ℕ) (at : ℕ) → length s ≤ at → noNumeral ≡ numeralOf (tokenOf (drop at s))
+unfolding tokenOf tokenLen
+numeral-past s at h = rw (drop-of-length-le s h) (sym empty-numeral)
+
 module _ (s : List ℕ) (at : ℕ) (h : at < length s) where
-  pub numeral-other : (getD s at 0 ≡ 48 → ⊥) → runNumeral 10 (drop at s) ≡ numeralOf (tokenOf (drop at s))
-  numeral-other n = rw (drop-cons s at 0 h) (head-decimal (getD s at 0) (drop (suc at) s) (ne-eqb (getD s at 0) 48 n))
-
-  pub numeral-other-end : runNumeral 10 (drop at s) .ok ≡ true → digitsLen 10 (drop at s) ≡ tokenLen (drop at s)
-  numeral-other-end = rw (drop-cons s at 0 h) (λ (k : runNumeral 10 (getD s at 0 ∷ drop (suc at) s) .ok ≡ true). sym (head-decimal-end (getD s at 0) (drop (suc at) s) k))
-
-  at-head : getD (drop at s) 0 0 ≡ getD s at 0
-  at-head = rw (getD-drop, add-zero)
-
-  pub numeral-other-len : (getD s at 0 ≡ 48 → ⊥) → digitsLen 10 (drop at s) ≡ numeralLen (drop at s)
-  unfolding numeralLen hexMark
-  numeral-other-len n = rw (at-head, ne-eqb (getD s at 0) 48 n)
+  pub numeral-decimal : (getD s at 0 ≡ 48 → ⊥) → rowNumeral decimals (drop (at + 0) s) ≡ numeralOf (tokenOf (drop at s))
+  numeral-decimal n = rw (add-zero, numeral-rows (drop at s), drop-cons s at 0 h, ne-eqb (getD s at 0) 48 n)
 
   module _ (zero : getD s at 0 ≡ 48) where
     starts : drop at s ≡ 48 ∷ drop (at + 1) s
     starts = rw (drop-cons s at 0 h, zero, add-one at)
 
-    second : getD (drop (at + 1) s) 0 0 ≡ getD s (at + 1) 0
-    second = rw (getD-drop, add-zero)
-
     third : drop 1 (drop (at + 1) s) ≡ drop (at + 2) s
     third = let e : at + 1 + 1 ≡ at + 2 = omega arith in rw (drop-drop, e)
 
-    pub numeral-hex : (eqb (getD s (at + 1) 0) 120 || eqb (getD s (at + 1) 0) 88) ≡ true → runNumeral 16 (drop (at + 2) s) ≡ numeralOf (tokenOf (drop at s))
-    numeral-hex m = rw (starts, ← third) (head-hex (drop (at + 1) s) (rw second m))
+    pub numeral-hexadecimal : begins (bytes "xX" ∷ []) (drop (at + 1) s) ≡ true → rowNumeral hexadecimals (drop (at + 2) s) ≡ numeralOf (tokenOf (drop at s))
+    numeral-hexadecimal m = rw (numeral-rows (drop at s), starts, m, third)
 
-    pub numeral-hex-end : (eqb (getD s (at + 1) 0) 120 || eqb (getD s (at + 1) 0) 88) ≡ true → runNumeral 16 (drop (at + 2) s) .ok ≡ true
-        → 2 + digitsLen 16 (drop (at + 2) s) ≡ tokenLen (drop at s)
-    numeral-hex-end m k = rw (starts, ← third) (sym (head-hex-end (drop (at + 1) s) (rw second m) (rw third k)))
+    pub numeral-zero : wordByte (getD s (at + 1) 0) ≡ false → record { ok = true; over = false; value = 0; used = 1 } ≡ numeralOf (tokenOf (drop at s))
+    numeral-zero e =
+        let d : wordByte (getD (drop (at + 1) s) 0 0) ≡ false = rw (getD-drop, add-zero) e in
+        rw (token-words (drop at s), starts, word-48, words-none (drop (at + 1) s) d) zero-numeral
 
-    pub numeral-hex-len : (eqb (getD s (at + 1) 0) 120 || eqb (getD s (at + 1) 0) 88) ≡ true → 2 + digitsLen 16 (drop (at + 2) s) ≡ numeralLen (drop at s)
-    unfolding numeralLen hexMark
-    numeral-hex-len m = rw (at-head, zero, getD-drop at s 1 0, drop-drop 2 at s, m)
+    module _ (no : begins (bytes "xX" ∷ []) (drop (at + 1) s) ≡ false) where
+      pub numeral-binary : begins (bytes "bB" ∷ []) (drop (at + 1) s) ≡ true → rowNumeral binaries (drop (at + 2) s) ≡ numeralOf (tokenOf (drop at s))
+      numeral-binary m = rw (numeral-rows (drop at s), starts, no, m, third)
 
-    pub numeral-zero-len : (eqb (getD s (at + 1) 0) 120 || eqb (getD s (at + 1) 0) 88) ≡ false → 1 ≡ numeralLen (drop at s)
-    unfolding numeralLen hexMark
-    numeral-zero-len m = rw (at-head, zero, getD-drop at s 1 0, m)
-
-    pub numeral-zero : (eqb (getD s (at + 1) 0) 120 || eqb (getD s (at + 1) 0) 88) ≡ false
-        → record { ok = not (wordByte (getD s (at + 1) 0)); over = false; value = 0 } ≡ numeralOf (tokenOf (drop at s))
-    numeral-zero m = rw (starts, ← second) (head-zero (drop (at + 1) s) (rw second m))
-
-    pub numeral-zero-end : not (wordByte (getD s (at + 1) 0)) ≡ true → tokenLen (drop at s) ≡ 1
-    numeral-zero-end k = rw starts (head-zero-end (drop (at + 1) s) (rw second k))
-
-pub numeral-past : (s : List ℕ) (at : ℕ) → length s ≤ at → noNumeral ≡ numeralOf (tokenOf (drop at s))
-unfolding tokenOf tokenLen numeralOf isNumber hexMark someDigits zeroLed
-numeral-past s at h = rw (drop-of-length-le s h)
-
-pub numeral-past-len : (s : List ℕ) (at : ℕ) → length s ≤ at → at ≡ at + numeralLen (drop at s)
-unfolding numeralLen hexMark
-numeral-past-len s at h = rw (drop-of-length-le s h) (sym (add-zero at))
+      pub numeral-octal : begins (bytes "bB" ∷ []) (drop (at + 1) s) ≡ false → rowNumeral octals (drop (at + 1) s) ≡ numeralOf (tokenOf (drop at s))
+      numeral-octal m = rw (numeral-rows (drop at s), starts, no, m)
 
 -- what a numeral tells of a value and a limit
-abbrev numeralBy : Bool → Bool → ℕ → Numeral
-numeralBy b c v = cond b (cond c (record { ok = true; over = false; value = v }) (record { ok = true; over = true; value = 0 })) noNumeral
+abbrev numeralBy : Bool → Bool → ℕ → ℕ → Numeral
+numeralBy b c k v = cond b (cond c (record { ok = true; over = false; value = v; used = k }) (record { ok = true; over = true; value = 0; used = k })) noNumeral
 
-none-by : (b c : Bool) (v : ℕ) (n : Numeral) → n ≡ numeralBy b c v → n .ok ≡ false → b ≡ false
-none-by true true v n e o = absurd (true≢false (sym (ap (λ (m : Numeral). m .ok) e) ∙ o))
-none-by true false v n e o = absurd (true≢false (sym (ap (λ (m : Numeral). m .ok) e) ∙ o))
-none-by false c v n e o = refl
+none-by : (b c : Bool) (k v : ℕ) (n : Numeral) → n ≡ numeralBy b c k v → n .ok ≡ false → b ≡ false
+none-by true true k v n e o = absurd (true≢false (sym (ap (λ (m : Numeral). m .ok) e) ∙ o))
+none-by true false k v n e o = absurd (true≢false (sym (ap (λ (m : Numeral). m .ok) e) ∙ o))
+none-by false c k v n e o = refl
+
+used-by : (b c : Bool) (k v : ℕ) (n : Numeral) → n ≡ numeralBy b c k v → n .ok ≡ true → n .used ≡ k
+used-by true true k v n e o = ap (λ (m : Numeral). m .used) e
+used-by true false k v n e o = ap (λ (m : Numeral). m .used) e
+used-by false c k v n e o = absurd (true≢false (sym o ∙ ap (λ (m : Numeral). m .ok) e))
 
 module _ (limit : ℕ) (small : limit < 2 ^ 64) where
-  big-by : (b c : Bool) (v : ℕ) (n : Numeral) → ltb v (2 ^ 64) ≡ c → n ≡ numeralBy b c v → n .ok ≡ true → (n .over || ltb limit (n .value)) ≡ true
+  big-by : (b c : Bool) (k v : ℕ) (n : Numeral) → ltb v (2 ^ 64) ≡ c → n ≡ numeralBy b c k v → n .ok ≡ true → (n .over || ltb limit (n .value)) ≡ true
       → (b ≡ true) × (leb v limit ≡ false)
-  big-by true true v n t e o h = (refl, lt-leb v limit (ltb-true limit v (rw e at h)))
-  big-by true false v n t e o h = (refl, lt-leb v limit (omega (arith, ltb-false v (2 ^ 64) t)))
-  big-by false c v n t e o h = absurd (true≢false (sym o ∙ ap (λ (m : Numeral). m .ok) e))
+  big-by true true k v n t e o h = (refl, lt-leb v limit (ltb-true limit v (rw e at h)))
+  big-by true false k v n t e o h = (refl, lt-leb v limit (omega (arith, ltb-false v (2 ^ 64) t)))
+  big-by false c k v n t e o h = absurd (true≢false (sym o ∙ ap (λ (m : Numeral). m .ok) e))
 
-  small-by : (b c : Bool) (v : ℕ) (n : Numeral) → n ≡ numeralBy b c v → n .ok ≡ true → (n .over || ltb limit (n .value)) ≡ false
+  small-by : (b c : Bool) (k v : ℕ) (n : Numeral) → n ≡ numeralBy b c k v → n .ok ≡ true → (n .over || ltb limit (n .value)) ≡ false
       → (b ≡ true) × (leb v limit ≡ true) × (n .value ≡ v)
-  small-by true true v n e o h = (refl, le-leb v limit (ltb-false limit v (rw e at h)), ap (λ (m : Numeral). m .value) e)
-  small-by true false v n e o h = absurd (true≢false (rw e at h))
-  small-by false c v n e o h = absurd (true≢false (sym o ∙ ap (λ (m : Numeral). m .ok) e))
+  small-by true true k v n e o h = (refl, le-leb v limit (ltb-false limit v (rw e at h)), ap (λ (m : Numeral). m .value) e)
+  small-by true false k v n e o h = absurd (true≢false (rw e at h))
+  small-by false c k v n e o h = absurd (true≢false (sym o ∙ ap (λ (m : Numeral). m .ok) e))
 
 -- ---- the number at the cursor
+-- a number takes the bytes of its token
+pub used-token : (l : List ℕ) (n : Numeral) → n ≡ numeralOf (tokenOf l) → n .ok ≡ true → n .used ≡ tokenLen l
+unfolding numeralOf fitted tokenOf
+used-token l n e o =
+    let w = take (tokenLen l) l in
+    used-by (isNumber w) (ltb (valueOf w) (2 ^ 64)) (length w) (valueOf w) n e o ∙ length-take-le (tokenLen l) l (token-le l)
+
 module _ (limit : ℕ) (small : limit < 2 ^ 64) (l : List ℕ) (r : Rest) (n : Numeral) (p : n ≡ numeralOf (tokenOf l)) where
   pub number-none : n .ok ≡ false → numberHere limit r l ≡ record { value = 0; next = off r l }
   unfolding numeralOf fitted
   number-none o =
       let w = tokenOf l in
-      rw (none-by (isNumber w) (ltb (valueOf w) (2 ^ 64)) (valueOf w) n p o)
+      rw (none-by (isNumber w) (ltb (valueOf w) (2 ^ 64)) (length w) (valueOf w) n p o)
 
   pub number-big : (e : List ℕ) → e ≡ afterToken l → n .ok ≡ true → (n .over || ltb limit (n .value)) ≡ true
       → numberHere limit r l ≡ record { value = 0; next = record { rest = e; ok = true; over = true; far = cond (r .over) (r .far) l } }
   unfolding numeralOf fitted
   number-big e t o v =
       let w = tokenOf l in
-      let q = big-by limit small (isNumber w) (ltb (valueOf w) (2 ^ 64)) (valueOf w) n refl p o v in
+      let q = big-by limit small (isNumber w) (ltb (valueOf w) (2 ^ 64)) (length w) (valueOf w) n refl p o v in
       rw (t, q .0, q .1)
 
   pub number-small : (e : List ℕ) → e ≡ afterToken l → n .ok ≡ true → (n .over || ltb limit (n .value)) ≡ false
@@ -347,5 +426,5 @@ module _ (limit : ℕ) (small : limit < 2 ^ 64) (l : List ℕ) (r : Rest) (n : N
   unfolding numeralOf fitted
   number-small e t o v =
       let w = tokenOf l in
-      let q = small-by limit small (isNumber w) (ltb (valueOf w) (2 ^ 64)) (valueOf w) n p o v in
+      let q = small-by limit small (isNumber w) (ltb (valueOf w) (2 ^ 64)) (length w) (valueOf w) n p o v in
       rw (t, q .0, q .1, q .2)

@@ -5,11 +5,10 @@ use crate::bytes::wide;
 use crate::bytes::word_at;
 use tokens::Numeral;
 ghost use mathlib.Core.Path.{_≡_};
-ghost use Prim.Native.Nat.{_+_, _-_, _*_, _^_, _<_};
-ghost use mathlib.Core.Bool.{not};
+ghost use Prim.Native.Nat.{_+_, _*_, _^_, _<_};
 ghost use mathlib.Core.List.{[], _∷_};
 ghost use lib.ListN.{length, drop};
-ghost use lib.Dec.{ltb, leb};
+ghost use lib.Dec.{ltb};
 ghost use Rattle.tokens.specs.Bytes.{runLen, tokenOf};
 ghost use Rattle.tokens.specs.Numbers.{begins, digitsLen, fitted, noNumeral, numeralOf};
 ghost use Rattle.lexer.specs.Runs.{rowOf, digitBelow, roomyOf, numeralIn, digitsAfter, tailLen, rowNumeral};
@@ -52,6 +51,18 @@ fn prefix_of(n: Notation) -> usize
     }
 }
 
+// How few digits there may be.
+fn fewest_of(n: Notation) -> usize
+    ensures { λ r. ⌜ r ≡ rowOf n .fewest ⌝ }
+{
+    match n {
+        Notation::Hexadecimal => 1,
+        Notation::Binary => 1,
+        Notation::Octal => 0,
+        Notation::Decimal => 1,
+    }
+}
+
 // The largest value after which each digit has room below 2^64.
 fn roomy(n: Notation) -> u64
     ensures { λ r. ⌜ r ≡ roomyOf n ⌝ }
@@ -74,8 +85,10 @@ fn has_room(n: Notation, most: u64, v: u64, d: u64) -> bool
         return true;
     }
     match n {
+        Notation::Hexadecimal => false,
+        Notation::Binary => false,
+        Notation::Octal => false,
         Notation::Decimal => (v == 1844674407370955161) & (d <= 5),
-        _ => false,
     }
 }
 
@@ -149,19 +162,6 @@ fn tail(s: &[u8], at: usize) -> usize
     1
 }
 
-// Whether there are too few digits from one position to another.
-fn too_few(n: Notation, first: usize, end: usize) -> bool
-    ensures { λ r. ⌜ r ≡ not (leb (rowOf n .fewest) (end - first)) ⌝ }
-{
-    if first < end {
-        return false;
-    }
-    match n {
-        Notation::Octal => false,
-        _ => true,
-    }
-}
-
 // No number.
 fn none() -> Numeral
     ensures { λ r. ⌜ r ≡ noNumeral ⌝ }
@@ -176,13 +176,13 @@ fn none() -> Numeral
 
 // The number that a token which starts at a position is, if it goes by a notation.
 fn spelled(s: &[u8], at: usize, n: Notation) -> Numeral
-    requires { ⌜ at < length (now (s .entry)) ⌝ }
+    requires { ⌜ at < length (now s) ⌝ }
     ensures { λ r. ⌜ r ≡ rowNumeral (rowOf n) (drop (at + length (rowOf n .prefix)) (now (s .entry))) ⌝ }
 {
     let first = at + prefix_of(n);
     let d = run(s, first, n);
     let end = d.end;
-    if too_few(n, first, end) {
+    if end - first < fewest_of(n) {
         return none();
     }
     let t = tail(s, end);

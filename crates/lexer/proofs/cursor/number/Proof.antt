@@ -1,10 +1,14 @@
 -- `lexer::cursor::number` meets its contract: past the blanks the token's numeral tells none, one over the limit, or the value. Assumes nothing.
+use Prim.Native.Nat.{ℕ, _+_}
+use mathlib.Core.Path.{ap}
 use mathlib.Core.Bool.{true}
+use lib.ListN.{drop, length-drop}
+use native.Mathlib.Omega.{arith}
 use borrow.Author.Tests.{not-true, not-false}
 use Rattle.tokens.specs.Cursors.{numberC, seen}
-use Rattle.lexer.specs.Runs.{numeralIn}
+use Rattle.tokens.proofs.Lengths.{token-le}
 use Rattle.lexer.proofs.Laws.{blank-law, blank-within, end-within, after-law, far-law, far-within}
-use Rattle.lexer.proofs.Numbers.{number-none, number-big, number-small}
+use Rattle.lexer.proofs.Numbers.{used-token, number-none, number-big, number-small}
 use borrow.Author.Needs.{needs}
 use Rattle.lexer.proofs.cursor.number.Statement.{statement}
 use Rattle.lexer.proofs.cursor.number.Tie as tie
@@ -32,10 +36,16 @@ returns-2 c =
       rw (
         not-false (a .k .ok) (c .before .before .before .before .before .if1 .left),
         ← blank-law (a .s .now) (a .k .at) (i .result) (i .ensures),
-        number-none (a .limit) (c .before .before .before .before .before .before .before .before .fits .limit .fits) _ (seen (a .s .now) (a .k)) (numeralIn (n .result)) (n .ensures .0) (not-true _ (c .before .if2 .taken)),
+        number-none (a .limit) (c .before .before .before .before .before .before .before .before .fits .limit .fits) _ (seen (a .s .now) (a .k)) (n .result) (n .ensures) (not-true _ (c .before .if2 .taken)),
       ),
       λ w. (blank-within (a .s .now) (a .k .at) (i .result) (i .ensures) (w .0), w .1),
     )
+
+add-e : tie.Need-add-e
+add-e c =
+    let l = drop (c .before .before .before .before .blanks-end .result) (c .before .before .before .before .before .before .before .before .args .s .now) in
+    let n = c .before .before .before .numeral in
+    omega (arith, used-token l (n .result) (n .ensures) (not-false _ (c .before .if2 .left)), token-le l, length-drop (c .before .before .before .before .blanks-end .result) (c .before .before .before .before .before .before .before .before .args .s .now))
 
 past-requires : tie.Need-past-requires
 past-requires c κs = search needs
@@ -43,18 +53,19 @@ past-requires c κs = search needs
 returns-3 : tie.Need-returns-3
 unfolding numberC
 returns-3 c =
-    let a = c .before .before .before .before .before .before .before .before .before .before .args in
-    let i = c .before .before .before .before .before .before .blanks-end in
-    let n = c .before .before .before .before .before .numeral in
-    let o = not-false _ (c .before .before .before .if2 .left) in
+    let a = c .before .before .before .before .before .before .before .before .before .before .before .args in
+    let i = c .before .before .before .before .before .before .before .blanks-end in
+    let n = c .before .before .before .before .before .before .numeral in
+    let o = not-false _ (c .before .before .before .before .if2 .left) in
+    let e = ap (λ (k : ℕ). i .result + k) (used-token (drop (i .result) (a .s .now)) (n .result) (n .ensures) o) in
     rw (c .past .ensures) (
       rw (
         far-law,
-        not-false (a .k .ok) (c .before .before .before .before .before .before .before .if1 .left),
+        not-false (a .k .ok) (c .before .before .before .before .before .before .before .before .if1 .left),
         ← blank-law (a .s .now) (a .k .at) (i .result) (i .ensures),
-        number-big (a .limit) (c .before .before .before .before .before .before .before .before .before .before .fits .limit .fits) _ (seen (a .s .now) (a .k)) (numeralIn (n .result)) (n .ensures .0) _ (after-law (a .s .now) (i .result) (n .result .end) (n .ensures .1 .1 o)) o (c .before .if3 .taken),
+        number-big (a .limit) (c .before .before .before .before .before .before .before .before .before .before .before .fits .limit .fits) _ (seen (a .s .now) (a .k)) (n .result) (n .ensures) _ (after-law (a .s .now) (i .result) _ e) o (c .before .if3 .taken),
       ),
-      λ w. (end-within (a .s .now) (i .result) (n .result .end) true (n .ensures .1 .1 o) (blank-within (a .s .now) (a .k .at) (i .result) (i .ensures) (w .0)), far-within _ (a .k .over) (a .k .far) (i .result) (w .1) (blank-within (a .s .now) (a .k .at) (i .result) (i .ensures) (w .0))),
+      λ w. (end-within (a .s .now) (i .result) _ true e (blank-within (a .s .now) (a .k .at) (i .result) (i .ensures) (w .0)), far-within _ (a .k .over) (a .k .far) (i .result) (w .1) (blank-within (a .s .now) (a .k .at) (i .result) (i .ensures) (w .0))),
     )
 
 moved-requires-2 : tie.Need-moved-requires-2
@@ -63,17 +74,18 @@ moved-requires-2 c κs = search needs
 returns-4 : tie.Need-returns-4
 unfolding numberC
 returns-4 c =
-    let a = c .before .before .before .before .before .before .before .before .before .before .args in
-    let i = c .before .before .before .before .before .before .blanks-end in
-    let n = c .before .before .before .before .before .numeral in
-    let o = not-false _ (c .before .before .before .if2 .left) in
+    let a = c .before .before .before .before .before .before .before .before .before .before .before .args in
+    let i = c .before .before .before .before .before .before .before .blanks-end in
+    let n = c .before .before .before .before .before .before .numeral in
+    let o = not-false _ (c .before .before .before .before .if2 .left) in
+    let e = ap (λ (k : ℕ). i .result + k) (used-token (drop (i .result) (a .s .now)) (n .result) (n .ensures) o) in
     rw (c .moved2 .ensures) (
       rw (
-        not-false (a .k .ok) (c .before .before .before .before .before .before .before .if1 .left),
+        not-false (a .k .ok) (c .before .before .before .before .before .before .before .before .if1 .left),
         ← blank-law (a .s .now) (a .k .at) (i .result) (i .ensures),
-        number-small (a .limit) (c .before .before .before .before .before .before .before .before .before .before .fits .limit .fits) _ (seen (a .s .now) (a .k)) (numeralIn (n .result)) (n .ensures .0) _ (after-law (a .s .now) (i .result) (n .result .end) (n .ensures .1 .1 o)) o (c .before .if3 .left),
+        number-small (a .limit) (c .before .before .before .before .before .before .before .before .before .before .before .fits .limit .fits) _ (seen (a .s .now) (a .k)) (n .result) (n .ensures) _ (after-law (a .s .now) (i .result) _ e) o (c .before .if3 .left),
       ),
-      λ w. (end-within (a .s .now) (i .result) (n .result .end) true (n .ensures .1 .1 o) (blank-within (a .s .now) (a .k .at) (i .result) (i .ensures) (w .0)), w .1),
+      λ w. (end-within (a .s .now) (i .result) _ true e (blank-within (a .s .now) (a .k .at) (i .result) (i .ensures) (w .0)), w .1),
     )
 
 pub number-spec : {M : Type 1} → statement M
@@ -85,6 +97,7 @@ number-spec =
     numeral-requires
     moved-requires
     returns-2
+    add-e
     past-requires
     returns-3
     moved-requires-2

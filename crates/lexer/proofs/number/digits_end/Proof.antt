@@ -4,15 +4,16 @@ use mathlib.Core.Path.{_≡_, refl}
 use lib.ListN.{length, drop}
 use native.Mathlib.Omega.{arith}
 use borrow.Author.Needs.{needs}
+use borrow.Author.Tests.{lt-ltb, le-ltb}
 use Rattle.tokens.specs.Bytes.{runLen}
-use Rattle.tokens.specs.Numbers.{isDigit}
+use Rattle.tokens.specs.Numbers.{digitOf}
 use Rattle.tokens.proofs.Runs.{run-step, run-stop, run-past}
-use Rattle.lexer.proofs.Numbers.{digit-no, digit-is}
+use Rattle.lexer.specs.Runs.{digitBelow}
 use Rattle.lexer.proofs.number.digits_end.Statement.{statement}
 use Rattle.lexer.proofs.number.digits_end.Tie as tie
 
 abbrev Inv-loop : tie.InvT-loop
-Inv-loop s at base i₀ i = (i + runLen (isDigit base) (drop i s) ≡ at + runLen (isDigit base) (drop at s))
+Inv-loop s at base i₀ i = (i + runLen (digitBelow base) (drop i s) ≡ at + runLen (digitBelow base) (drop at s))
 
 abbrev μ-loop : tie.MeasureT-loop
 μ-loop s at base i₀ i = length s - i
@@ -29,7 +30,7 @@ digit-of-requires c κs = search needs
 returns : tie.Need-returns Inv-loop μ-loop
 returns c =
     let a = c .before .before .before .before .before .before .args in
-    omega (arith, run-stop (isDigit (a .base)) (a .s .now) (c .before .before .before .before .loop .i) (c .before .before .before .loop-test .taken) (digit-no (a .base) _ (rw (c .before .digit-of .ensures) at (c .if1 .taken))))
+    omega (arith, run-stop (digitBelow (a .base)) (a .s .now) (c .before .before .before .before .loop .i) (c .before .before .before .loop-test .taken) (le-ltb _ (a .base) (rw (c .before .digit-of .ensures) at (c .if1 .taken))))
 
 add-i : tie.Need-add-i Inv-loop μ-loop
 add-i c = omega arith
@@ -40,10 +41,10 @@ loop-less c = omega arith
 loop-again : tie.Need-loop-again Inv-loop μ-loop
 loop-again c =
     let a = c .before .before .before .before .before .before .args in
-    omega (arith, run-step (isDigit (a .base)) (a .s .now) (c .before .before .before .before .loop .i) (c .before .before .before .loop-test .taken) (digit-is (a .base) _ (rw (c .before .digit-of .ensures) at (c .if1 .left))))
+    omega (arith, run-step (digitBelow (a .base)) (a .s .now) (c .before .before .before .before .loop .i) (c .before .before .before .loop-test .taken) (lt-ltb _ (a .base) (rw (c .before .digit-of .ensures) at (c .if1 .left))))
 
 returns-2 : tie.Need-returns-2 Inv-loop μ-loop
-returns-2 c = omega (arith, run-past (isDigit (c .before .before .before .args .base)) (c .before .before .before .args .s .now) (c .before .loop .i) (c .loop-test .left))
+returns-2 c = omega (arith, run-past (digitBelow (c .before .before .before .args .base)) (c .before .before .before .args .s .now) (c .before .loop .i) (c .loop-test .left))
 
 pub digits-end-spec : {M : Type 1} → statement M
 digits-end-spec =

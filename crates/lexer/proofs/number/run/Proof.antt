@@ -1,28 +1,31 @@
 -- `lexer::number::run` meets its contract. The loop's invariant: the digits from here, after v, are the digits from the start, and end where these do; v is below 2^64. Assumes nothing.
-use Prim.Native.Nat.{_-_, _*_, _+_, _^_, _<_, _≤_}
-use mathlib.Core.Path.{_≡_, refl, sym, _∙_}
+use Prim.Native.Nat.{ℕ, _-_, _*_, _+_, _^_, _<_, _≤_}
+use mathlib.Core.Path.{_≡_, refl, sym, ap, _∙_}
 use lib.ListN.{length, drop, getD}
 use native.Mathlib.Omega.{arith}
 use borrow.Author.Needs.{needs}
 use borrow.Author.Tests.{not-true, not-false, ltb-true, ltb-false}
-use Rattle.tokens.specs.Numbers.{digitOf, isDigit}
-use Rattle.lexer.specs.Runs.{baseOf, digitsLen, digitsAfter}
+use Rattle.tokens.specs.Numbers.{digitOf, among, digitsLen}
+use Rattle.lexer.specs.Runs.{rowOf, digitsAfter}
 use Rattle.tokens.proofs.Runs.{run-step, run-stop, run-past}
-use Rattle.lexer.proofs.Numbers.{base-some, digit-no, digit-is, fit-small, fit-over, after-step, after-stop, after-past, after-over}
+use Rattle.lexer.proofs.Numbers.{digit-no, digit-is, run-below, fit-small, fit-over, after-step, after-stop, after-past, after-over}
 use Rattle.lexer.proofs.number.run.Statement.{statement}
 use Rattle.lexer.proofs.number.run.Tie as tie
 
 abbrev Inv-loop : tie.InvT-loop
-Inv-loop s at hex base b v₀ i₀ v i = (v < 2 ^ 64) × (digitsAfter (baseOf hex) v (drop i s) ≡ digitsAfter (baseOf hex) 0 (drop at s)) × (i + digitsLen (baseOf hex) (drop i s) ≡ at + digitsLen (baseOf hex) (drop at s))
+Inv-loop s at n base b most v₀ i₀ v i = (v < 2 ^ 64) × (digitsAfter (rowOf n) v (drop i s) ≡ digitsAfter (rowOf n) 0 (drop at s)) × (i + digitsLen (rowOf n) (drop i s) ≡ at + digitsLen (rowOf n) (drop at s))
 
 abbrev μ-loop : tie.MeasureT-loop
-μ-loop s at hex base b v₀ i₀ v i = length s - i
+μ-loop s at n base b most v₀ i₀ v i = length s - i
 
 base-of-requires : tie.Need-base-of-requires Inv-loop μ-loop
 base-of-requires c κs = search needs
 
 wide-requires : tie.Need-wide-requires Inv-loop μ-loop
 wide-requires c κs = search needs
+
+roomy-requires : tie.Need-roomy-requires Inv-loop μ-loop
+roomy-requires c κs = search needs
 
 loop-holds : tie.Need-loop-holds Inv-loop μ-loop
 loop-holds c = (omega arith, refl, refl)
@@ -35,45 +38,44 @@ digit-of-requires c κs = search needs
 
 returns : tie.Need-returns Inv-loop μ-loop
 returns c =
-    let a = c .before .before .before .before .before .before .before .before .args in
+    let a = c .before .before .before .before .before .before .before .before .before .args in
     let l = c .before .before .before .before .loop in
-    let b = baseOf (a .hex) in
     let h = c .before .before .before .loop-test .taken in
-    let g : b ≤ digitOf (getD (a .s .now) (l .i) 0) = rw (c .before .before .before .before .before .before .base-of .ensures, c .before .digit-of .ensures) at (c .if1 .taken) in (
-      fit-small (l .v) _ (l .inv .0) (sym (after-stop b (a .s .now) (l .v) (l .i) h g) ∙ l .inv .1),
-      omega (arith, run-stop (isDigit b) (a .s .now) (l .i) h (digit-no b _ g), l .inv .2),
+    let g : rowOf (a .n) .base ≤ digitOf (getD (a .s .now) (l .i) 0) = rw (c .before .before .before .before .before .before .before .base-of .ensures, c .before .digit-of .ensures) at (c .if1 .taken) in (
+      fit-small (l .i) (l .v) _ (l .inv .0) (sym (after-stop (a .n) (a .s .now) (l .v) (l .i) h g) ∙ l .inv .1),
+      omega (arith, run-stop (among (rowOf (a .n) .digits)) (a .s .now) (l .i) h (digit-no (a .n) _ g), l .inv .2),
     )
 
 wide-requires-2 : tie.Need-wide-requires-2 Inv-loop μ-loop
 wide-requires-2 c κs = search needs
 
 has-room-requires : tie.Need-has-room-requires Inv-loop μ-loop
-has-room-requires c κs = rw (c .wide2 .ensures) (rw (c .before .before .before .before .before .before .before .base-of .ensures) at (c .before .if1 .left))
+has-room-requires c κs = (c .before .before .before .before .before .before .roomy .ensures, rw (c .wide2 .ensures) (rw (c .before .before .before .before .before .before .before .before .base-of .ensures) at (c .before .if1 .left)))
 
 digits-end-requires : tie.Need-digits-end-requires Inv-loop μ-loop
 digits-end-requires c κs = search needs
 
 returns-2 : tie.Need-returns-2 Inv-loop μ-loop
 returns-2 c =
-    let a = c .before .before .before .before .before .before .before .before .before .before .before .before .args in
+    let a = c .before .before .before .before .before .before .before .before .before .before .before .before .before .args in
     let l = c .before .before .before .before .before .before .before .before .loop in
-    let b = baseOf (a .hex) in
-    let o : 2 ^ 64 ≤ l .v * b + digitOf (getD (a .s .now) (l .i) 0) =
+    let b = c .before .before .before .before .before .before .before .before .before .before .before .base-of in
+    let o : 2 ^ 64 ≤ l .v * rowOf (a .n) .base + digitOf (getD (a .s .now) (l .i) 0) =
     ltb-false _ _ (rw (c .before .before .before .wide2 .ensures, c .before .before .before .before .before .digit-of .ensures) at (sym (c .before .before .has-room .ensures) ∙ not-true _ (c .before .if2 .taken))) in
-    let g : digitOf (getD (a .s .now) (l .i) 0) < b = rw (c .before .before .before .before .before .before .before .before .before .before .base-of .ensures, c .before .before .before .before .before .digit-of .ensures) at (c .before .before .before .before .if1 .left) in (
-      fit-over _ (rw (← l .inv .1) (after-over b (a .s .now) (l .v) (l .i) (c .before .before .before .before .before .before .before .loop-test .taken) (base-some (a .hex)) g o)),
-      (rw (c .before .before .before .before .before .before .before .before .before .before .base-of .ensures) at (c .digits-end .ensures)) ∙ l .inv .2,
+    let g : digitOf (getD (a .s .now) (l .i) 0) < rowOf (a .n) .base = rw (b .ensures, c .before .before .before .before .before .digit-of .ensures) at (c .before .before .before .before .if1 .left) in (
+      fit-over _ _ (rw (← l .inv .1) (after-over (a .n) (a .s .now) (l .v) (l .i) (c .before .before .before .before .before .before .before .loop-test .taken) g o)),
+      (rw (b .ensures) at (c .digits-end .ensures)) ∙ (ap (λ (k : ℕ). l .i + k) (run-below (a .n) (drop (l .i) (a .s .now))) ∙ l .inv .2),
     )
 
 mul-v : tie.Need-mul-v Inv-loop μ-loop
 mul-v c =
-    let r : c .before .before .before .before .before .before .before .loop .v * baseOf (c .before .before .before .before .before .before .before .before .before .before .before .args .hex) + c .before .before .wide2 .result < 2 ^ 64 = ltb-true _ _ (sym (c .before .has-room .ensures) ∙ not-false _ (c .if2 .left)) in
-    rw (c .before .before .before .before .before .before .before .before .wide .ensures, c .before .before .before .before .before .before .before .before .before .base-of .ensures) (omega arith)
+    let r : c .before .before .before .before .before .before .before .loop .v * rowOf (c .before .before .before .before .before .before .before .before .before .before .before .before .args .n) .base + c .before .before .wide2 .result < 2 ^ 64 = ltb-true _ _ (sym (c .before .has-room .ensures) ∙ not-false _ (c .if2 .left)) in
+    rw (c .before .before .before .before .before .before .before .before .before .wide .ensures, c .before .before .before .before .before .before .before .before .before .before .base-of .ensures) (omega arith)
 
 add-v : tie.Need-add-v Inv-loop μ-loop
 add-v c =
-    let r : c .before .before .before .before .before .before .before .loop .v * baseOf (c .before .before .before .before .before .before .before .before .before .before .before .args .hex) + c .before .before .wide2 .result < 2 ^ 64 = ltb-true _ _ (sym (c .before .has-room .ensures) ∙ not-false _ (c .if2 .left)) in
-    rw (c .before .before .before .before .before .before .before .before .wide .ensures, c .before .before .before .before .before .before .before .before .before .base-of .ensures) (omega arith)
+    let r : c .before .before .before .before .before .before .before .loop .v * rowOf (c .before .before .before .before .before .before .before .before .before .before .before .before .args .n) .base + c .before .before .wide2 .result < 2 ^ 64 = ltb-true _ _ (sym (c .before .has-room .ensures) ∙ not-false _ (c .if2 .left)) in
+    rw (c .before .before .before .before .before .before .before .before .before .wide .ensures, c .before .before .before .before .before .before .before .before .before .before .base-of .ensures) (omega arith)
 
 add-i : tie.Need-add-i Inv-loop μ-loop
 add-i c = omega arith
@@ -83,27 +85,29 @@ loop-less c = omega arith
 
 loop-again : tie.Need-loop-again Inv-loop μ-loop
 loop-again c =
-    let a = c .before .before .before .before .before .before .before .before .before .before .before .args in
+    let a = c .before .before .before .before .before .before .before .before .before .before .before .before .args in
     let l = c .before .before .before .before .before .before .before .loop in
-    let b = baseOf (a .hex) in
     let h = c .before .before .before .before .before .before .loop-test .taken in
-    let r : l .v * b + digitOf (getD (a .s .now) (l .i) 0) < 2 ^ 64 =
-    ltb-true _ _ (rw (c .before .before .wide2 .ensures, c .before .before .before .before .digit-of .ensures) at (sym (c .before .has-room .ensures) ∙ not-false _ (c .if2 .left))) in
-    let g : digitOf (getD (a .s .now) (l .i) 0) < b = rw (c .before .before .before .before .before .before .before .before .before .base-of .ensures, c .before .before .before .before .digit-of .ensures) at (c .before .before .before .if1 .left) in
-    rw (c .before .before .before .before .before .before .before .before .wide .ensures, c .before .before .before .before .before .before .before .before .before .base-of .ensures, c .before .before .wide2 .ensures, c .before .before .before .before .digit-of .ensures) (
+    let b = c .before .before .before .before .before .before .before .before .before .before .base-of in
+    let w = c .before .before .before .before .before .before .before .before .before .wide in
+    let x = c .before .before .before .before .digit-of in
+    let d = c .before .before .wide2 in
+    let r : l .v * rowOf (a .n) .base + digitOf (getD (a .s .now) (l .i) 0) < 2 ^ 64 =
+    ltb-true _ _ (rw (d .ensures, x .ensures) at (sym (c .before .has-room .ensures) ∙ not-false _ (c .if2 .left))) in
+    let g : digitOf (getD (a .s .now) (l .i) 0) < rowOf (a .n) .base = rw (b .ensures, x .ensures) at (c .before .before .before .if1 .left) in
+    rw (w .ensures, b .ensures, d .ensures, x .ensures) (
       r,
-      sym (after-step b (a .s .now) (l .v) (l .i) h g) ∙ l .inv .1,
-      omega (arith, run-step (isDigit b) (a .s .now) (l .i) h (digit-is b _ g), l .inv .2),
+      sym (after-step (a .n) (a .s .now) (l .v) (l .i) h g) ∙ l .inv .1,
+      omega (arith, run-step (among (rowOf (a .n) .digits)) (a .s .now) (l .i) h (digit-is (a .n) _ g), l .inv .2),
     )
 
 returns-3 : tie.Need-returns-3 Inv-loop μ-loop
 returns-3 c =
-    let a = c .before .before .before .before .before .args in
+    let a = c .before .before .before .before .before .before .args in
     let l = c .before .loop in
-    let b = baseOf (a .hex) in
     let h = c .loop-test .left in (
-      fit-small (l .v) _ (l .inv .0) (sym (after-past b (a .s .now) (l .v) (l .i) h) ∙ l .inv .1),
-      omega (arith, run-past (isDigit b) (a .s .now) (l .i) h, l .inv .2),
+      fit-small (l .i) (l .v) _ (l .inv .0) (sym (after-past (a .n) (a .s .now) (l .v) (l .i) h) ∙ l .inv .1),
+      omega (arith, run-past (among (rowOf (a .n) .digits)) (a .s .now) (l .i) h, l .inv .2),
     )
 
 pub run-spec : {M : Type 1} → statement M
@@ -114,6 +118,7 @@ run-spec =
     μ-loop
     base-of-requires
     wide-requires
+    roomy-requires
     loop-holds
     shared-slice-read-digit-of
     digit-of-requires
