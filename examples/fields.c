@@ -1,8 +1,6 @@
 /* fields OPCODE WORD: what a descriptor word says, from C (bin/describe says more).
-   OPCODE is f16, tf32, f8f6f4 or i8, with .ws and .sp behind it where they stand, or `shared`. WORD is hex or decimal.
+   OPCODE is f16, tf32, f8f6f4 or i8, with .ws and .sp behind it where they stand, or `shared`. WORD is a number as in a sheet.
    Exit status: 0 the word is good, 1 refused, 2 a wrong command line. */
-#include <ctype.h>
-#include <errno.h>
 #include <inttypes.h>
 #include <stdio.h>
 #include <stdlib.h>
@@ -50,16 +48,23 @@ static int instruction(const char *text, uint64_t word) {
     return reason != 0;
 }
 
+/* The value of a number: the library reads it in a mov, and the canonical text has its decimals. Returns 0 if it is none. */
+static int number(const char *text, uint64_t *value) {
+    char statement[128];
+    uint8_t room[STAPLEHORN_STATEMENT_ROOM + 1];
+    size_t length;
+    if (text[strspn(text, "0123456789abcdefABCDEFxXU")] != '\0' || strlen(text) > 100) return 0;
+    int written = snprintf(statement, sizeof statement, "mov.b64 x, %s;", text);
+    if (staplehorn_statement_canonical((const uint8_t *)statement, (size_t)written, room, STAPLEHORN_STATEMENT_ROOM, &length) != 0) return 0;
+    room[length] = '\0';
+    *value = strtoull((const char *)room + strlen("mov.b64 x, "), NULL, 10);
+    return 1;
+}
+
 int main(int argc, char **argv) {
-    char *end = NULL;
+    uint64_t word;
     int status = 2;
-    if (argc == 3) {
-        int base = strncmp(argv[2], "0x", 2) == 0 ? 16 : 10;
-        errno = 0;
-        uint64_t word = strtoull(argv[2], &end, base);
-        if (isdigit((unsigned char)argv[2][0]) && *end == '\0' && errno == 0) status =
-            strcmp(argv[1], "shared") == 0 ? shared(word) : instruction(argv[1], word);
-    }
+    if (argc == 3 && number(argv[2], &word)) status = strcmp(argv[1], "shared") == 0 ? shared(word) : instruction(argv[1], word);
     if (status == 2) fprintf(stderr, "usage: fields f16|tf32|f8f6f4|i8[.ws][.sp]|shared WORD\n");
     return status;
 }

@@ -11,8 +11,8 @@
  * Versions: within one major number (and, while that is 0, one minor number) functions, numbers of reasons and fields keep their
  * meaning and their places; functions, reasons and rules may be added, and a program must bear a reason that it does not know.
  * A sheet that passes may be refused by a later minor version, and the other way round, where the rules of the hardware are
- * known better: docs/CHANGES.md says so each time. The shared library's soname has the major number and, while that is 0, the minor
- * number: a program runs with the library that it was built for, or not at all.
+ * known better or more spellings are read: docs/CHANGES.md says so each time. The shared library's soname has the major number
+ * and, while that is 0, the minor number: a program runs with the library that it was built for, or not at all.
  *
  * An opcode is three numbers: kind 0 f16, 1 tf32, 2 f8f6f4, 3 i8; ws and sp, 0 or 1, say whether `.ws` and `.sp`
  * stand. Any other number is refused with 12.
@@ -28,8 +28,8 @@ extern "C" {
 #endif
 
 /* The version of this header, and the same as major * 10,000 + minor * 100 + patch. */
-#define STAPLEHORN_VERSION "0.3.0"
-#define STAPLEHORN_VERSION_NUMBER 300
+#define STAPLEHORN_VERSION "0.4.0"
+#define STAPLEHORN_VERSION_NUMBER 400
 
 /* Bytes of stack that are enough for any call. */
 #define STAPLEHORN_STACK 32768
@@ -182,7 +182,8 @@ uint32_t staplehorn_shared_encode(const uint64_t fields[STAPLEHORN_SHARED_FIELDS
 /* 0 if a request for that many columns is legal, else 9. */
 uint32_t staplehorn_request(uint32_t columns);
 
-/* Statements. */
+/* Statements. A number in one is decimal, hexadecimal (0x40), octal (0100: a leading zero) or binary (0b1000000), and one U may
+   stand behind it; docs/FORMAT.md has each spelling. */
 
 /* The reason of a statement's text by itself: 3 no form matches, 4 a number is too large, 5 N is over the shape's largest
    or the count of registers differs; else 0. At most 4,096 bytes; a longer text is 3. The byte to which it points, counted from
@@ -190,7 +191,7 @@ uint32_t staplehorn_request(uint32_t columns);
    number; 1 for 5; 0 for 0. In a line of a sheet the same refusal has a column 2 higher. */
 uint32_t staplehorn_statement_reason(const uint8_t *text, size_t text_length, size_t *column);
 
-/* The canonical text of a statement: one space after the opcode and after each comma, decimals, no `+0` and no
+/* The canonical text of a statement: one space after the opcode and after each comma, decimals without U, no `+0` and no
    `.shared::cta`. Its length goes to *length and its bytes to the first places of room; the places past it are left as
    they are. 3 or 4 if the text does not read, 19 if the room is too short: then *length is 0 and room is left as it is.
    STAPLEHORN_STATEMENT_ROOM bytes are room for any statement. A text of reason 5 reads, so it is written. */

@@ -60,6 +60,31 @@ class Module(unittest.TestCase):
             self.assertEqual((alone.line, alone.column, alone.held, alone.peak), (None, column, None, None), text)
         self.assertEqual(str(self.refused(3, s.statement, b"exit")), "column 5: the statement matches no form")
 
+    def test_numbers(self):
+        """Four spellings, each with a U or not, are written in decimals; 3 at the start of a run that has none; 4 by the value."""
+        for text, value in (
+            ("0", 0), ("0U", 0), ("00", 0), ("000U", 0), ("07", 7), ("040", 32), ("064", 52), ("0100U", 64), ("9", 9), ("64U", 64),
+            ("0x40", 64), ("0X00fFU", 255), ("0xb1", 0xB1), ("0b100000", 32), ("0B0101U", 5),
+            ("0" * 200 + "17", 15), ("0x" + "0" * 200 + "17", 23), ("0b" + "0" * 200 + "11", 3),
+            ("4294967295", 2**32 - 1), ("0xffffffff", 2**32 - 1), ("037777777777U", 2**32 - 1), ("0b" + "1" * 32, 2**32 - 1),
+        ):
+            for before in ("mov.b32 x, ", "mov.b64 x, ", "tcgen05.dealloc.cta_group::1.sync.aligned.b32 t, "):
+                self.assertEqual(s.canonical(f"{before}{text};".encode()), f"{before}{value};".encode())
+        for text in ("08", "019", "0b2", "0b102", "0b", "0bU", "0x", "0xU", "64u", "0UU", "64U1", "0o7", "U"):
+            self.assertEqual(self.refused(3, s.statement, f"mov.b64 x, {text};".encode()).column, 12, text)
+        for bits, over in (
+            (32, ("4294967296", "0x100000000", "040000000000", "0b1" + "0" * 32)),
+            (64, ("18446744073709551616", "0x1" + "0" * 16, "02" + "0" * 21, "0b1" + "0" * 64)),
+        ):
+            for text in over:
+                for end in ("", "U"):
+                    self.assertEqual(self.refused(4, s.statement, f"mov.b{bits} x,  {text}{end};".encode()).column, 13, text)
+        alloc, dealloc = "tcgen05.alloc.cta_group::1.sync.aligned.b32", "tcgen05.dealloc.cta_group::1.sync.aligned.b32"
+        sheet = f"sheet\t1\tsm_100a\n0\t{alloc} [t], 0100;\n0\t{alloc} [u], 0b100000U;\n0\t{dealloc} t, 64;\n0\t{dealloc} u, 0x20;\n0\texit;\n"
+        self.assertEqual(s.judge(sheet.encode()), s.Passed(6, 96, [0, 64]))
+        octal = self.refused(s.Reason.COLUMNS, s.judge, sheet.replace("0100", "064").encode())
+        self.assertEqual((octal.line, octal.column, octal.held, octal.peak), (2, 52, 0, 0))
+
     def test_words(self):
         fields = s.Instruction(dtype=1, n=64, m=128)
         self.assertEqual(s.instruction_decode("f16", 0x08100010), fields)

@@ -101,6 +101,68 @@ static void statements(void) {
     is(length, 0, "length on a refusal");
 }
 
+/* The canonical text of a text. */
+static void writes(const char *text, const char *want) {
+    uint8_t room[STAPLEHORN_STATEMENT_ROOM];
+    size_t length = 7;
+    is(staplehorn_statement_canonical((const uint8_t *)text, strlen(text), room, sizeof room, &length), 0, text);
+    is(length, strlen(want), text);
+    is((uint64_t)memcmp(room, want, strlen(want)), 0, text);
+}
+
+/* Numbers: four spellings, each with a U or not; 3 at the start of a run that has none, 4 by the value in every base. */
+static void numbers(void) {
+    writes("mov.b32 x, 0;", "mov.b32 x, 0;");
+    writes("mov.b32 x, 0U;", "mov.b32 x, 0;");
+    writes("mov.b32 x, 00;", "mov.b32 x, 0;");
+    writes("mov.b32 x, 040;", "mov.b32 x, 32;");
+    writes("mov.b32 x, 064U;", "mov.b32 x, 52;");
+    writes("mov.b32 x, 64U;", "mov.b32 x, 64;");
+    writes("mov.b32 x, 0X0040U;", "mov.b32 x, 64;");
+    writes("mov.b32 x, 0xbU;", "mov.b32 x, 11;");
+    writes("mov.b32 x, 0b100000;", "mov.b32 x, 32;");
+    writes("mov.b32 x, 0B1U;", "mov.b32 x, 1;");
+    writes("mov.b64 x, 01777777777777777777777U;", "mov.b64 x, 18446744073709551615;");
+    writes("tcgen05.ld.sync.aligned.32x32b.x1.b32 {r}, [t+010000000];", "tcgen05.ld.sync.aligned.32x32b.x1.b32 {r}, [t+2097152];");
+    writes("tcgen05.ld.sync.aligned.32x32b.x1.b32 {r}, [t+00U];", "tcgen05.ld.sync.aligned.32x32b.x1.b32 {r}, [t];");
+    alone("mov.b32 x, 08;", 3, 12);
+    alone("mov.b32 x, 019;", 3, 12);
+    alone("mov.b32 x, 0b2;", 3, 12);
+    alone("mov.b32 x, 0b102;", 3, 12);
+    alone("mov.b32 x, 0b;", 3, 12);
+    alone("mov.b32 x, 0bU;", 3, 12);
+    alone("mov.b32 x, 0xU;", 3, 12);
+    alone("mov.b32 x, 64u;", 3, 12);
+    alone("mov.b32 x, 0UU;", 3, 12);
+    alone("mov.b32 x, 64U1;", 3, 12);
+    alone("tcgen05.ld.sync.aligned.32x32b.x01.b32 {r}, [t];", 3, 1);
+    alone("mov.b32 x, 037777777777;", 0, 0);
+    alone("mov.b32 x, 040000000000;", 4, 12);
+    alone("mov.b32 x, 0b11111111111111111111111111111111U;", 0, 0);
+    alone("mov.b32 x, 0b100000000000000000000000000000000U;", 4, 12);
+    alone("mov.b64 x, 02000000000000000000000;", 4, 12);
+    alone("tcgen05.ld.sync.aligned.32x32b.x1.b32 {r}, [t+ 040000000000U];", 4, 48);
+}
+
+/* Columns asked for in octal and binary, and given back in other spellings; 064 is 52. */
+static void spelled(void) {
+    const char *sheet = "sheet\t1\tsm_100a\n0\ttcgen05.alloc.cta_group::1.sync.aligned.b32 [t], 0100;\n"
+                        "0\ttcgen05.alloc.cta_group::1.sync.aligned.b32 [u], 0b100000U;\n"
+                        "0\ttcgen05.dealloc.cta_group::1.sync.aligned.b32 t, 64U;\n"
+                        "0\ttcgen05.dealloc.cta_group::1.sync.aligned.b32 u, 32;\n0\texit;\n";
+    const char *octal = "sheet\t1\tsm_100a\n0\ttcgen05.alloc.cta_group::1.sync.aligned.b32 [t], 064;\n0\texit;\n";
+    uint32_t answer[STAPLEHORN_ANSWER_FIELDS];
+    uint16_t starts[2] = {7, 7};
+    is(staplehorn_judge((const uint8_t *)sheet, strlen(sheet), starts, 2, answer), 0, "spelled");
+    is(answer[STAPLEHORN_PEAK], 96, "peak, spelled");
+    is(answer[STAPLEHORN_STARTS], 2, "count, spelled");
+    is(starts[0], 0, "first start, spelled");
+    is(starts[1], 64, "second start, spelled");
+    is(staplehorn_judge((const uint8_t *)octal, strlen(octal), starts, 2, answer), STAPLEHORN_REASON_COLUMNS, "064");
+    is(answer[STAPLEHORN_LINE], 2, "line of 064");
+    is(answer[STAPLEHORN_COLUMN], 52, "column of 064");
+}
+
 static void sheets(void) {
     const char *sheet = "sheet\t1\tsm_100a\n0\ttcgen05.alloc.cta_group::1.sync.aligned.b32 [t], 64;\n"
                         "0\ttcgen05.alloc.cta_group::1.sync.aligned.b32 [u], 32;\n"
@@ -170,7 +232,9 @@ int main(void) {
     shared();
     statements();
     columns();
+    numbers();
+    spelled();
     sheets();
     printf("%d answers right, %d wrong\n", right, wrong);
-    return wrong != 0 || right < 100;
+    return wrong != 0 || right < 180;
 }

@@ -52,6 +52,7 @@ fn reports_are_those_of_foot() {
 #[test]
 fn statements() {
     assert_eq!(canonical(b"mov.b32  x ,0x10 ;").unwrap(), b"mov.b32 x, 16;");
+    assert_eq!(canonical(b"mov.b32 x, 010U;").unwrap(), b"mov.b32 x, 8;");
     assert_eq!(canonical(b"mov.b32 x, 4294967296;"), Err(Reason::Number));
     assert_eq!(statement(b"exit;"), Ok(()));
     // more than 4,096 bytes that would read: one past the end

@@ -5,9 +5,11 @@
 
 #[path = "../command/mod.rs"]
 mod command;
+mod number;
 mod rules;
 
 use command::{complain, print, FAILED, PASSED, REFUSED};
+use number::Fault;
 use rules::{kind_name, name_in, types, Field, ATYPE, BTYPE, DTYPE, DTYPES, INSTRUCTION, MODE, MODES, SHARED, SWIZZLE, SWIZZLES};
 use staplehorn::{InstructionFields, Kind, Opcode, Reason, SharedFields};
 use std::ffi::c_int;
@@ -21,10 +23,10 @@ Says what a descriptor word means, field by field, and if it is refused, which r
 the fields given. A field that is not given is 0, a type the first of its kind, and sparse what OPCODE says.
 
 OPCODE  f16, tf32, f8f6f4 or i8, with .ws and .sp behind it where they stand; or shared
-WORD    0x and hex digits, or decimal
+WORD    a number as in a sheet: decimal, 0x and hex digits, 0b and binary digits, or 0 and octal digits; a U may follow
 FIELD   of an instruction descriptor: selector sparse saturate dtype atype btype negate_a negate_b transpose_a
         transpose_b n m max_shift; of a shared memory descriptor: start leading stride base mode swizzle
-VALUE   a number; for a type, a mode or a swizzle also its name, as dtype=f32 or swizzle=128B
+VALUE   a number as WORD; for a type, a mode or a swizzle also its name, as dtype=f32 or swizzle=128B
 
   describe i8 0x080A00A0
   describe encode f16.ws m=64 n=128 dtype=f32
@@ -129,39 +131,27 @@ fn shared(word: u64) -> Said {
     said
 }
 
-fn describe(sort: Sort, word: u64) -> Option<Said> {
-    match sort {
-        Sort::Instruction(o) => Some(instruction(o, u32::try_from(word).ok()?)),
-        Sort::Shared => Some(shared(word)),
-    }
-}
-
 /// The word of fields: described like any other; or the rules that they break.
 fn encode(sort: Sort, values: &[u64]) -> Said {
-    let (word, broken) = match sort {
+    let (made, broken) = match sort {
         Sort::Instruction(o) => {
             let v: [u64; 13] = std::array::from_fn(|i| values[i]);
             let broken = rules::no_reading(o, &v, 0);
             // a flag over 1, or a number over 32 bits, has no place in the library's fields; each breaks a rule of its width
             let fits = v.iter().all(|&x| x <= u32::MAX.into()) && [1, 2, 6, 7, 8, 9].iter().all(|&i| v[i] <= 1);
             let fields = InstructionFields::from(v.map(|x| x as u32));
-            let word = if fits { o.encode(fields).map(u64::from) } else { Err(Reason::Descriptor) };
-            (word, broken)
+            let word = if fits { o.encode(fields) } else { Err(Reason::Descriptor) };
+            (word.map(|word| (format!("word {word:#010x}\n"), instruction(o, word))), broken)
         }
         Sort::Shared => {
             let v: [u64; 6] = std::array::from_fn(|i| values[i]);
             let fields = SharedFields { start: v[0], leading: v[1], stride: v[2], base: v[3], mode: v[4], swizzle: v[5] };
-            (fields.encode(), rules::no_shared(&v, 1, 0))
+            (fields.encode().map(|word| (format!("word {word:#018x}\n"), shared(word))), rules::no_shared(&v, 1, 0))
         }
     };
-    match (word, sort) {
-        (Ok(word), sort) => {
-            let digits = if matches!(sort, Sort::Shared) { 18 } else { 10 };
-            let mut said = describe(sort, word).unwrap_or_else(|| Said::reason(Some(Reason::Descriptor)));
-            said.text.insert_str(0, &format!("word {word:#0digits$x}\n"));
-            said
-        }
-        (Err(reason), sort) => {
+    match made {
+        Ok((line, said)) => Said { text: line + &said.text, ..said },
+        Err(reason) => {
             let mut said = Said { text: format!("reason {}: no word has these fields\n", reason.number()), good: false };
             said.broken(broken);
             said.table(sort, values);
@@ -170,19 +160,27 @@ fn encode(sort: Sort, values: &[u64]) -> Said {
     }
 }
 
-fn number(text: &str) -> Option<u64> {
-    let (digits, base) = text.strip_prefix("0x").map_or((text, 10), |t| (t, 16));
-    let all = !digits.is_empty() && digits.bytes().all(|b| (b as char).is_digit(base));
-    all.then(|| u64::from_str_radix(digits, base).ok()).flatten()
+/// The word that a text spells, described.
+fn spelled(sort: Sort, text: &str) -> Result<Said, Fault> {
+    match sort {
+        Sort::Instruction(o) => Ok(instruction(o, number::b32(text)?)),
+        Sort::Shared => Ok(shared(number::b64(text)?)),
+    }
 }
 
 /// Puts FIELD=VALUE in its place.
-fn assign(sort: Sort, text: &str, values: &mut [u64]) -> Option<()> {
-    let (name, value) = text.split_once('=')?;
-    let at = sort.fields().iter().position(|f| f.name == name)?;
-    let named = sort.codes(at).iter().find(|row| row.1 == value).map(|row| row.0);
-    values[at] = named.or_else(|| number(value))?;
-    Some(())
+fn assign(sort: Sort, text: &str, values: &mut [u64]) -> Result<(), String> {
+    let field = text.split_once('=').and_then(|(name, value)| Some((sort.fields().iter().position(|f| f.name == name)?, value)));
+    let (at, value) = field.ok_or_else(|| format!("no field and value: {text}"))?;
+    let names = sort.codes(at);
+    values[at] = match names.iter().find(|row| row.1 == value) {
+        Some(row) => row.0,
+        None => number::b64(value).map_err(|fault| match fault {
+            Fault::Spelling if !names.is_empty() => format!("no number and no name: {text}"),
+            _ => format!("{fault}: {text}"),
+        })?,
+    };
+    Ok(())
 }
 
 fn encoded(sort: Sort, args: &[&str]) -> Result<Said, String> {
@@ -193,7 +191,7 @@ fn encoded(sort: Sort, args: &[&str]) -> Result<Said, String> {
         values[BTYPE] = types(o.kind)[0].0;
     }
     for arg in args {
-        assign(sort, arg, &mut values).ok_or_else(|| format!("no field and value: {arg}"))?;
+        assign(sort, arg, &mut values)?;
     }
     Ok(encode(sort, &values))
 }
@@ -204,10 +202,7 @@ fn answer(args: &[&str]) -> Result<Said, String> {
         ["--help" | "-h"] => Ok(Said { text: HELP.into(), good: true }),
         ["--version"] => Ok(Said { text: command::version("describe"), good: true }),
         ["encode", opcode, fields @ ..] => encoded(sort(opcode)?, fields),
-        [opcode, word] => {
-            let sort = sort(opcode)?;
-            number(word).and_then(|word| describe(sort, word)).ok_or_else(|| format!("no word of {opcode}: {word}"))
-        }
+        [opcode, word] => spelled(sort(opcode)?, word).map_err(|fault| format!("{fault}: {word}")),
         _ => Err("an opcode and a word, or encode, an opcode and fields".into()),
     }
 }
