@@ -37,7 +37,12 @@ impl Counts {
 
     /// Counts an outcome that is no comparison by itself.
     pub fn seen(&mut self, function: &'static str, outcome: u32) {
-        *self.outcomes.entry((function, outcome)).or_insert(0) += 1;
+        self.seen_often(function, outcome, 1);
+    }
+
+    /// Counts it so many times.
+    pub fn seen_often(&mut self, function: &'static str, outcome: u32, times: u64) {
+        *self.outcomes.entry((function, outcome)).or_insert(0) += times;
     }
 
     /// Counts a refusal by what its column names.

@@ -232,7 +232,7 @@ const OPCODES: [&str; 14] = [
 ];
 
 /// Tokens to be put where a form may not have them.
-const ODD: [&str; 46] = [
+const ODD: [&str; 60] = [
     "q7",
     "x",
     "%p",
@@ -259,6 +259,20 @@ const ODD: [&str; 46] = [
     "_",
     "$",
     "64U",
+    "0U",
+    "00U",
+    "0xFU",
+    "0b1",
+    "0B01U",
+    "0b",
+    "0bU",
+    "0b2",
+    "0b102",
+    "64u",
+    "64UU",
+    "64U1",
+    "0o7",
+    "U",
     "[",
     "]",
     "{",
@@ -282,10 +296,13 @@ const ODD: [&str; 46] = [
 ];
 
 /// Statements that have no form here, with a mark where none can go on.
-const WRONG: [&str; 27] = [
+const WRONG: [&str; 30] = [
     "^tcgen05.alloc.cta_group::2.sync.aligned.b32 [t], 32;",
     "tcgen05.alloc.cta_group::1.sync.aligned.b32 [t^+0], 32;",
-    "tcgen05.alloc.cta_group::1.sync.aligned.b32 [t], ^064;",
+    "tcgen05.alloc.cta_group::1.sync.aligned.b32 [t], ^08;",
+    "tcgen05.alloc.cta_group::1.sync.aligned.b32 [t], ^64u;",
+    "tcgen05.dealloc.cta_group::1.sync.aligned.b32 t, ^0b102;",
+    "mov.b32 x, ^0UU;",
     "tcgen05.alloc.cta_group::1.sync.aligned.b32 ^t, 32;",
     "tcgen05.alloc.cta_group::1.sync.aligned.b32 [t] ^32;",
     "^tcgen05.dealloc.cta_group::1.sync.aligned.shared::cta.b32 t, 32;",

@@ -1,13 +1,15 @@
-//! Compares the proved library with the reference: `words`, `statements` and `sheets` with made inputs, `entries` with
-//! sheets whose answers were worked out by hand, `data` with the cases that `cases` wrote into a folder.
+//! Compares the proved library with the reference: `words`, `statements` (`numbers` among them) and `sheets` with made
+//! inputs, `entries` with sheets whose answers were worked out by hand, `data` with the cases that `cases` wrote into a folder.
 
 mod cases;
 mod entries;
 mod faults;
 mod forms;
 mod maker;
+mod numbers;
 mod readings;
 mod sheets;
+mod spelling;
 mod statements;
 mod tokens;
 mod words;
@@ -18,12 +20,13 @@ fn main() {
     let good = match args[..] {
         ["words"] => words::run(),
         ["statements"] => statements::run(),
+        ["numbers"] => numbers::run(),
         ["sheets"] => sheets::run(),
         ["entries"] => entries::run(),
         ["cases", folder] => cases::write(folder.as_ref()),
         ["data", folder] => cases::compare(folder.as_ref()),
         _ => {
-            eprintln!("usage: difftest words|statements|sheets|entries, or difftest cases|data FOLDER");
+            eprintln!("usage: difftest words|statements|numbers|sheets|entries, or difftest cases|data FOLDER");
             std::process::exit(2);
         }
     };

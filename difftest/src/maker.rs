@@ -3,6 +3,7 @@
 //! It keeps its own small account of what is held and bound, so that it knows without asking either side that a line
 //! is valid, and what the answer to a line is that is aimed at a reason (faults.rs).
 
+use crate::spelling::{Number, Spelling, BASES};
 use crate::tokens::{Operand, Role, Spacing, Text};
 use staplehorn_difftest::random::Random;
 use std::fmt::Write;
@@ -94,6 +95,8 @@ pub struct Maker<'a> {
     pub warp: Option<u64>,
     pub relinquished: bool,
     pub names_made: u32,
+    /// How many numbers were spelled in each base, without a `U` and with it.
+    pub spelled: [[u64; 2]; BASES.len()],
     /// Where the tokens of the line made last start.
     pub starts: Vec<usize>,
 }
@@ -114,6 +117,7 @@ impl<'a> Maker<'a> {
             warp: None,
             relinquished: false,
             names_made: 0,
+            spelled: [[0; 2]; BASES.len()],
             starts: Vec::new(),
         }
     }
@@ -168,28 +172,32 @@ impl<'a> Maker<'a> {
         (self.booker() + 1 + self.r.below(3)) % 4
     }
 
+    /// Mostly the writer's decimals, else any spelling.
     pub fn number(&mut self, n: u64) -> String {
-        match self.r.below(12) {
-            0 => format!("0x{n:x}"),
-            1 => format!("0X{n:X}"),
-            2 => format!("0x000{n:x}"),
-            _ => n.to_string(),
-        }
+        let number = if self.one_in(3) { Spelling::any(self.r).of(n.into()) } else { n.to_string() };
+        self.spelled(&number);
+        number
     }
 
+    /// Keeps account of a number that was written.
+    fn spelled(&mut self, number: &str) {
+        let number = Number::new(number).expect("it was spelled as one");
+        let place = BASES.iter().position(|&base| base == number.base).expect("it has one of the bases");
+        self.spelled[place][usize::from(number.suffix)] += 1;
+    }
+
+    /// A number over its limit, by a little or by far, in any spelling.
     pub fn number_over(&mut self, wide: bool) -> String {
         let limit = if wide { u128::from(u64::MAX) } else { u128::from(u32::MAX) };
-        let n = match self.r.below(4) {
-            0 => limit + 1,
-            1 => limit + 1 + u128::from(self.r.below(1 << 30)),
-            2 => (limit + 1) << self.r.below(60),
-            _ => return format!("1{}", "0".repeat(20 + self.r.below(40) as usize)),
+        let spelling = Spelling::any(self.r);
+        let number = match self.r.below(4) {
+            0 => spelling.of(limit + 1),
+            1 => spelling.of(limit + 1 + u128::from(self.r.below(1 << 30))),
+            2 => spelling.of((limit + 1) << self.r.below(60)),
+            _ => format!("{}1{}{}", spelling.prefix, "0".repeat(64 + self.r.below(40) as usize), self.r.pick(&["", "U"])),
         };
-        if self.one_in(2) {
-            format!("{n:#x}")
-        } else {
-            n.to_string()
-        }
+        self.spelled(&number);
+        number
     }
 
     /// A name that is bound to nothing.

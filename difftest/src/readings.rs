@@ -3,11 +3,10 @@
 
 use crate::sheets::{Proved, Reference, Side};
 use staplehorn_difftest::counts::Counts;
-use staplehorn_difftest::proved;
 use staplehorn_reference::statement as reference;
 
 /// A statement with its mark, its reason, and its canonical text where it reads.
-type Row = (Vec<u8>, u32, &'static str);
+type Row = (Vec<u8>, u32, String);
 
 fn mov(number: &str) -> Vec<u8> {
     format!("mov.b32 x, {number};").into()
@@ -38,7 +37,7 @@ fn names(count: usize) -> String {
 
 fn rows() -> Vec<Row> {
     let mut t: Vec<Row> = Vec::new();
-    let mut good = |text: &str, canonical: &'static str| t.push((text.into(), 0, canonical));
+    let mut good = |text: &str, canonical: &str| t.push((text.into(), 0, canonical.into()));
     // where the opcode ends, and spaces
     good("mov.b32%x,1;", "mov.b32 %x, 1;");
     good("mov.b32$x,1;", "mov.b32 $x, 1;");
@@ -65,17 +64,21 @@ fn rows() -> Vec<Row> {
     // what is gone after reading
     good("tcgen05.alloc.cta_group::1.sync.aligned.shared::cta.b32 [t], 0x20;", "tcgen05.alloc.cta_group::1.sync.aligned.b32 [t], 32;");
     good("tcgen05.ld.sync.aligned.32x32b.x1.b32 {r}, [t+0];", "tcgen05.ld.sync.aligned.32x32b.x1.b32 {r}, [t];");
-    t.push((mov(&format!("0x{}1", "0".repeat(900))), 0, "mov.b32 x, 1;"));
+    for head in ["0x", "0", "0b"] {
+        t.push((mov(&format!("{head}{}1", "0".repeat(900))), 0, "mov.b32 x, 1;".into()));
+    }
+    number_rows(&mut t);
     // a wrong count of registers reads and is written
-    t.push(("^tcgen05.ld.sync.aligned.32x32b.x4.b32 {r}, [t];".into(), 5, "tcgen05.ld.sync.aligned.32x32b.x4.b32 {r}, [t];"));
-    t.push((load("{a, b}", "[t]"), 5, "tcgen05.ld.sync.aligned.32x32b.x1.b32 {a, b}, [t];"));
+    t.push(("^tcgen05.ld.sync.aligned.32x32b.x4.b32 {r}, [t];".into(), 5, "tcgen05.ld.sync.aligned.32x32b.x4.b32 {r}, [t];".into()));
+    t.push((load("{a, b}", "[t]"), 5, "tcgen05.ld.sync.aligned.32x32b.x1.b32 {a, b}, [t];".into()));
     t.last_mut().expect("one is there").0.insert(0, b'^');
-    let mut refused = |text: Vec<u8>, reason: u32| t.push((text, reason, ""));
+    let mut refused = |text: Vec<u8>, reason: u32| t.push((text, reason, String::new()));
     for n in ["128", "64"] {
         refused(format!("^tcgen05.ld.sync.aligned.16x256b.x{n}.b32 {}, [t];", names(128)).into(), 5);
         refused(format!("^tcgen05.st.sync.aligned.16x128b.x128.b32 [t], {};", names(128)).into(), 5);
     }
     refused(mov(&format!("^{}", "9".repeat(900))), 4);
+    refused(mov(&format!("^0{}U", "7".repeat(900))), 4);
     refused(mov("^4294967296"), 4);
     refused(mov("   ^0x100000000"), 4);
     refused("mov.b64 x, ^18446744073709551616;".into(), 4);
@@ -107,8 +110,191 @@ fn rows() -> Vec<Row> {
     t
 }
 
+/// What stands before and behind a number in each place that takes one, written in the canonical form.
+const AROUND: [(&str, &str); 9] = [
+    ("mov.b32 x, ", ";"),
+    ("mov.b64 x, ", ";"),
+    ("tcgen05.alloc.cta_group::1.sync.aligned.b32 [t], ", ";"),
+    ("tcgen05.dealloc.cta_group::1.sync.aligned.b32 t, ", ";"),
+    ("tcgen05.ld.sync.aligned.32x32b.x1.b32 {r}, [t+", "];"),
+    ("tcgen05.st.sync.aligned.32x32b.x1.b32 [t+", "], {r};"),
+    ("tcgen05.mma.cta_group::1.kind::f16 [d+", "], a, b, i, p;"),
+    ("tcgen05.mma.cta_group::1.kind::f16 [d], [a+", "], b, i, p;"),
+    ("tcgen05.mma.sp.cta_group::1.kind::f16 [d], a, b, [m+", "], i, p;"),
+];
+
+/// Numbers and what is none, in every place.
+fn number_rows(t: &mut Vec<Row>) {
+    for (before, after) in AROUND {
+        for (number, value) in NUMBERS {
+            let canonical = match before.strip_suffix('+') {
+                Some(address) if value == "0" => format!("{address}{after}"),
+                _ => format!("{before}{value}{after}"),
+            };
+            t.push((format!("{before}{number}{after}").into(), 0, canonical));
+        }
+        for run in NO_NUMBERS {
+            t.push((format!("{before}^{run}{after}").into(), 3, String::new()));
+        }
+        // the largest number that is taken, and the next one
+        let wide = before.starts_with("mov.b64");
+        for (number, over, value) in if wide { WIDE } else { NARROW } {
+            t.push((format!("{before}{number}{after}").into(), 0, format!("{before}{value}{after}")));
+            t.push((format!("{before}^{over}{after}").into(), 4, String::new()));
+        }
+    }
+}
+
+/// Numbers with their values.
+const NUMBERS: [(&str, &str); 46] = [
+    ("0", "0"),
+    ("0U", "0"),
+    ("00", "0"),
+    ("000", "0"),
+    ("00U", "0"),
+    ("000U", "0"),
+    ("0x0", "0"),
+    ("0X00", "0"),
+    ("0x0U", "0"),
+    ("0b0", "0"),
+    ("0B00", "0"),
+    ("0b0U", "0"),
+    ("1U", "1"),
+    ("64U", "64"),
+    ("4294967295U", "4294967295"),
+    // octal, and never decimal
+    ("01", "1"),
+    ("07", "7"),
+    ("012", "10"),
+    ("0012", "10"),
+    ("040", "32"),
+    ("040U", "32"),
+    ("064", "52"),
+    ("064U", "52"),
+    ("0064", "52"),
+    ("0100", "64"),
+    ("0777", "511"),
+    ("01000", "512"),
+    ("0b1", "1"),
+    ("0B1", "1"),
+    ("0b1U", "1"),
+    ("0B1U", "1"),
+    ("0b10", "2"),
+    ("0b0001", "1"),
+    ("0b100000", "32"),
+    ("0B100000", "32"),
+    ("0b100000U", "32"),
+    ("0b1000000", "64"),
+    ("0x40", "64"),
+    ("0x40U", "64"),
+    ("0X40U", "64"),
+    ("0x0040U", "64"),
+    // letters that are digits here
+    ("0xb1", "177"),
+    ("0x0b1", "177"),
+    ("0xB", "11"),
+    ("0XbU", "11"),
+    ("0xfeU", "254"),
+];
+
+/// Runs that only start like numbers, or not even that: none of their bytes is used, and the column is their first.
+const NO_NUMBERS: [&str; 60] = [
+    "08",
+    "09",
+    "019",
+    "0189",
+    "008",
+    "08U",
+    "0778",
+    "0b",
+    "0B",
+    "0b2",
+    "0B2",
+    "0b12",
+    "0b102",
+    "0b1002U",
+    "0bU",
+    "0BU",
+    "0b_1",
+    "0b0b1",
+    "0b0x1",
+    "0bb1",
+    "00b1",
+    "0x",
+    "0X",
+    "0xU",
+    "0XU",
+    "0xg",
+    "0x1G",
+    "0x0x1",
+    "0xx1",
+    "00x1",
+    "0o7",
+    "0O7",
+    "0d1",
+    "0f00000000",
+    "0a",
+    "U",
+    "UU",
+    "U64",
+    "U0",
+    "0UU",
+    "00UU",
+    "64UU",
+    "0x40UU",
+    "0b1UU",
+    "0u",
+    "00u",
+    "64u",
+    "0x40u",
+    "0b1u",
+    "64uU",
+    "64Uu",
+    "64U1",
+    "0U1",
+    "00U0",
+    "0U0",
+    "64L",
+    "64UL",
+    "6_4",
+    "64abc",
+    "1e5",
+];
+
+/// In each base the largest number of 32 bits, the next one, and the largest one's value.
+const NARROW: [(&str, &str, &str); 8] = [
+    ("4294967295", "4294967296", "4294967295"),
+    ("4294967295U", "4294967296U", "4294967295"),
+    ("037777777777", "040000000000", "4294967295"),
+    ("00037777777777U", "00040000000000U", "4294967295"),
+    ("0xFFFFFFFF", "0x100000000", "4294967295"),
+    ("0XffffffffU", "0X100000000U", "4294967295"),
+    ("0b11111111111111111111111111111111", "0b100000000000000000000000000000000", "4294967295"),
+    ("0B0011111111111111111111111111111111U", "0B00100000000000000000000000000000000U", "4294967295"),
+];
+
+/// The same of 64 bits.
+const WIDE: [(&str, &str, &str); 8] = [
+    ("18446744073709551615", "18446744073709551616", "18446744073709551615"),
+    ("18446744073709551615U", "18446744073709551616U", "18446744073709551615"),
+    ("01777777777777777777777", "02000000000000000000000", "18446744073709551615"),
+    ("0001777777777777777777777U", "0002000000000000000000000U", "18446744073709551615"),
+    ("0xFFFFFFFFFFFFFFFF", "0x10000000000000000", "18446744073709551615"),
+    ("0XffffffffffffffffU", "0X10000000000000000U", "18446744073709551615"),
+    (
+        "0b1111111111111111111111111111111111111111111111111111111111111111",
+        "0b10000000000000000000000000000000000000000000000000000000000000000",
+        "18446744073709551615",
+    ),
+    (
+        "0B001111111111111111111111111111111111111111111111111111111111111111U",
+        "0B0010000000000000000000000000000000000000000000000000000000000000000U",
+        "18446744073709551615",
+    ),
+];
+
 /// Statements of no form. A space is a byte like others where none may stand, and is passed over where a token may follow.
-const THREE: [&str; 96] = [
+const THREE: [&str; 104] = [
     "^mov.b32_x,1;",
     "mov.b32 x, ^64abc;",
     "mov.b32 x, ^0x1g;",
@@ -145,12 +331,13 @@ const THREE: [&str; 96] = [
     "exit^$;",
     "^exit.;",
     "^EXIT;",
-    "mov.b32 x, ^064;",
-    "mov.b32 x, ^00;",
-    "mov.b32 x, ^01;",
-    "mov.b32 x, ^0x;",
-    "mov.b32 x, ^64U;",
-    "mov.b32 x, ^0b1;",
+    "mov.b32 x, 64 ^u;",
+    "mov.b32 x, 64 ^U;",
+    "mov.b32 x, 0 ^x1;",
+    "mov.b32 x, 0 ^b1;",
+    "mov.b32 x, 0b1^.1;",
+    "mov.b32 x, 0x1^%;",
+    "mov.b32 x, 0b10 ^2;",
     "mov.b32 x, ^-1;",
     "mov.b32 x, ^+1;",
     "mov.b32 x, ^y;",
@@ -165,7 +352,15 @@ const THREE: [&str; 96] = [
     "tcgen05.alloc.cta_group::1.sync.aligned.b32 ^t, 32;",
     "^tcgen05.ld.sync.aligned.32x32b.x3.b32 {r}, [t];",
     "^tcgen05.ld.sync.aligned.32x32b.x256.b32 {r}, [t];",
+    // what stands in an opcode is no number
     "^tcgen05.ld.sync.aligned.32x32b.x01.b32 {r}, [t];",
+    "^tcgen05.ld.sync.aligned.32x32b.x1U.b32 {r}, [t];",
+    "^tcgen05.ld.sync.aligned.32x32b.x0x1.b32 {r}, [t];",
+    "^tcgen05.ld.sync.aligned.32x32b.x0b1.b32 {r}, [t];",
+    "^tcgen05.ld.sync.aligned.020x32b.x1.b32 {r}, [t];",
+    "^tcgen05.alloc.cta_group::01.sync.aligned.b32 [t], 32;",
+    "^tcgen05.alloc.cta_group::1U.sync.aligned.b32 [t], 32;",
+    "^mov.b040 x, 1;",
     "^tcgen05.ld.sync.aligned.16x32bx2.x1.b32 {r}, [t];",
     "^tcgen05.ld.sync.aligned.16x32bx2.b32 {r}, [t];",
     "^tcgen05.mma.sp.ws.cta_group::1.kind::f16 [d], a, b, [m], i, p;",
@@ -219,9 +414,11 @@ pub fn run(counts: &mut Counts) {
         let theirs = reference::read(bytes).map_or_else(|reason| reason, |s| reference::registers_reason(&s));
         counts.compare("readings, read", reason, theirs, reason, shown);
         if !canonical.is_empty() {
-            let mut room = [0; 4096];
-            let (_, length) = proved::statement_canonical(bytes, &mut room);
-            counts.compare("readings, written", reason, &room[..length], canonical.as_bytes(), shown);
+            for (what, side) in [("readings, written", &Proved as &dyn Side), ("readings, written, reference", &Reference)] {
+                let mut room = [0; 4096];
+                let (_, length) = side.canonical(bytes, &mut room);
+                counts.compare(what, reason, &room[..length], canonical.as_bytes(), shown);
+            }
         }
     }
 }
@@ -264,6 +461,7 @@ fn sheet_rows() -> Vec<Sheet> {
     booking_rows(&mut row);
     descriptor_rows(&mut row);
     cell_rows(&mut row);
+    spelling_rows(&mut row);
     t
 }
 
@@ -420,6 +618,50 @@ fn cell_rows(row: Put) {
     row(&[A64, B, "0|mov.b32 i, 0x08100014;", "0|@sparse [t], ^[t+57], b, [t+63], i, p;"], 14, 64, 64);
 }
 
+/// A number's value is what counts, in whatever base.
+fn spelling_rows(row: Put) {
+    // 064 is 52: no request, not what is held, and inside where 64 is not
+    row(&["0|@alloc [t], ^064;"], 9, 0, 0);
+    row(&["0|@alloc [t],   ^064U ;"], 9, 0, 0);
+    row(&[A64, "0|@dealloc t, ^064;"], 9, 64, 64);
+    row(&[A64, "0|@load [t+064];", D64, EXIT], 0, 0, 64);
+    row(&[A64, "0|@load ^[t+0100];"], 14, 64, 64);
+    row(&["0|@alloc [t], ^00;"], 9, 0, 0);
+    for (spelled, others) in [
+        ("040", ["0b100000", "0x20U", "32U"]),
+        ("0B100000", ["040U", "32", "0X20"]),
+        ("32U", ["0b100000U", "0x0020", "00040"]),
+        ("0X20U", ["32", "0B00100000", "040"]),
+    ] {
+        for other in others {
+            row(&[&format!("0|@alloc [t], {spelled};"), &format!("0|@dealloc t, {other};"), EXIT], 0, 0, 32);
+        }
+        row(&[A64, &format!("0|@dealloc t, ^{spelled};")], 9, 64, 64);
+        row(&[A32, &format!("0|@load ^[t+{spelled}];")], 14, 32, 32);
+    }
+    // the words of descriptors
+    let b = "0|mov.b64 b, 02000400004000000U;";
+    let i = "0|mov.b32 i, 0b1000000100000000000000010000;";
+    row(&[A64, b, i, MMA, "3|@load [t+030000000];", D64, EXIT], 0, 0, 64);
+    row(&[A64, B, "0|mov.b32 i, 0b11U;", "0|@mma [t], b, b, ^i, p;"], 12, 64, 64);
+    for over in ["040000000000", "4294967296U", "0x100000000U", "0b100000000000000000000000000000000"] {
+        row(&[&format!("0|mov.b32 x, ^{over};")], 4, 0, 0);
+        row(&[A32, &format!("0|@load [t+^{over}];")], 4, 32, 32);
+        row(&[&format!("0|@mma [t+^{over}], [t+{over}], b, i, p;")], 4, 0, 0);
+        row(&[&format!("0|@mma [t+00U], [t+^{over}], b, i, p;")], 4, 0, 0);
+        row(&[&format!("0|mov.b64 x, {over};"), EXIT], 0, 0, 0);
+    }
+    for run in ["08", "019", "0b", "0b2", "0b102", "0bU", "0x", "0xU", "0o7", "64u", "64UU", "0UU", "64U1", "U"] {
+        row(&[&format!("0|mov.b32 x, ^{run};")], 3, 0, 0);
+        row(&[A32, &format!("0|@load [t+^{run}];")], 3, 32, 32);
+        row(&[&format!("0|@alloc [t], ^{run};")], 3, 0, 0);
+    }
+    // what is no number in a sheet: the warp field
+    for field in ["00", "0U", "0x0", "0b0", "01", "1U"] {
+        row(&[&format!("^{field}|exit;")], 2, 0, 0);
+    }
+}
+
 /// Asks both sides for the answer and the report of each sheet.
 pub fn sheets(counts: &mut Counts) {
     for (lines, [reason, held, peak]) in sheet_rows() {
@@ -440,6 +682,9 @@ pub fn sheets(counts: &mut Counts) {
     }
     asked(counts, b"", [2, 1, 1, 0, 0]);
     asked(counts, b"sheet\t1\tsm_100b\n0\texit;\n", [2, 1, 1, 0, 0]);
+    for version in ["01", "1U", "0x1", "0b1"] {
+        asked(counts, format!("sheet\t{version}\tsm_100a\n0\texit;\n").as_bytes(), [2, 1, 1, 0, 0]);
+    }
     asked(counts, b"sheet\t1\tsm_100a\n0\texit;", [2, 2, 1, 0, 0]);
     asked(counts, b"sheet\t1\tsm_100a\n", [15, 1, 1, 0, 0]);
     asked(counts, &[b' '; 65_537], [1, 0, 0, 0, 0]);

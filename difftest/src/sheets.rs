@@ -4,6 +4,7 @@
 
 use crate::faults::{damage, Fault, FIRST};
 use crate::maker::Maker;
+use crate::spelling::{Spelling, BASES, PREFIXES};
 use staplehorn_difftest::counts::Counts;
 use staplehorn_difftest::proved::{self, Answer};
 use staplehorn_difftest::random::Random;
@@ -11,7 +12,7 @@ use staplehorn_reference::judge::judge;
 use staplehorn_reference::report::report;
 use staplehorn_reference::run::{choose_starts, run as run_steps, End, Outcome};
 use staplehorn_reference::sheet::{steps, Lines, Step};
-use staplehorn_reference::statement::{judge_alone, Statement};
+use staplehorn_reference::statement::{canonical, judge_alone, Statement};
 
 /// What stands in a list or room before a call, to see what was touched.
 const BEFORE: u16 = 0xA5A5;
@@ -30,6 +31,8 @@ pub trait Side {
     fn report(&self, sheet: &[u8], room: &mut [u8]) -> (u32, usize);
     /// The reason and the column of a statement by itself.
     fn statement(&self, text: &[u8]) -> (u32, usize);
+    /// The reason, and the length of its canonical text in the room.
+    fn canonical(&self, text: &[u8], room: &mut [u8]) -> (u32, usize);
 }
 
 /// The library behind its C interface.
@@ -46,6 +49,10 @@ impl Side for Proved {
 
     fn statement(&self, text: &[u8]) -> (u32, usize) {
         proved::statement_reason(text)
+    }
+
+    fn canonical(&self, text: &[u8], room: &mut [u8]) -> (u32, usize) {
+        proved::statement_canonical(text, room)
     }
 }
 
@@ -72,6 +79,13 @@ impl Side for Reference {
     fn statement(&self, text: &[u8]) -> (u32, usize) {
         let verdict = judge_alone(text);
         (verdict.reason, verdict.column)
+    }
+
+    fn canonical(&self, text: &[u8], room: &mut [u8]) -> (u32, usize) {
+        match canonical(text, room) {
+            Ok(length) => (0, length),
+            Err(reason) => (reason, 0),
+        }
     }
 }
 
@@ -179,11 +193,20 @@ impl<'a, S: Side> Comparison<'a, S> {
 
     /// The same, counted by what is at the column.
     fn placed(&mut self, m: &Maker, wanted: [u32; 5], fault: &Fault) {
+        self.spelled(m);
         if let (true, reason) = self.made(&m.bytes, m.allocs, wanted) {
             self.counts.place(reason, fault.what);
             if let Some(also) = fault.also {
                 self.counts.place(reason, also);
             }
+        }
+    }
+
+    /// Counts the numbers of a sheet by their spelling.
+    fn spelled(&mut self, m: &Maker) {
+        for (base, [without, with]) in BASES.into_iter().zip(m.spelled) {
+            self.counts.seen_often("numbers in base", base, without);
+            self.counts.seen_often("numbers with U in base", base, with);
         }
     }
 
@@ -342,6 +365,7 @@ fn valid<S: Side>(c: &mut Comparison<S>, r: &mut Random) {
     m.may_relinquish = true;
     valid_lines(&mut m);
     m.exit();
+    c.spelled(&m);
     if let (true, 16) = c.made(&m.bytes, m.allocs, [0, m.lines, 0, 0, m.peak]) {
         c.counts.place(16, "short list");
     }
@@ -471,7 +495,7 @@ fn changed_byte<S: Side>(c: &mut Comparison<S>, r: &mut Random) {
         let mut other = bytes.clone();
         let (from, to) = if turn < 6 { (before, after) } else { (0, bytes.len()) };
         let at = from + r.below((to - from) as u64) as usize;
-        other[at] = if r.below(3) == 0 { r.next() as u8 } else { r.pick(b" ;,[]{}+0x19aZ_$%.:~") };
+        other[at] = if r.below(3) == 0 { r.next() as u8 } else { r.pick(b" ;,[]{}+0xbU189aZ_$%.:~") };
         c.lists(&other, allocs);
     }
 }
@@ -480,27 +504,27 @@ fn changed_byte<S: Side>(c: &mut Comparison<S>, r: &mut Random) {
 fn every_byte<S: Side>(c: &mut Comparison<S>) {
     let sheet = concat!(
         "sheet\t1\tsm_100a\n",
-        "0\ttcgen05.alloc.cta_group::1.sync.aligned.b32 [t0], 64;\n",
+        "0\ttcgen05.alloc.cta_group::1.sync.aligned.b32 [t0], 64U;\n",
         "*\ttcgen05.alloc.cta_group::1.sync.aligned.shared::cta.b32 [ %t ], 0x20;\n",
-        "1\tmov.b64 a, 0x0000400800100000;\n",
+        "1\tmov.b64 a, 0x0000400800100000U;\n",
         "2\tmov.b64 b, 70403104571392;\n",
-        "3\tmov.b32 i, 0x08100010;\n",
-        "3\tmov.b32 j, 0x08080014;\n",
+        "3\tmov.b32 i, 0b1000000100000000000000010000;\n",
+        "3\tmov.b32 j, 01002000024U;\n",
         "1\ttcgen05.ld.sync.aligned.32x32b.x2.b32 {r0, t0}, [t0+2097214];\n",
-        "2\ttcgen05.st.sync.aligned.16x64b.x1.b32 [%t + 0x500000], {r};\n",
+        "2\ttcgen05.st.sync.aligned.16x64b.x1.b32 [%t + 0X500000], {r};\n",
         "2\ttcgen05.wait::st.sync.aligned;\n",
         "0\ttcgen05.mma.cta_group::1.kind::f16 [t0], a, b, i, p;\n",
-        "0\ttcgen05.mma.sp.cta_group::1.kind::f16 [%t], [t0+56], b, [%t + 30], j, t0;\n",
+        "0\ttcgen05.mma.sp.cta_group::1.kind::f16 [%t], [t0+070], b, [%t + 0B11110U], j, t0;\n",
         "0\ttcgen05.fence::after_thread_sync;\n",
         "0\ttcgen05.relinquish_alloc_permit.cta_group::1.sync.aligned;\n",
-        "0\ttcgen05.dealloc.cta_group::1.sync.aligned.b32 t0, 64;\n",
+        "0\ttcgen05.dealloc.cta_group::1.sync.aligned.b32 t0, 0100;\n",
         "0\ttcgen05.dealloc.cta_group::1.sync.aligned.b32 %t, 32;\n",
         "1\texit;\n",
     );
     c.made(sheet.as_bytes(), 2, [0, 17, 0, 0, 96]);
     for at in 0..sheet.len() {
         let mut bytes = sheet.as_bytes().to_vec();
-        for &byte in b" ;,[]{}+*0123459xXabtijZ_$%.:-~\t\n\0\x7f\x80" {
+        for &byte in b" ;,[]{}+*01234589xXabBUutijZ_$%.:-~\t\n\0\x7f\x80" {
             bytes[at] = byte;
             c.lists(&bytes, 2);
         }
@@ -600,7 +624,7 @@ fn other_header<S: Side>(c: &mut Comparison<S>, r: &mut Random) {
 fn at_limits<S: Side>(c: &mut Comparison<S>, r: &mut Random) {
     for bytes in [65_534, 65_535, 65_536, 65_537, 65_538, 70_000] {
         let mut m = Maker::new(r);
-        let most = [0, 300, 30_000, 62_000][m.r.below(4) as usize];
+        let most = [0, 300, 30_000, 61_000][m.r.below(4) as usize];
         while m.bytes.len() < most {
             m.valid();
         }
@@ -649,7 +673,12 @@ fn small_limits<S: Side>(c: &mut Comparison<S>, r: &mut Random) {
         let text = match m.r.below(3) {
             0 => format!("2\ttcgen05.wait::ld.sync.aligned{};", " ".repeat(length - 32)),
             1 => format!("0\ttcgen05.fence::before_thread_sync{};", " ".repeat(length - 36)),
-            _ => format!("0\tmov.b64 xx, 0x{}1;", "0".repeat(length - 18)),
+            _ => {
+                // as many zeros as the line takes
+                let mut spelling = Spelling { prefix: m.r.pick(&PREFIXES[1..]), capitals: false, zeros: 0, suffix: m.r.below(2) == 0 };
+                spelling.zeros = length - format!("0\tmov.b64 xx, {};", spelling.of(1)).len();
+                format!("0\tmov.b64 xx, {};", spelling.of(1))
+            }
         };
         assert_eq!(text.len(), length);
         m.raw(text.as_bytes());
@@ -684,7 +713,7 @@ fn small_limits<S: Side>(c: &mut Comparison<S>, r: &mut Random) {
     }
     // as many allocs as bytes allow, so that the list is long
     let mut m = Maker::new(r);
-    while m.bytes.len() < 64_000 {
+    while m.bytes.len() < 63_000 {
         let columns = m.r.pick(&[32, 64, 128]);
         if !m.alloc(columns) {
             m.give_all_back();
@@ -774,6 +803,9 @@ fn wanted(sheets: u64) -> Vec<(&'static str, u32, u64)> {
         wanted.push((what, 0, sheets));
     }
     wanted.extend([("run, free starts", 1, 20), ("reports, short room", 19, 100)]);
+    for base in BASES {
+        wanted.extend([("numbers in base", base, 20 * sheets), ("numbers with U in base", base, 10 * sheets)]);
+    }
     wanted
 }
 
@@ -909,6 +941,10 @@ mod tests {
         fn statement(&self, text: &[u8]) -> (u32, usize) {
             Reference.statement(text)
         }
+
+        fn canonical(&self, text: &[u8], room: &mut [u8]) -> (u32, usize) {
+            Reference.canonical(text, room)
+        }
     }
 
     /// The reference with its report changed.
@@ -928,6 +964,10 @@ mod tests {
         fn statement(&self, text: &[u8]) -> (u32, usize) {
             Reference.statement(text)
         }
+
+        fn canonical(&self, text: &[u8], room: &mut [u8]) -> (u32, usize) {
+            Reference.canonical(text, room)
+        }
     }
 
     /// Another value returned than stands in the answer.
@@ -944,6 +984,10 @@ mod tests {
 
         fn statement(&self, text: &[u8]) -> (u32, usize) {
             Reference.statement(text)
+        }
+
+        fn canonical(&self, text: &[u8], room: &mut [u8]) -> (u32, usize) {
+            Reference.canonical(text, room)
         }
     }
 
@@ -1145,6 +1189,10 @@ mod tests {
         fn statement(&self, text: &[u8]) -> (u32, usize) {
             let (reason, column) = Reference.statement(text);
             (reason, if reason == 4 { column - 1 } else { column })
+        }
+
+        fn canonical(&self, text: &[u8], room: &mut [u8]) -> (u32, usize) {
+            Reference.canonical(text, room)
         }
     }
 

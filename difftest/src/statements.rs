@@ -1,7 +1,9 @@
-//! Statements: each text is read and written in its canonical form by both sides, in rooms of several lengths.
+//! Statements: each text is read and written in its canonical form by both sides, in rooms of several lengths. Numbers have
+//! a comparison of their own (numbers.rs), which is run behind this one.
 
+use crate::sheets::{Proved, Reference, Side};
+use crate::spelling::Spelling;
 use staplehorn_difftest::counts::Counts;
-use staplehorn_difftest::proved;
 use staplehorn_difftest::random::Random;
 use staplehorn_reference::statement as reference;
 
@@ -9,27 +11,32 @@ use staplehorn_reference::statement as reference;
 const BEFORE: u8 = 0xA5;
 const ROOM: usize = 4096;
 
-/// Compares both sides on one text.
-struct Comparison {
-    counts: Counts,
+/// Compares a side with the reference on one text.
+pub struct Comparison<'a, S: Side> {
+    pub side: &'a S,
+    pub counts: Counts,
+    /// What the side wrote last in a room that takes all.
+    pub written: Vec<u8>,
     ours: Vec<u8>,
     theirs: Vec<u8>,
 }
 
-impl Comparison {
-    fn new() -> Self {
-        Comparison { counts: Counts::new(), ours: vec![BEFORE; ROOM], theirs: vec![BEFORE; ROOM] }
+impl<'a, S: Side> Comparison<'a, S> {
+    pub fn new(side: &'a S) -> Self {
+        let (ours, theirs) = (vec![BEFORE; ROOM], vec![BEFORE; ROOM]);
+        Comparison { side, counts: Counts::new(), written: Vec::new(), ours, theirs }
     }
 
     /// The canonical text in a room of `room` bytes: answer, length, and every byte of the room and past it.
     fn canonical(&mut self, text: &[u8], room: usize) -> usize {
-        let (reason, length) = proved::statement_canonical(text, &mut self.ours[..room]);
-        let theirs = match reference::canonical(text, &mut self.theirs[..room]) {
-            Ok(n) => (0, n),
-            Err(reason) => (reason, 0),
-        };
+        let (reason, length) = self.side.canonical(text, &mut self.ours[..room]);
+        let theirs = Reference.canonical(text, &mut self.theirs[..room]);
         let same = self.ours[..room] == self.theirs[..room];
         self.counts.compare("canonical", theirs.0, (reason, length, same), (theirs.0, theirs.1, true), || shown(text));
+        if room == ROOM {
+            self.written.clear();
+            self.written.extend_from_slice(&self.ours[..length.min(room)]);
+        }
         let used = length.max(theirs.1).min(room);
         self.ours[..used].fill(BEFORE);
         self.theirs[..used].fill(BEFORE);
@@ -39,11 +46,11 @@ impl Comparison {
         theirs.1
     }
 
-    fn text(&mut self, text: &[u8]) {
+    /// Answers the reason and the column that the reference gives.
+    pub fn text(&mut self, text: &[u8]) -> (u32, usize) {
         self.counts.seen("texts", 0);
-        let theirs = reference::judge_alone(text);
-        let (reason, column) = (theirs.reason, theirs.column);
-        self.counts.compare("reason", reason, proved::statement_reason(text), (reason, column), || shown(text));
+        let (reason, column) = Reference.statement(text);
+        self.counts.compare("reason", reason, self.side.statement(text), (reason, column), || shown(text));
         self.counts.seen(column_name(text, reason, column), reason);
         if let Ok(s) = &reference::read(text) {
             self.counts.seen("form", reference::form(s));
@@ -53,6 +60,7 @@ impl Comparison {
             self.canonical(text, length);
             self.canonical(text, length - 1);
         }
+        (reason, column)
     }
 }
 
@@ -72,7 +80,7 @@ fn column_name(text: &[u8], reason: u32, column: usize) -> &'static str {
     }
 }
 
-fn shown(text: &[u8]) -> String {
+pub fn shown(text: &[u8]) -> String {
     format!("{:?} ({} bytes)", String::from_utf8_lossy(&text[..text.len().min(300)]), text.len())
 }
 
@@ -103,11 +111,10 @@ fn number(r: &mut Random, wide: bool, over: bool) -> String {
             _ => u128::from(r.next() & limit),
         }
     };
-    match r.below(5) {
-        0 => format!("0x{value:x}"),
-        1 => format!("0X{value:X}"),
-        2 => format!("0x{}{value:x}", "0".repeat(r.below(30) as usize)),
-        _ => format!("{value}"),
+    if r.below(3) == 0 {
+        format!("{value}")
+    } else {
+        Spelling::any(r).of(value)
     }
 }
 
@@ -223,7 +230,7 @@ fn spaced(tokens: &[String], mut spaces: impl FnMut(usize) -> usize) -> Vec<u8> 
 }
 
 /// Each way to leave a token out, double one, or exchange two neighbours, and a space in each place.
-fn changes(c: &mut Comparison, tokens: &[String]) {
+fn changes(c: &mut Comparison<Proved>, tokens: &[String]) {
     for i in 0..tokens.len() {
         let mut less = tokens.to_vec();
         less.remove(i);
@@ -241,13 +248,13 @@ fn changes(c: &mut Comparison, tokens: &[String]) {
 }
 
 /// One byte exchanged, left out or put in, anywhere.
-fn damage(c: &mut Comparison, r: &mut Random, text: &[u8]) {
+fn damage(c: &mut Comparison<Proved>, r: &mut Random, text: &[u8]) {
     if text.is_empty() {
         return;
     }
     let mut t = text.to_vec();
     let at = r.below(t.len() as u64) as usize;
-    let byte = if r.below(3) == 0 { r.next() as u8 } else { r.pick(b" ;,[]{}+0x19aZ_$%.:\t\n~") };
+    let byte = if r.below(3) == 0 { r.next() as u8 } else { r.pick(b" ;,[]{}+0xbU189aZ_$%.:\t\n~") };
     match r.below(3) {
         0 => t[at] = byte,
         1 => {
@@ -259,7 +266,7 @@ fn damage(c: &mut Comparison, r: &mut Random, text: &[u8]) {
 }
 
 /// Lengths at their limits.
-fn limits(c: &mut Comparison) {
+fn limits(c: &mut Comparison<Proved>) {
     for n in 14..20 {
         for head in ["r", "_", "%", "$"] {
             c.text(format!("mov.b32 {head}{}, 1;", "a".repeat(n - 1)).as_bytes());
@@ -275,6 +282,7 @@ fn limits(c: &mut Comparison) {
         c.text(format!("exit{blanks};").as_bytes());
         c.text(format!("mov.b64 x, {};", "9".repeat(n - "mov.b64 x, ;".len())).as_bytes());
         c.text(format!("mov.b64 x, 0x{}1;", "0".repeat(n - "mov.b64 x, 0x1;".len())).as_bytes());
+        c.text(format!("mov.b64 x, {}1U;", "0".repeat(n - "mov.b64 x, 1U;".len())).as_bytes());
     }
     for edge in [
         "4294967295",
@@ -285,12 +293,24 @@ fn limits(c: &mut Comparison) {
         "0x100000000",
         "0xFFFFFFFFFFFFFFFF",
         "0x10000000000000000",
+        "037777777777",
+        "040000000000",
+        "01777777777777777777777",
+        "02000000000000000000000",
+        "0b11111111111111111111111111111111",
+        "0b100000000000000000000000000000000U",
         "00",
         "064",
+        "08",
         "0x",
         "0X",
+        "0b",
         "0b1",
+        "0B1U",
+        "0b102",
         "64U",
+        "64u",
+        "64UU",
         "-1",
         "+1",
         "0",
@@ -319,8 +339,11 @@ fn limits(c: &mut Comparison) {
 }
 
 /// Statements of each form, each byte of which is exchanged for every other, and left out.
-const GOOD: [&str; 15] = [
+const GOOD: [&str; 18] = [
     "mov.b32 x, 4294967295;",
+    "mov.b32 x, 040U;",
+    "mov.b64 x ,0B101U ;",
+    "tcgen05.dealloc.cta_group::1.sync.aligned.b32 t0, 0b100000;",
     "mov.b64 %r1 , 0x1F;",
     "tcgen05.alloc.cta_group::1.sync.aligned.b32 [t0], 64;",
     "tcgen05.alloc.cta_group::1.sync.aligned.shared::cta.b32[ t ],0x20 ;",
@@ -337,7 +360,7 @@ const GOOD: [&str; 15] = [
     "exit;",
 ];
 
-fn single_bytes(c: &mut Comparison) {
+fn single_bytes(c: &mut Comparison<Proved>) {
     for text in GOOD {
         for at in 0..text.len() {
             let mut t = text.as_bytes().to_vec();
@@ -355,7 +378,7 @@ fn single_bytes(c: &mut Comparison) {
 }
 
 pub fn run() -> bool {
-    let mut c = Comparison::new();
+    let mut c = Comparison::new(&Proved);
     let mut r = Random::new(2);
     crate::readings::run(&mut c.counts);
     limits(&mut c);
@@ -378,16 +401,16 @@ pub fn run() -> bool {
         // bytes that are no statement
         let n = r.below(40) as usize;
         let noise: Vec<u8> =
-            (0..n).map(|_| if turn % 2 == 0 { r.next() as u8 } else { r.pick(b"exit mov.b32 tcgen05;,[]{}+0x1") }).collect();
+            (0..n).map(|_| if turn % 2 == 0 { r.next() as u8 } else { r.pick(b"exit mov.b32 tcgen05;,[]{}+0x1U") }).collect();
         c.text(&noise);
     }
     let mut wanted = vec![
         ("texts", 0, 1_000_000),
-        ("readings", 0, 20),
-        ("readings", 3, 50),
-        ("readings", 4, 6),
+        ("readings", 0, 480),
+        ("readings", 3, 600),
+        ("readings", 4, 80),
         ("readings", 5, 3),
-        ("readings, written", 0, 20),
+        ("readings, written", 0, 480),
         ("reason", 0, 200_000),
         ("reason", 3, 200_000),
         ("reason", 4, 20_000),
@@ -406,5 +429,6 @@ pub fn run() -> bool {
         ("canonical", 19, 200_000),
     ];
     wanted.extend((0..13).map(|form| ("form", form, 10_000)));
-    c.counts.finish("statements", &wanted)
+    let good = c.counts.finish("statements", &wanted);
+    crate::numbers::run() && good
 }

@@ -1,5 +1,6 @@
 //! The text of a statement, kept as tokens, so that its maker knows where each part stands however it is spaced.
 
+use crate::spelling::Number;
 use staplehorn_difftest::random::Random;
 
 /// Operands by what they are for. `Only` is that of a statement with no other name that is looked up.
@@ -190,13 +191,7 @@ pub fn class(token: &str) -> Class {
         return Class::Byte;
     }
     let percents = token.len() - run.len();
-    let digits =
-        |run: &str, hex: bool| !run.is_empty() && run.chars().all(|c| if hex { c.is_ascii_hexdigit() } else { c.is_ascii_digit() });
-    let is_number = percents == 0
-        && match run.strip_prefix("0x").or(run.strip_prefix("0X")) {
-            Some(hex) => digits(hex, true),
-            None => digits(run, false) && (run == "0" || !run.starts_with('0')),
-        };
+    let is_number = percents == 0 && Number::new(run).is_some();
     let letter = run.starts_with(|c: char| c.is_ascii_alphabetic());
     let is_name = match percents {
         0 if letter => run.len() <= 16,

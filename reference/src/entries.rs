@@ -33,6 +33,9 @@ pub fn all() -> Vec<Entry> {
     layout(&mut e);
     tokens(&mut e);
     numbers(&mut e);
+    bases(&mut e);
+    unsigned(&mut e);
+    no_numbers(&mut e);
     forms(&mut e);
     register_lists(&mut e);
     names_bound(&mut e);
@@ -237,9 +240,10 @@ fn slips(e: &mut Entries) {
     e.refused("offset-2-is-no-lane", &second, [8, 3, 32, 32]);
     let lane_two = ["0|@alloc [t], 32;", "0|@ld(32x32b.x1) {r}, ^[t+131072];"];
     e.refused("lane-2-is-no-warps", &lane_two, [8, 3, 32, 32]);
-    // decimals with a zero in front
-    e.refused("alloc-064", &["0|@alloc [t], ^064;"], [3, 2, 0, 0]);
-    e.refused("dealloc-064", &["0|@alloc [t], 64;", "0|@dealloc t, ^064;"], [3, 3, 64, 64]);
+    // 064 is 52 and never 64
+    e.refused("alloc-064", &["0|@alloc [t], ^064;"], [9, 2, 0, 0]);
+    e.refused("dealloc-064", &["0|@alloc [t], 64;", "0|@dealloc t, ^064;"], [9, 3, 64, 64]);
+    e.passed("alloc-0100", &["0|@alloc [t], 0100;", "0|@dealloc t, 64;", "0|exit;"], 64, &[0]);
     // a part is not given back
     e.refused("dealloc-part", &["0|@alloc [t], 64;", "0|@dealloc t, ^32;"], [9, 3, 64, 64]);
     e.refused("dealloc-more", &["0|@alloc [t], 64;", "0|@dealloc t, ^128;"], [9, 3, 64, 64]);
@@ -412,17 +416,125 @@ fn numbers(e: &mut Entries) {
     let mut three = |name: &str, line: &str| e.refused(name, &[line], [3, 2, 0, 0]);
     three("over-without-end", "0|mov.b32 x, 4294967296^");
     three("over-with-two-ends", "0|mov.b32 x, 4294967296;^;");
-    three("number-064", "0|mov.b32 x, ^064;");
-    three("number-00", "0|mov.b32 x, ^00;");
-    three("number-01", "0|mov.b32 x, ^01;");
     three("number-0x", "0|mov.b32 x, ^0x;");
     three("number-0x1g", "0|mov.b32 x, ^0x1g;");
-    three("number-64U", "0|mov.b32 x, ^64U;");
-    three("number-0b1", "0|mov.b32 x, ^0b1;");
     three("number-minus", "0|mov.b32 x, ^-1;");
     three("number-plus", "0|mov.b32 x, ^+1;");
     e.refused("alloc-largest-number", &["0|@alloc [t], ^4294967295;"], [9, 2, 0, 0]);
     e.passed("alloc-hex", &["0|@alloc [t], 0x40;", "0|@dealloc t, 0X040;", "0|exit;"], 64, &[0]);
+}
+
+/// Every base on both sides of both limits.
+fn bases(e: &mut Entries) {
+    let ones = "1".repeat(64);
+    let zeros = "0".repeat(900);
+    let mut reads = |name: &str, line: &str| e.refused(name, &[line], [15, 2, 0, 0]);
+    for (name, zero) in [("00", "00"), ("000", "000"), ("0x00", "0x00"), ("0b0", "0b0"), ("0b00", "0B00")] {
+        reads(&format!("number-{name}"), &format!("0|mov.b32 x, {zero};"));
+    }
+    reads("number-01", "0|mov.b32 x, 01;");
+    reads("number-064", "0|mov.b32 x, 064;");
+    reads("number-0b1", "0|mov.b32 x, 0b1;");
+    reads("mov32-largest-octal", "0|mov.b32 x, 037777777777;");
+    reads("mov64-largest-octal", "0|mov.b64 x, 01777777777777777777777;");
+    reads("mov32-largest-binary", &format!("0|mov.b32 x, 0b{};", &ones[..32]));
+    reads("mov64-largest-binary", &format!("0|mov.b64 x, 0B{ones};"));
+    reads("octal-with-900-zeros", &format!("0|mov.b32 x, {zeros}37777777777;"));
+    reads("binary-with-900-zeros", &format!("0|mov.b32 x, 0b{zeros}{};", &ones[..32]));
+    let mut four = |name: &str, line: &str| e.refused(name, &[line], [4, 2, 0, 0]);
+    four("mov32-over-octal", "0|mov.b32 x, ^040000000000;");
+    four("mov64-over-octal", "0|mov.b64 x, ^02000000000000000000000;");
+    four("mov32-over-binary", &format!("0|mov.b32 x, ^0b1{};", &zeros[..32]));
+    four("mov64-over-binary", &format!("0|mov.b64 x, ^0b1{};", &zeros[..64]));
+    // a remainder by 2^32 or 2^64 would be 32
+    four("alloc-over-octal", "0|@alloc [t], ^040000000040;");
+    four("alloc-over-binary", &format!("0|@alloc [t], ^0b1{}100000;", &zeros[..26]));
+    four("alloc-over-64-octal", "0|@alloc [t], ^02000000000000000000040;");
+    four("alloc-over-64-binary", &format!("0|@alloc [t], ^0b1{}100000;", &zeros[..58]));
+    four("offset-over-octal", "0|@ld(32x32b.x1) {r}, [t + ^040000000000];");
+    four("offset-over-binary", &format!("0|@st(32x32b.x1) [t+^0b1{}], {{r}};", &zeros[..32]));
+    four("binary-of-900-ones", &format!("0|mov.b64 x, ^0b{};", "1".repeat(900)));
+    four("octal-of-900-sevens", &format!("0|mov.b64 x, ^0{};", "7".repeat(900)));
+    four("over-in-two-bases", "0|@mma(f16) [t+^040000000000], [t+0x100000000], b, i, p;");
+    e.refused("alloc-largest-octal", &["0|@alloc [t], ^037777777777;"], [9, 2, 0, 0]);
+    for (name, columns) in [("binary", "0b100000"), ("binary-capital", "0B100000"), ("octal", "040"), ("octal-zeros", "00040")] {
+        let lines = [format!("0|@alloc [t], {columns};"), format!("0|@dealloc t, {columns};"), "0|exit;".into()];
+        e.passed(&format!("alloc-{name}"), &lines, 32, &[0]);
+    }
+    for (name, columns) in [("binary", "0b100001"), ("octal", "041"), ("octal-32", "032"), ("binary-0", "0b0"), ("octal-0", "00")] {
+        e.refused(&format!("request-{name}"), &[format!("0|@alloc [t], ^{columns};")], [9, 2, 0, 0]);
+    }
+    e.refused("dealloc-octal-differs", &["0|@alloc [t], 32;", "0|@dealloc t, ^032;"], [9, 3, 32, 32]);
+    // lane 32 and the last column of the holding, then one more
+    let last_column = ["0|@alloc [t], 32;", "1|@ld(32x32b.x1) {r}, [t+010000037];", "0|@dealloc t, 32;", "0|exit;"];
+    e.passed("offset-octal", &last_column, 32, &[0]);
+    e.refused("offset-octal-past", &["0|@alloc [t], 32;", "1|@ld(32x32b.x1) {r}, ^[t+010000040];"], [14, 3, 32, 32]);
+    e.refused("offset-zero-and-decimals", &["0|@alloc [t], 32;", "1|@ld(32x32b.x1) {r}, [t+^02097152];"], [3, 3, 32, 32]);
+}
+
+/// A `U` behind a number.
+fn unsigned(e: &mut Entries) {
+    let mut reads = |name: &str, line: &str| e.refused(name, &[line], [15, 2, 0, 0]);
+    reads("number-64U", "0|mov.b32 x, 64U;");
+    let numbers = ["0U", "00U", "0x40U", "0X40U", "040U", "0b1U", "0B1U", "4294967295U", "0xffffffffU", "037777777777U"];
+    for (place, number) in numbers.iter().enumerate() {
+        reads(&format!("unsigned-{place}-{number}"), &format!("0|mov.b32 x, {number};"));
+    }
+    let mut four = |name: &str, line: &str| e.refused(name, &[line], [4, 2, 0, 0]);
+    for number in ["4294967296U", "0x100000000U", "040000000000U", "0b100000000000000000000000000000000U"] {
+        four(&format!("over-{number}"), &format!("0|mov.b32 x, ^{number};"));
+    }
+    four("over-64-U", "0|mov.b64 x, ^18446744073709551616U;");
+    e.refused("alloc-064U", &["0|@alloc [t], ^064U;"], [9, 2, 0, 0]);
+    e.passed(
+        "every-base-whole",
+        &[
+            "0|@alloc [t0], 0b1000000;",
+            "0|@alloc [t1], 040U;",
+            "0|mov.b64 b, 02000400004000000U;",
+            "0|mov.b32 i, 0b1000000100000000000000010000;",
+            "0|@mma(f16) [t0+0U], [t1+0b11000], b, i, p;",
+            "0|@dealloc t0, 0x40U;",
+            "0|@alloc [t2], 32U;",
+            "1|@ld(32x32b.x2) {r0, r1}, [t1+010000000U];",
+            "0|@dealloc t1, 0B100000U;",
+            "0|@dealloc t2, 0X20;",
+            "0|exit;",
+        ],
+        96,
+        &[0, 64, 0],
+    );
+}
+
+/// Words that only begin or end as a number does: no part of them is read.
+fn no_numbers(e: &mut Entries) {
+    let words = [
+        "08", "018", "019", "09", "0789", "0o7", "0b", "0B", "0bU", "0BU", "0b2", "0b12", "0b102", "0b1b", "0bx1", "0X", "0xU", "0XU",
+        "0xg", "0xx1", "00x1", "00b1", "64u", "0u", "0x1u", "0b1u", "0UU", "64UU", "0x1UU", "01UU", "0b1UU", "64U1", "0U0", "0xU1", "U",
+        "UU", "U1", "64L", "1f", "b1", "x1", "1b1", "1x1", "64UL",
+    ];
+    for (place, word) in words.iter().enumerate() {
+        e.refused(&format!("no-number-{place}-{word}"), &[format!("0|mov.b32 x, ^{word};")], [3, 2, 0, 0]);
+        let lines = ["0|@alloc [t], 32;".to_string(), format!("0|@ld(32x32b.x1) {{r}}, [t + ^{word}];")];
+        e.refused(&format!("no-offset-{place}-{word}"), &lines, [3, 3, 32, 32]);
+    }
+    let mut three = |name: &str, line: &str| e.refused(name, &[line], [3, 2, 0, 0]);
+    three("space-before-U", "0|mov.b32 x, 64 ^U;");
+    three("space-in-binary", "0|mov.b32 x, 0 ^b1;");
+    three("binary-without-end", "0|mov.b32 x, 0b100000^");
+    three("over-binary-without-end", &format!("0|mov.b32 x, 0b{}^", "1".repeat(33)));
+    three("bad-digit-behind-900", &format!("0|mov.b32 x, ^0{}8;", "7".repeat(900)));
+    // these digits are no numbers
+    three("num-1U", "0|^@ld(32x32b.x1U) {r}, [t];");
+    three("num-0x1", "0|^@ld(32x32b.x0x1) {r}, [t];");
+    three("num-0b1", "0|^@ld(32x32b.x0b1) {r}, [t];");
+    three("cta-group-01", "0|^tcgen05.alloc.cta_group::01.sync.aligned.b32 [t], 32;");
+    three("cta-group-1U", "0|^tcgen05.alloc.cta_group::1U.sync.aligned.b32 [t], 32;");
+    for (name, digit) in [("01", "01"), ("1U", "1U"), ("0x1", "0x1"), ("0b1", "0b1")] {
+        e.raw(&format!("header-{name}"), format!("sheet\t{digit}\tsm_100a\n0\texit;\n").into(), [2, 1, 0, 0], &[]);
+    }
+    // U is a name
+    e.passed("name-U", &["0|@alloc [U], 32U;", "0|@ld(32x32b.x1) {b1}, [U+0U];", "0|@dealloc U, 040;", "0|exit;"], 32, &[0]);
 }
 
 fn forms(e: &mut Entries) {

@@ -290,17 +290,19 @@ impl<'a> Cursor<'a> {
     fn number(&mut self, limit: u64) -> Option<u64> {
         let word = self.word();
         let start = self.at - word.len();
-        let Some(value) = number_value(word) else {
+        let Some(number) = read_number(word) else {
             self.at = start;
             return None;
         };
         let operand = self.parts.len() - 1;
         self.parts[operand].number = start;
-        if value > u128::from(limit) {
-            self.too_large.get_or_insert(operand);
-            return Some(0);
+        match number {
+            Number::Fits(value) if value <= limit => Some(value),
+            _ => {
+                self.too_large.get_or_insert(operand);
+                Some(0)
+            }
         }
-        Some(value as u64)
     }
 
     fn number64(&mut self) -> Option<u64> {
@@ -351,21 +353,42 @@ impl<'a> Cursor<'a> {
     }
 }
 
-/// The value of a number of any length. Values over 2^64-1 all come out as 2^64.
-fn number_value(word: &[u8]) -> Option<u128> {
-    let over = 1u128 << 64;
-    let (radix, digits) = match word {
-        [b'0', b'x' | b'X', hex @ ..] => (16, hex),
-        [b'0', _, ..] => return None,
-        decimal => (10, decimal),
-    };
+/// A number that was read, in any base.
+enum Number {
+    /// Its value.
+    Fits(u64),
+    /// It is over 2^64-1.
+    TooLarge,
+}
+
+/// The number that the whole word spells, if it spells one. What stands before the
+/// digits tells the base: `0x` 16, `0b` 2, a zero 8, nothing 10. One capital `U`
+/// may end any number.
+fn read_number(word: &[u8]) -> Option<Number> {
+    // no base has U as a digit
+    let word = word.strip_suffix(b"U").unwrap_or(word);
+    match word {
+        [b'0', b'x' | b'X', digits @ ..] => read_digits::<16>(digits),
+        [b'0', b'b' | b'B', digits @ ..] => read_digits::<2>(digits),
+        // the zero is a digit itself, so that 0 alone is a number
+        [b'0', ..] => read_digits::<8>(word),
+        _ => read_digits::<10>(word),
+    }
+}
+
+/// At least one digit, and nothing else.
+fn read_digits<const BASE: u32>(digits: &[u8]) -> Option<Number> {
     if digits.is_empty() {
         return None;
     }
-    let mut value = 0;
+    let mut value = 0u64;
+    let mut fits = true;
     for &byte in digits {
-        let digit = char::from(byte).to_digit(radix)?;
-        value = over.min(value * u128::from(radix) + u128::from(digit));
+        let digit = char::from(byte).to_digit(BASE)?;
+        let (product, over) = value.overflowing_mul(u64::from(BASE));
+        let (sum, carry) = product.overflowing_add(u64::from(digit));
+        value = sum;
+        fits &= !over && !carry;
     }
-    Some(value)
+    Some(if fits { Number::Fits(value) } else { Number::TooLarge })
 }

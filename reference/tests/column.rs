@@ -358,6 +358,12 @@ fn parts_of_a_statement() {
         at(of("p;"), of("p;"), of("p;")),
     ];
     assert_eq!(parts(text), want);
+    let other = "tcgen05.mma.sp.cta_group::1.kind::i8 [ d+1U], [a + 0b] ,b, [m], i ,p;";
+    assert_eq!(judge_alone(other.as_bytes()), Verdict { reason: 3, column: other.find("0b").unwrap() + 1, operand: None });
+    let other = other.replace("0b]", "0b10]").replace("[m]", "[m+ 017U]");
+    let numbers: Vec<usize> = parts(&other).iter().map(|part| part.number).collect();
+    assert_eq!(numbers[..2], [other.find("1U").unwrap(), other.find("0b10").unwrap()]);
+    assert_eq!(numbers[3], other.find("017U").unwrap());
 }
 
 // Over all entries.

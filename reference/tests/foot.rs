@@ -36,6 +36,22 @@ fn a_name_is_printed_for_each_of_its_allocs() {
 }
 
 #[test]
+fn columns_are_printed_in_decimal() {
+    let spelled = sheet(&[
+        "0|@alloc [t], 0b100000;",
+        "0|@alloc [u], 0100U;",
+        "0|@dealloc t, 040;",
+        "0|@alloc [v], 0X20U;",
+        "0|@dealloc u, 64U;",
+        "0|@dealloc v, 0B100000U;",
+        "0|exit;",
+    ]);
+    assert_eq!(foot(&spelled), ("0\t8\t0\t0\t96\nt\t0\t32\nu\t32\t64\nv\t0\t32\n".into(), Some(0)));
+    let octal = sheet(&["0|@alloc [t], 064;"]);
+    assert_eq!(foot(&octal), ("9\t2\t52\t0\t0\n".into(), Some(1)));
+}
+
+#[test]
 fn a_pass_without_allocs_prints_one_line() {
     assert_eq!(foot(&sheet(&["0|exit;"])), ("0\t2\t0\t0\t0\n".into(), Some(0)));
 }

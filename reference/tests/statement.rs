@@ -334,7 +334,8 @@ fn what_a_space_is() {
     for byte in (0..=255u8).filter(|&byte| byte != b' ') {
         let text = [b"mov.b32 x,".as_slice(), &[byte], b"1;"].concat();
         let want = match byte {
-            b'1'..=b'9' => Ok(mov32("x", u64::from(byte - b'0') * 10 + 1)),
+            // 01 is octal, and 1 too
+            b'0'..=b'9' => Ok(mov32("x", u64::from(byte - b'0') * 10 + 1)),
             _ => Err(3),
         };
         assert_eq!(read(&text), want, "{byte}");
@@ -403,12 +404,17 @@ fn numbers() {
         ("0XABCDEF", 0xabcdef),
         ("0x12345678", 0x12345678),
         ("1234567890", 1234567890),
+        ("00", 0),
+        ("01", 1),
+        ("064", 52),
+        ("64U", 64),
+        ("0b1", 1),
     ] {
         reads(&format!("mov.b32 x, {text};"), mov32("x", value));
     }
     for bad in [
-        "064", "00", "01", "0x", "0X", "64U", "0b1", "-1", "+1", "", "1_0", "0x_1", "0xg", "x1", "1.0", "1e3", "0 x1", "$1", "%1", "0x1.0",
-        "00x1", "'1'",
+        "08", "0x", "0X", "64u", "0b2", "-1", "+1", "", "1_0", "0x_1", "0xg", "x1", "1.0", "1e3", "0 x1", "$1", "%1", "0x1.0", "00x1",
+        "'1'",
     ] {
         refused(&format!("mov.b32 x, {bad};"), 3);
         refused(&format!("mov.b64 x, {bad};"), 3);
@@ -752,6 +758,9 @@ fn same_statements() {
     same("tcgen05.alloc.cta_group::1.sync.aligned.shared::cta.b32 [t],32;", "tcgen05.alloc.cta_group::1.sync.aligned.b32 [ t ] , 0x20 ;");
     same(&format!("{LD1} {{r}}, [t+0];"), &format!("{LD1} {{r}}, [t];"));
     same(&format!("{LD1} {{r}}, [t+0x0];"), &format!("{LD1} {{r}}, [t];"));
+    same("mov.b32 x, 064;", "mov.b32 x, 52;");
+    same("mov.b32 x, 0b110100U;", "mov.b32 x, 52;");
+    other("mov.b32 x, 064;", "mov.b32 x, 64;");
     other("mov.b32 x, 1;", "mov.b64 x, 1;");
     other("mov.b32 x, 1;", "mov.b32 y, 1;");
     other(&format!("{LD1} {{r}}, [t];"), &format!("{ST1} [t], {{r}};"));
@@ -770,6 +779,11 @@ fn same_statements() {
 fn canonical_forms() {
     becomes("mov.b32%x,0x10;", "mov.b32 %x, 16;");
     becomes("mov.b64   x  ,  0XFFFFFFFFFFFFFFFF  ;", "mov.b64 x, 18446744073709551615;");
+    becomes("mov.b32 x, 0b100000U;", "mov.b32 x, 32;");
+    becomes("mov.b64 x, 01777777777777777777777;", "mov.b64 x, 18446744073709551615;");
+    becomes(&format!("{DEALLOC} t, 040U;"), &format!("{DEALLOC} t, 32;"));
+    becomes(&format!("{LD1} {{r}}, [t+00U];"), &format!("{LD1} {{r}}, [t];"));
+    becomes(&format!("{MMA_SP} [d+0b1], [a+07], b, [m+8U], i, p;"), &format!("{MMA_SP} [d+1], [a+7], b, [m+8], i, p;"));
     becomes("exit   ;", "exit;");
     becomes(&format!("{RELINQUISH}  ;"), &format!("{RELINQUISH};"));
     becomes(&format!("{DEALLOC}   t,0x20;"), &format!("{DEALLOC} t, 32;"));
