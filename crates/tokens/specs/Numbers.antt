@@ -37,10 +37,10 @@ pub record Spelling : Type 0 where
   pub unsigned : Bool
 
 abbrev pub hexadecimals : Spelling
-hexadecimals = record { prefix = bytes "0" ∷ (bytes "xX" ∷ []); base = 16; digits = bytes "0123456789ABCDEFabcdef"; fewest = 1; unsigned = true }
+hexadecimals = record { prefix = bytes "0" ∷ bytes "xX" ∷ []; base = 16; digits = bytes "0123456789ABCDEFabcdef"; fewest = 1; unsigned = true }
 
 abbrev pub binaries : Spelling
-binaries = record { prefix = bytes "0" ∷ (bytes "bB" ∷ []); base = 2; digits = bytes "01"; fewest = 1; unsigned = true }
+binaries = record { prefix = bytes "0" ∷ bytes "bB" ∷ []; base = 2; digits = bytes "01"; fewest = 1; unsigned = true }
 
 -- 0 alone too
 abbrev pub octals : Spelling
@@ -51,7 +51,7 @@ decimals = record { prefix = []; base = 10; digits = bytes "0123456789"; fewest 
 
 -- a token goes by the first row with whose prefix it begins, so that none with a zero before other bytes is decimal
 abbrev pub spellings : List Spelling
-spellings = hexadecimals ∷ (binaries ∷ (octals ∷ (decimals ∷ [])))
+spellings = hexadecimals ∷ binaries ∷ octals ∷ decimals ∷ []
 
 -- ---- how a token goes by the table
 -- at each place stands one of the bytes that may
