@@ -98,6 +98,11 @@ fn text(name: &str) -> Option<Vec<u8>> {
     let text = match name {
         "mov" => "mov.b32 idesc, 0x08100010;".into(),
         "mov64" => "mov.b64 adesc, 0x0000400800100000;".into(),
+        "zero" => "mov.b32 x, 0;".into(),
+        "decimal" => "mov.b32 x, 4294967295;".into(),
+        "decimal64" => "mov.b64 x, 18446744073709551615;".into(),
+        "octal" => "mov.b32 x, 037777777777;".into(),
+        "binary" => "mov.b32 x, 0b100000U;".into(),
         "alloc" => "tcgen05.alloc.cta_group::1.sync.aligned.shared::cta.b32 [taddr], 128;".into(),
         "dealloc" => "tcgen05.dealloc.cta_group::1.sync.aligned.b32 taddr, 128;".into(),
         "ld4" => format!("tcgen05.ld.sync.aligned.32x32b.x4.b32 {{{}}}, [taddr+2097152];", list(4)),
