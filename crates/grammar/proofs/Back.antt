@@ -13,11 +13,11 @@ use borrow.Author.Tests.{ne-eqb, eqb-true, leb-true, le-leb, lt-ltb}
 use Rattle.tokens.specs.Text.{byte, bytes}
 use Rattle.tokens.specs.Bytes.{between, letter, wordByte, all}
 use Rattle.tokens.specs.Names.{sigil, isName, byteDigits, packed, lowBytes, strip, nameBytes, nameGiven}
-use Rattle.tokens.specs.Numbers.{digitOf, positional, among, Spelling, decimals, spellings, byRow, digitsLen, spells, worth, isNumber, valueOf, lowDigits, trimmed, decimal}
+use Rattle.tokens.specs.Numbers.{digitOf, positional, among, Notation, decimals, notations, byRow, digitsLen, spells, worth, isNumber, valueOf, lowDigits, trimmed, decimal}
 use Rattle.tokens.proofs.Names.{same-name}
 use Rattle.laws.proofs.BoolLaws.{bool, and-split}
 use Rattle.tokens.proofs.Runs.{run-all}
-use Rattle.tokens.proofs.Spellings.{digits-below}
+use Rattle.tokens.proofs.Notations.{digits-below}
 use Rattle.tokens.proofs.Lengths.{digits-length}
 use Rattle.grammar.proofs.Lexing.{starts, whole, name-whole}
 
@@ -201,7 +201,7 @@ unfolding decimal
 decimal-trimmed v = trim-some (lowDigits 20 v) (omega (arith, digits-length 20 v)) (low-digits 20 v)
 
 -- each row but the last asks for a 0 first
-last-row : {A : Type 0} (o : A) (f : Spelling → List ℕ → A) (d : List ℕ) → eqb (getD d 0 0) (byte "0") ≡ false → byRow o f spellings d ≡ f decimals d
+last-row : {A : Type 0} (o : A) (f : Notation → List ℕ → A) (d : List ℕ) → eqb (getD d 0 0) (byte "0") ≡ false → byRow o f notations d ≡ f decimals d
 last-row o f [] h = refl
 last-row o f (x ∷ d) h = rw h
 

@@ -16,7 +16,7 @@ use Rattle.tokens.specs.Numbers.{isNumber, valueOf}
 use Rattle.tokens.specs.Cursors.{Rest, on, off, large, Took, markHere, markC, endC, nameHere, nameC, numberIs, numberHere, numberC}
 use Rattle.laws.proofs.BoolLaws.{never, and-split}
 use Rattle.tokens.proofs.Runs.{run-all, run-ends}
-use Rattle.tokens.proofs.Spellings.{number-words}
+use Rattle.tokens.proofs.Notations.{number-words}
 use Rattle.grammar.specs.Spells.{spaces, Mark, Word, NameText, NumberText}
 
 -- ---- spaces

@@ -276,29 +276,16 @@ places =
     ("tcgen05.ld.sync.aligned.32x32b.x128.b32 {r,r,r,r,r,r,r,r,r,r,r,r,r,r,r,r,r,r,r,r,r,r,r,r,r,r,r,r,r,r,r,r,r,r,r,r,r,r,r,r,r,r,r,r,r,r,r,r,r,r,r,r,r,r,r,r,r,r,r,r,r,r,r,r,r,r,r,r,r,r,r,r,r,r,r,r,r,r,r,r,r,r,r,r,r,r,r,r,r,r,r,r,r,r,r,r,r,r,r,r,r,r,r,r,r,r,r,r,r,r,r,r,r,r,r,r,r,r,r,r,r,r,r,r,r,r,r,r,r}, [t];", NoForm 296) ∷
     []
 
--- Of numbers, both places are those of the token's first byte, wherever in it a wrong byte stands. Digits of an opcode are no number.
+-- The places of 3 and 4 are those of the token's first byte, wherever in it a wrong byte stands (`tokens/specs/Worked.antt` has more tokens). Digits of an opcode are no number.
 abbrev pub numberPlaces : List (String × Reading)
 numberPlaces =
     ("mov.b32 x, 08;", NoForm 11) ∷
-    ("mov.b32 x, 019;", NoForm 11) ∷
-    ("mov.b32 x, 0b;", NoForm 11) ∷
-    ("mov.b32 x, 0bU;", NoForm 11) ∷
-    ("mov.b32 x, 0b2;", NoForm 11) ∷
-    ("mov.b32 x, 0b12;", NoForm 11) ∷
     ("mov.b32 x, 0b102;", NoForm 11) ∷
-    ("mov.b32 x, 0x;", NoForm 11) ∷
     ("mov.b32 x, 0xU;", NoForm 11) ∷
-    ("mov.b32 x, 0x1G;", NoForm 11) ∷
-    ("mov.b32 x, 0xUU;", NoForm 11) ∷
-    ("mov.b32 x, 0U1;", NoForm 11) ∷
     ("mov.b32 x, 64u;", NoForm 11) ∷
     ("mov.b32 x, 0UU;", NoForm 11) ∷
-    ("mov.b32 x, 64UU;", NoForm 11) ∷
-    ("mov.b32 x, 64U1;", NoForm 11) ∷
-    ("mov.b32 x, 0o7;", NoForm 11) ∷
-    ("mov.b32 x, U;", NoForm 11) ∷
-    ("mov.b32 x, 0_1;", NoForm 11) ∷
-    ("mov.b32 x, 0x1u;", NoForm 11) ∷
+    ("mov.b32 x, %0;", NoForm 11) ∷
+    ("mov.b32 x, 0%;", NoForm 12) ∷
     ("mov.b32 x,   0000000000000008;", NoForm 13) ∷
     ("tcgen05.alloc.cta_group::1.sync.aligned.b32 [t], 0b2U;", NoForm 49) ∷
     ("tcgen05.dealloc.cta_group::1.sync.aligned.b32 t, 09;", NoForm 49) ∷
@@ -365,27 +352,16 @@ canonicals =
     ("tcgen05.wait::ld.sync.aligned ;", bytes "tcgen05.wait::ld.sync.aligned;") ∷
     []
 
--- Numbers of each spelling, in decimal.
+-- Numbers of each base and in each operand, in decimal.
 abbrev pub inDecimal : List (String × List ℕ)
 inDecimal =
     ("mov.b32 x, 0;", bytes "mov.b32 x, 0;") ∷
-    ("mov.b32 x, 00;", bytes "mov.b32 x, 0;") ∷
-    ("mov.b32 x, 000;", bytes "mov.b32 x, 0;") ∷
-    ("mov.b32 x, 0U;", bytes "mov.b32 x, 0;") ∷
     ("mov.b32 x, 00U;", bytes "mov.b32 x, 0;") ∷
-    ("mov.b32 x, 0x0;", bytes "mov.b32 x, 0;") ∷
-    ("mov.b32 x, 0b0U;", bytes "mov.b32 x, 0;") ∷
-    ("mov.b32 x, 0B1;", bytes "mov.b32 x, 1;") ∷
     ("mov.b32 x, 0b100000;", bytes "mov.b32 x, 32;") ∷
-    ("mov.b32 x, 0B100000U;", bytes "mov.b32 x, 32;") ∷
-    ("mov.b32 x, 040;", bytes "mov.b32 x, 32;") ∷
     ("mov.b32 x, 040U;", bytes "mov.b32 x, 32;") ∷
     ("mov.b32 x, 064;", bytes "mov.b32 x, 52;") ∷
-    ("mov.b32 x, 0777;", bytes "mov.b32 x, 511;") ∷
     ("mov.b32 x, 0X20U;", bytes "mov.b32 x, 32;") ∷
-    ("mov.b32 x, 0xaBcDeF;", bytes "mov.b32 x, 11259375;") ∷
     ("mov.b32 x, 64U;", bytes "mov.b32 x, 64;") ∷
-    ("mov.b32 x, 4294967295U;", bytes "mov.b32 x, 4294967295;") ∷
     ("mov.b64 x, 0xFFFFFFFFFFFFFFFFU;", bytes "mov.b64 x, 18446744073709551615;") ∷
     ("mov.b64 x, 0b1111111111111111111111111111111111111111111111111111111111111111U;", bytes "mov.b64 x, 18446744073709551615;") ∷
     ("mov.b64 x, 01777777777777777777777U;", bytes "mov.b64 x, 18446744073709551615;") ∷

@@ -6,62 +6,78 @@ use native.Mathlib.Omega.{arith}
 use native.Mathlib.Decide.{decLe}
 use mathlib.Core.Path.{_≡_, refl, sym, ap, _∙_}
 use mathlib.Core.List.{List, [], _∷_}
+use mathlib.Core.Logic.{⊎-elim}
 use mathlib.Core.Bool.{Bool, true, false, _&&_, _||_, not, true≢false, cond, and-false}
 use lib.ListN.{length, getD, take, drop, drop-of-length-le}
 use lib.Seq.{drop-cons, drop-drop, getD-drop, length-take-le}
 use lib.Dec.{ltb, leb, eqb}
-use borrow.Author.Tests.{eq-eqb, ne-eqb, le-leb, lt-leb, lt-ltb, le-ltb, ltb-true, ltb-false, not-true}
-use Rattle.laws.proofs.BoolLaws.{never, and-split}
+use borrow.Author.Tests.{eq-eqb, ne-eqb, le-leb, lt-leb, lt-ltb, le-ltb, ltb-true, ltb-false, leb-true}
+use Rattle.laws.proofs.BoolLaws.{never, and-l, and-r, and-split}
 use Rattle.tokens.specs.declared.Numeral.{Numeral}
 use Rattle.tokens.specs.Text.{bytes}
 use Rattle.tokens.specs.Bytes.{sameBytes, wordByte, letter, runLen, all, tokenLen, tokenOf, afterToken}
-use Rattle.tokens.specs.Numbers.{digitOf, among, positional, Spelling, hexadecimals, binaries, octals, decimals, spellings, begins, byRow, digitsLen, ending, spells, worth, isNumber, valueOf, numeralOf, fitted, noNumeral}
+use Rattle.tokens.specs.Numbers.{digitOf, among, positional, Notation, hexadecimals, binaries, octals, decimals, notations, begins, byRow, digitsLen, ending, spells, worth, isNumber, valueOf, numeralOf, fitted, noNumeral}
 use Rattle.tokens.specs.Cursors.{Rest, on, off, numberHere}
-use Rattle.lexer.specs.declared.number.Notation.{Notation}
-use Rattle.lexer.specs.declared.number.Notation.the-variants as notation
-use Rattle.lexer.specs.Runs.{rowOf, digitBelow, roomyOf, digitsAfter, wordsOf, tailLen, rowNumeral}
-use Rattle.tokens.proofs.Runs.{run-stop, run-past, run-le}
+use Rattle.lexer.specs.declared.number.Base.{Base}
+use Rattle.lexer.specs.declared.number.Base.the-variants as base
+use Rattle.lexer.specs.Runs.{notationOf, digitBelow, roomyOf, wordsOf, tailLen, rowNumeral}
+use Rattle.tokens.proofs.Runs.{run-stop, run-past}
 use Rattle.tokens.proofs.Lengths.{token-le}
-use Rattle.tokens.proofs.Spellings.{among-each, not-among, digitsBelow, digits-below, each, prefixWords, wordy, spellings-wordy, begins-length, number-words}
+use Rattle.tokens.proofs.Notations.{among-each, not-among, digitsBelow, digits-below, ending-is, each, prefixWords, wordy, notations-wordy, begins-length, number-words}
 use Rattle.lexer.proofs.Laws.{word-0}
 
--- ---- what is computed once for each notation
-row-below : (n : Notation) → digitsBelow (rowOf n) ≡ true
-unfolding digitOf
-row-below notation.Hexadecimal = refl
-row-below notation.Binary = refl
-row-below notation.Octal = refl
-row-below notation.Decimal = refl
+-- ---- what is computed once for each base
+abbrev fine : Notation → Bool
+fine r = digitsBelow r && (all wordByte (r .digits) && (r .unsigned && (ltb 0 (r .base) && leb (length (r .prefix)) 2)))
 
-pub row-some : (n : Notation) → 0 < rowOf n .base
-row-some notation.Hexadecimal = omega arith
-row-some notation.Binary = omega arith
-row-some notation.Octal = omega arith
-row-some notation.Decimal = omega arith
+each-fine : (b : Base) → fine (notationOf b) ≡ true
+unfolding digitOf wordByte letter
+each-fine base.Hexadecimal = refl
+each-fine base.Binary = refl
+each-fine base.Octal = refl
+each-fine base.Decimal = refl
 
--- ---- digits
-pub digit-same : (n : Notation) (x : ℕ) → among (rowOf n .digits) x ≡ digitBelow (rowOf n .base) x
-digit-same n x = digits-below (rowOf n) (row-below n) x
+module _ (b : Base) where
+  abbrev row : Notation
+  row = notationOf b
 
-pub digit-no : (n : Notation) (x : ℕ) → rowOf n .base ≤ digitOf x → among (rowOf n .digits) x ≡ false
-digit-no n x h = digit-same n x ∙ le-ltb _ _ h
+  facts : (row .unsigned ≡ true) × (0 < row .base) × (length (row .prefix) ≤ 2)
+  facts =
+      let p = and-split (digitsBelow row) (all wordByte (row .digits) && (row .unsigned && (ltb 0 (row .base) && leb (length (row .prefix)) 2))) (each-fine b) in
+      let q = and-split (all wordByte (row .digits)) (row .unsigned && (ltb 0 (row .base) && leb (length (row .prefix)) 2)) (p .1) in
+      let t = and-split (row .unsigned) (ltb 0 (row .base) && leb (length (row .prefix)) 2) (q .1) in
+      let u = and-split (ltb 0 (row .base)) (leb (length (row .prefix)) 2) (t .1) in
+      (t .0, ltb-true 0 (row .base) (u .0), leb-true (length (row .prefix)) 2 (u .1))
 
-pub digit-is : (n : Notation) (x : ℕ) → digitOf x < rowOf n .base → among (rowOf n .digits) x ≡ true
-digit-is n x h = digit-same n x ∙ lt-ltb _ _ h
+  pub prefix-le : length (row .prefix) ≤ 2
+  prefix-le = facts .2
+
+  -- ---- digits
+  digit-same : (x : ℕ) → among (row .digits) x ≡ digitBelow (row .base) x
+  digit-same x = digits-below row (and-l (digitsBelow row) _ (each-fine b)) x
+
+  digit-words : all wordByte (row .digits) ≡ true
+  digit-words = and-l (all wordByte (row .digits)) _ (and-r (digitsBelow row) _ (each-fine b))
+
+  pub digit-no : (x : ℕ) → row .base ≤ digitOf x → among (row .digits) x ≡ false
+  digit-no x h = digit-same x ∙ le-ltb _ _ h
+
+  pub digit-is : (x : ℕ) → digitOf x < row .base → among (row .digits) x ≡ true
+  digit-is x h = digit-same x ∙ lt-ltb _ _ h
 
 run-same : (f g : ℕ → Bool) → ((x : ℕ) → f x ≡ g x) → (l : List ℕ) → runLen f l ≡ runLen g l
 run-same f g h [] = refl
 run-same f g h (x ∷ l) = rw (h x, run-same f g h l)
 
-pub run-below : (n : Notation) (l : List ℕ) → runLen (digitBelow (rowOf n .base)) l ≡ digitsLen (rowOf n) l
-run-below n l = sym (run-same (among (rowOf n .digits)) (digitBelow (rowOf n .base)) (digit-same n) l)
+pub run-below : (b : Base) (l : List ℕ) → runLen (digitBelow (notationOf b .base)) l ≡ digitsLen (notationOf b) l
+run-below b l = sym (run-same (among (notationOf b .digits)) (digitBelow (notationOf b .base)) (digit-same b) l)
 
 -- ---- room for a digit more
-pub room-below : (n : Notation) (v d : ℕ) → d < rowOf n .base → v ≤ roomyOf n → true ≡ ltb (v * rowOf n .base + d) (2 ^ 64)
-room-below notation.Hexadecimal v d h p = rw (lt-ltb (v * 16 + d) (2 ^ 64) (omega arith))
-room-below notation.Binary v d h p = rw (lt-ltb (v * 2 + d) (2 ^ 64) (omega arith))
-room-below notation.Octal v d h p = rw (lt-ltb (v * 8 + d) (2 ^ 64) (omega arith))
-room-below notation.Decimal v d h p = rw (lt-ltb (v * 10 + d) (2 ^ 64) (omega arith))
+pub room-below : (b : Base) (v d : ℕ) → d < notationOf b .base → v ≤ roomyOf b → true ≡ ltb (v * notationOf b .base + d) (2 ^ 64)
+room-below base.Hexadecimal v d h p = rw (lt-ltb (v * 16 + d) (2 ^ 64) (omega arith))
+room-below base.Binary v d h p = rw (lt-ltb (v * 2 + d) (2 ^ 64) (omega arith))
+room-below base.Octal v d h p = rw (lt-ltb (v * 8 + d) (2 ^ 64) (omega arith))
+room-below base.Decimal v d h p = rw (lt-ltb (v * 10 + d) (2 ^ 64) (omega arith))
 
 room-last : (v d : ℕ) → d < 10 → 1844674407370955160 < v → (eqb v 1844674407370955161 && leb d 5) ≡ ltb (v * 10 + d) (2 ^ 64)
 room-last v d h g = go (decLe (2 ^ 64) (v * 10 + d))
@@ -75,20 +91,20 @@ room-last v d h g = go (decLe (2 ^ 64) (v * 10 + d))
     go (no q) = rw (lt-ltb (v * 10 + d) (2 ^ 64) (omega arith), eq-eqb v 1844674407370955161 (omega arith), le-leb d 5 (omega arith))
 
 -- and past that
-abbrev roomBy : Notation → ℕ → ℕ → Bool
-roomBy notation.Hexadecimal v d = false
-roomBy notation.Binary v d = false
-roomBy notation.Octal v d = false
-roomBy notation.Decimal v d = eqb v 1844674407370955161 && leb d 5
+abbrev roomBy : Base → ℕ → ℕ → Bool
+roomBy base.Hexadecimal v d = false
+roomBy base.Binary v d = false
+roomBy base.Octal v d = false
+roomBy base.Decimal v d = eqb v 1844674407370955161 && leb d 5
 
-room-over : (n : Notation) (v d : ℕ) → d < rowOf n .base → roomyOf n < v → roomBy n v d ≡ ltb (v * rowOf n .base + d) (2 ^ 64)
-room-over notation.Hexadecimal v d h p = rw (le-ltb (v * 16 + d) (2 ^ 64) (omega arith))
-room-over notation.Binary v d h p = rw (le-ltb (v * 2 + d) (2 ^ 64) (omega arith))
-room-over notation.Octal v d h p = rw (le-ltb (v * 8 + d) (2 ^ 64) (omega arith))
-room-over notation.Decimal v d h p = room-last v d h p
+room-over : (b : Base) (v d : ℕ) → d < notationOf b .base → roomyOf b < v → roomBy b v d ≡ ltb (v * notationOf b .base + d) (2 ^ 64)
+room-over base.Hexadecimal v d h p = rw (le-ltb (v * 16 + d) (2 ^ 64) (omega arith))
+room-over base.Binary v d h p = rw (le-ltb (v * 2 + d) (2 ^ 64) (omega arith))
+room-over base.Octal v d h p = rw (le-ltb (v * 8 + d) (2 ^ 64) (omega arith))
+room-over base.Decimal v d h p = room-last v d h p
 
-pub room-past : (n k : Notation) (most v d : ℕ) → n ≡ k → (most ≡ roomyOf n) × (d < rowOf n .base) → most < v → roomBy k v d ≡ ltb (v * rowOf n .base + d) (2 ^ 64)
-room-past n k most v d e h g = ap (λ (k : Notation). roomBy k v d) (sym e) ∙ room-over n v d (h .1) (rw (h .0) at g)
+pub room-past : (b k : Base) (most v d : ℕ) → b ≡ k → (most ≡ roomyOf b) × (d < notationOf b .base) → most < v → roomBy k v d ≡ ltb (v * notationOf b .base + d) (2 ^ 64)
+room-past b k most v d e h g = ap (λ (k : Base). roomBy k v d) (sym e) ∙ room-over b v d (h .1) (rw (h .0) at g)
 
 -- a number is at least what stands before its last digits
 grows : (base v : ℕ) → 0 < base → (l : List ℕ) → v ≤ positional base v l
@@ -103,34 +119,30 @@ pub fit-over : (used w : ℕ) → 2 ^ 64 ≤ w → record { ok = true; over = tr
 unfolding fitted
 fit-over used w h = rw (le-ltb w (2 ^ 64) h)
 
--- the same number of other bytes
-refit : (k used v : ℕ) (d : Numeral) → d ≡ fitted k v → record { ok = true; over = d .over; value = d .value; used = used } ≡ fitted used v
-unfolding fitted
-refit k used v d e = ap (λ (n : Numeral). record { ok = true; over = n .over; value = n .value; used = used }) e ∙ go (ltb v (2 ^ 64))
-  where
-    by : Bool → ℕ → Numeral
-    by b k = cond b (record { ok = true; over = false; value = v; used = k }) (record { ok = true; over = true; value = 0; used = k })
+-- the number that the digits are, after v
+abbrev pub digitsAfter : Notation → ℕ → List ℕ → ℕ
+digitsAfter r v l = positional (r .base) v (take (digitsLen r l) l)
 
-    go : (b : Bool) → record { ok = true; over = by b k .over; value = by b k .value; used = used } ≡ by b used
-    go true = refl
-    go false = refl
+pub after-0 : (r : Notation) (l : List ℕ) → digitsAfter r 0 l ≡ worth r l
+unfolding worth
+after-0 r l = refl
 
 -- one turn of the loop that reads digits
-module _ (n : Notation) (s : List ℕ) (v i : ℕ) where
-  pub after-step : i < length s → digitOf (getD s i 0) < rowOf n .base
-      → digitsAfter (rowOf n) v (drop i s) ≡ digitsAfter (rowOf n) (v * rowOf n .base + digitOf (getD s i 0)) (drop (i + 1) s)
-  after-step h g = rw (add-one i, drop-cons s i 0 h, digit-is n (getD s i 0) g)
+module _ (b : Base) (s : List ℕ) (v i : ℕ) where
+  pub after-step : i < length s → digitOf (getD s i 0) < notationOf b .base
+      → digitsAfter (notationOf b) v (drop i s) ≡ digitsAfter (notationOf b) (v * notationOf b .base + digitOf (getD s i 0)) (drop (i + 1) s)
+  after-step h g = rw (add-one i, drop-cons s i 0 h, digit-is b (getD s i 0) g)
 
-  pub after-stop : i < length s → rowOf n .base ≤ digitOf (getD s i 0) → digitsAfter (rowOf n) v (drop i s) ≡ v
-  after-stop h g = rw (run-stop (among (rowOf n .digits)) s i h (digit-no n (getD s i 0) g))
+  pub after-stop : i < length s → notationOf b .base ≤ digitOf (getD s i 0) → digitsAfter (notationOf b) v (drop i s) ≡ v
+  after-stop h g = rw (run-stop (among (notationOf b .digits)) s i h (digit-no b (getD s i 0) g))
 
-  pub after-past : length s ≤ i → digitsAfter (rowOf n) v (drop i s) ≡ v
-  after-past h = rw (run-past (among (rowOf n .digits)) s i h)
+  pub after-past : length s ≤ i → digitsAfter (notationOf b) v (drop i s) ≡ v
+  after-past h = rw (run-past (among (notationOf b .digits)) s i h)
 
-  pub after-over : i < length s → digitOf (getD s i 0) < rowOf n .base → 2 ^ 64 ≤ v * rowOf n .base + digitOf (getD s i 0) → 2 ^ 64 ≤ digitsAfter (rowOf n) v (drop i s)
+  pub after-over : i < length s → digitOf (getD s i 0) < notationOf b .base → 2 ^ 64 ≤ v * notationOf b .base + digitOf (getD s i 0) → 2 ^ 64 ≤ digitsAfter (notationOf b) v (drop i s)
   after-over h g o =
       rw (after-step h g)
-      (omega (arith, grows (rowOf n .base) (v * rowOf n .base + digitOf (getD s i 0)) (row-some n) (take (digitsLen (rowOf n) (drop (i + 1) s)) (drop (i + 1) s))))
+      (omega (arith, grows (notationOf b .base) (v * notationOf b .base + digitOf (getD s i 0)) (facts b .1) (take (digitsLen (notationOf b) (drop (i + 1) s)) (drop (i + 1) s))))
 
 -- ---- the word bytes at the head
 -- of n bytes of a run at the head of l, all of them word bytes, and the word bytes w there
@@ -148,30 +160,9 @@ words-parts f are (x ∷ l) = go (f x) (wordByte x) refl refl (words-parts f are
     go false true p q i = (rw p, refl, rw q, rw q (omega arith))
     go false false p q i = (refl, refl, rw q, rw q)
 
-row-words : (n : Notation) → all wordByte (rowOf n .digits) ≡ true
-unfolding wordByte letter
-row-words notation.Hexadecimal = refl
-row-words notation.Binary = refl
-row-words notation.Octal = refl
-row-words notation.Decimal = refl
-
-pub prefix-le : (n : Notation) → length (rowOf n .prefix) ≤ 2
-prefix-le notation.Hexadecimal = omega arith
-prefix-le notation.Binary = omega arith
-prefix-le notation.Octal = omega arith
-prefix-le notation.Decimal = omega arith
-
-row-unsigned : (n : Notation) → rowOf n .unsigned ≡ true
-row-unsigned notation.Hexadecimal = refl
-row-unsigned notation.Binary = refl
-row-unsigned notation.Octal = refl
-row-unsigned notation.Decimal = refl
-
 -- ---- what follows the digits
 ending-length : (l : List ℕ) → ending true l ≡ true → length l ≤ 1
-ending-length [] h = omega arith
-ending-length (x ∷ []) h = omega arith
-ending-length (x ∷ (y ∷ l)) h = never (sym (and-false (eqb x 85)) ∙ h)
+ending-length l h = ⊎-elim (λ e. rw e (omega arith)) (λ e. rw e (omega arith)) (ending-is true l h)
 
 tail-by : (b : Bool) (k : ℕ) → (b ≡ true → k ≤ 1) → 1 < cond b k 2 → b ≡ false
 tail-by true k h g = absurd (omega (arith, h refl))
@@ -220,31 +211,31 @@ module _ (s : List ℕ) (at : ℕ) where
         rw (drop-cons s at 0 h, e, p .0, words-none (drop (suc at) s) (rw next (p .1)))
 
 -- ---- a number by its row, in the words of the code: its digits start at `first` and end at `end`
-module _ (n : Notation) (s : List ℕ) (first end : ℕ) (h : end ≡ first + digitsLen (rowOf n) (drop first s)) where
-  parts : Parts (among (rowOf n .digits)) (drop first s) (digitsLen (rowOf n) (drop first s)) (wordsOf (drop first s))
-  parts = words-parts (among (rowOf n .digits)) (λ x. among-each wordByte (rowOf n .digits) x (row-words n)) (drop first s)
+module _ (b : Base) (s : List ℕ) (first end : ℕ) (h : end ≡ first + digitsLen (notationOf b) (drop first s)) where
+  parts : Parts (among (notationOf b .digits)) (drop first s) (digitsLen (notationOf b) (drop first s)) (wordsOf (drop first s))
+  parts = words-parts (among (notationOf b .digits)) (λ x. among-each wordByte (notationOf b .digits) x (digit-words b)) (drop first s)
 
-  count : end - first ≡ digitsLen (rowOf n) (drop first s)
+  count : end - first ≡ digitsLen (notationOf b) (drop first s)
   count = omega (arith, h)
 
-  after : drop (digitsLen (rowOf n) (drop first s)) (drop first s) ≡ drop end s
+  after : drop (digitsLen (notationOf b) (drop first s)) (drop first s) ≡ drop end s
   after = rw (drop-drop, h)
 
-  row-spells : spells (rowOf n) (wordsOf (drop first s)) ≡ (leb (rowOf n .fewest) (end - first) && ending true (wordsOf (drop end s)))
+  row-spells : spells (notationOf b) (wordsOf (drop first s)) ≡ (leb (notationOf b .fewest) (end - first) && ending true (wordsOf (drop end s)))
   unfolding spells
-  row-spells = rw (parts .0, parts .2, after, count, row-unsigned n)
+  row-spells = rw (parts .0, parts .2, after, count, facts b .0)
 
-  pub spelled-few : leb (rowOf n .fewest) (end - first) ≡ false → noNumeral ≡ rowNumeral (rowOf n) (drop first s)
+  pub spelled-few : leb (notationOf b .fewest) (end - first) ≡ false → noNumeral ≡ rowNumeral (notationOf b) (drop first s)
   unfolding rowNumeral
   spelled-few e = rw (row-spells, e)
 
-  pub spelled-more : 1 < tailLen (drop end s) → noNumeral ≡ rowNumeral (rowOf n) (drop first s)
+  pub spelled-more : 1 < tailLen (drop end s) → noNumeral ≡ rowNumeral (notationOf b) (drop first s)
   unfolding rowNumeral tailLen
   spelled-more g =
       let l = wordsOf (drop end s) in
-      rw (row-spells, tail-by (ending true l) (length l) (ending-length l) g, and-false (leb (rowOf n .fewest) (end - first)))
+      rw (row-spells, tail-by (ending true l) (length l) (ending-length l) g, and-false (leb (notationOf b .fewest) (end - first)))
 
-  row-worth : worth (rowOf n) (wordsOf (drop first s)) ≡ digitsAfter (rowOf n) 0 (drop first s)
+  row-worth : worth (notationOf b) (wordsOf (drop first s)) ≡ worth (notationOf b) (drop first s)
   unfolding worth
   row-worth = rw (parts .0, parts .1)
 
@@ -252,17 +243,14 @@ module _ (n : Notation) (s : List ℕ) (first end : ℕ) (h : end ≡ first + di
   unfolding tailLen
   tails g = tail-is (ending true (wordsOf (drop end s))) (length (wordsOf (drop end s))) g
 
-  pub spelled-is : (used : ℕ) (d : Numeral) → leb (rowOf n .fewest) (end - first) ≡ true → tailLen (drop end s) ≤ 1
-      → used ≡ length (rowOf n .prefix) + (end - first) + tailLen (drop end s)
-      → d ≡ fitted (d .used) (digitsAfter (rowOf n) 0 (drop first s))
-      → record { ok = true; over = d .over; value = d .value; used = used } ≡ rowNumeral (rowOf n) (drop first s)
+  pub spelled-is : (used : ℕ) (d : Numeral) → leb (notationOf b .fewest) (end - first) ≡ true → tailLen (drop end s) ≤ 1
+      → used ≡ length (notationOf b .prefix) + (end - first) + tailLen (drop end s) → d ≡ fitted used (worth (notationOf b) (drop first s)) → d ≡ rowNumeral (notationOf b) (drop first s)
   unfolding rowNumeral
   spelled-is used d e g k q =
-      let l = wordsOf (drop end s) in
       let t = tails g in
-      let m : length (wordsOf (drop first s)) ≡ digitsLen (rowOf n) (drop first s) + length l = parts .3 ∙ rw after in
-      let u : used ≡ length (rowOf n .prefix) + length (wordsOf (drop first s)) = omega (arith, k, m, t .1, count) in
-      rw (row-spells, e, t .0, row-worth, ← u) (refit (d .used) used (digitsAfter (rowOf n) 0 (drop first s)) d q)
+      let m : length (wordsOf (drop first s)) ≡ digitsLen (notationOf b) (drop first s) + length (wordsOf (drop end s)) = parts .3 ∙ rw after in
+      let u : used ≡ length (notationOf b .prefix) + length (wordsOf (drop first s)) = omega (arith, k, m, t .1, count) in
+      rw (row-spells, e, t .0, row-worth, ← u) q
 
 -- ---- a token by the first row with whose prefix it begins
 prefix-begins : (p : List (List ℕ)) → prefixWords p ≡ true → (l : List ℕ) → begins p (wordsOf l) ≡ begins p l
@@ -274,15 +262,15 @@ prefix-begins (c ∷ p) h (x ∷ l) = let q = and-split (all wordByte c) (prefix
     go true e h i = rw i
     go false e h i = rw (not-among wordByte c x h e)
 
-prefix-words : (p : List (List ℕ)) → prefixWords p ≡ true → (l : List ℕ) → begins p l ≡ true → drop (length p) (wordsOf l) ≡ wordsOf (drop (length p) l)
-prefix-words [] h l b = refl
-prefix-words (c ∷ p) h [] b = refl
-prefix-words (c ∷ p) h (x ∷ l) b =
+words-prefix : (p : List (List ℕ)) → prefixWords p ≡ true → (l : List ℕ) → begins p l ≡ true → drop (length p) (wordsOf l) ≡ wordsOf (drop (length p) l)
+words-prefix [] h l b = refl
+words-prefix (c ∷ p) h [] b = refl
+words-prefix (c ∷ p) h (x ∷ l) b =
     let q = and-split (all wordByte c) (prefixWords p) h in
     let t = and-split (among c x) (begins p l) b in
-    rw (among-each wordByte c x (q .0) (t .0)) (prefix-words p (q .1) l (t .1))
+    rw (among-each wordByte c x (q .0) (t .0)) (words-prefix p (q .1) l (t .1))
 
-rows-by : (rows : List Spelling) → each wordy rows ≡ true → (l : List ℕ)
+rows-by : (rows : List Notation) → each wordy rows ≡ true → (l : List ℕ)
     → cond (byRow false spells rows (wordsOf l)) (fitted (length (wordsOf l)) (byRow 0 worth rows (wordsOf l))) noNumeral ≡ byRow noNumeral rowNumeral rows l
 unfolding rowNumeral
 rows-by [] h l = refl
@@ -299,7 +287,7 @@ rows-by (r ∷ rows) h l =
     go true e h i =
         let b = prefix-begins (r .prefix) h l ∙ e in
         let k : length (wordsOf l) ≡ length (r .prefix) + length (drop (length (r .prefix)) (wordsOf l)) = begins-length (r .prefix) (wordsOf l) b in
-        let d = prefix-words (r .prefix) h l e in
+        let d = words-prefix (r .prefix) h l e in
         rw (k, d)
     go false e h i = i
 
@@ -328,9 +316,9 @@ token-words (x ∷ l) = go (wordByte x) refl
     go true e = refl
     go false e = no-numeral x (take (cond (eqb x 37) (runLen wordByte l) 0) l) e ∙ sym empty-numeral
 
-pub numeral-rows : (l : List ℕ) → numeralOf (tokenOf l) ≡ byRow noNumeral rowNumeral spellings l
+numeral-rows : (l : List ℕ) → numeralOf (tokenOf l) ≡ byRow noNumeral rowNumeral notations l
 unfolding numeralOf isNumber valueOf
-numeral-rows l = token-words l ∙ rows-by spellings spellings-wordy l
+numeral-rows l = token-words l ∙ rows-by notations notations-wordy l
 
 -- ---- the token at a position
 zero-numeral : record { ok = true; over = false; value = 0; used = 1 } ≡ numeralOf (48 ∷ [])

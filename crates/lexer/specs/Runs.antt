@@ -8,48 +8,44 @@ use Rattle.tokens.specs.declared.Name.{Name}
 use Rattle.tokens.specs.declared.Numeral.{Numeral}
 use Rattle.tokens.specs.Bytes.{wordByte, runLen, tokenOf, afterToken}
 use Rattle.tokens.specs.Names.{isName, packed, noName}
-use Rattle.tokens.specs.Numbers.{digitOf, positional, Spelling, hexadecimals, binaries, octals, decimals, digitsLen, ending, spells, worth, fitted, noNumeral}
+use Rattle.tokens.specs.Numbers.{digitOf, Notation, hexadecimals, binaries, octals, decimals, ending, spells, worth, fitted, noNumeral}
 use Rattle.lexer.specs.declared.number.Digits.{Digits}
-use Rattle.lexer.specs.declared.number.Notation.{Notation}
-use Rattle.lexer.specs.declared.number.Notation.the-variants as notation
+use Rattle.lexer.specs.declared.number.Base.{Base}
+use Rattle.lexer.specs.declared.number.Base.the-variants as base
 use Rattle.lexer.specs.declared.name.Taken.{Taken}
 
--- the row of the table for a notation
-abbrev pub rowOf : Notation → Spelling
-rowOf notation.Hexadecimal = hexadecimals
-rowOf notation.Binary = binaries
-rowOf notation.Octal = octals
-rowOf notation.Decimal = decimals
+-- the row of the table for a base
+abbrev pub notationOf : Base → Notation
+notationOf base.Hexadecimal = hexadecimals
+notationOf base.Binary = binaries
+notationOf base.Octal = octals
+notationOf base.Decimal = decimals
 
 -- a byte whose value as a digit is below the base
 abbrev pub digitBelow : ℕ → ℕ → Bool
 digitBelow base x = ltb (digitOf x) base
 
 -- the largest value after which each digit has room below 2^64
-abbrev pub roomyOf : Notation → ℕ
-roomyOf notation.Hexadecimal = 2 ^ 60 - 1
-roomyOf notation.Binary = 2 ^ 63 - 1
-roomyOf notation.Octal = 2 ^ 61 - 1
-roomyOf notation.Decimal = 1844674407370955160
+abbrev pub roomyOf : Base → ℕ
+roomyOf base.Hexadecimal = 2 ^ 60 - 1
+roomyOf base.Binary = 2 ^ 63 - 1
+roomyOf base.Octal = 2 ^ 61 - 1
+roomyOf base.Decimal = 1844674407370955160
 
--- digits as a number that ends where they do
-abbrev pub numeralIn : Digits → Numeral
-numeralIn d = record { ok = true; over = d .over; value = d .value; used = d .end }
-
--- the number that the digits are, after v
-abbrev pub digitsAfter : Spelling → ℕ → List ℕ → ℕ
-digitsAfter r v l = positional (r .base) v (take (digitsLen r l) l)
+-- digits as a number of so many bytes
+abbrev pub numeralIn : ℕ → Digits → Numeral
+numeralIn used d = record { ok = true; over = d .over; value = d .value; used = used }
 
 -- the word bytes at the head
 abbrev pub wordsOf : List ℕ → List ℕ
 wordsOf l = take (runLen wordByte l) l
 
--- how many of them there are after the digits, where they may stand there; and else 2
+-- how many word bytes follow the digits: none, or one U; 2 stands for anything else
 unfoldable pub tailLen : List ℕ → ℕ
 tailLen l = cond (ending true (wordsOf l)) (length (wordsOf l)) 2
 
 -- the number that they are after a row's prefix
-unfoldable pub rowNumeral : Spelling → List ℕ → Numeral
+unfoldable pub rowNumeral : Notation → List ℕ → Numeral
 rowNumeral r l = cond (spells r (wordsOf l)) (fitted (length (r .prefix) + length (wordsOf l)) (worth r (wordsOf l))) noNumeral
 
 -- how many word bytes there are, but no more than there is room for

@@ -1,20 +1,20 @@
-// Numbers of any length, in four notations, read in one pass.
+// Numbers of any length, in four bases, read in one pass.
 use crate::bytes::digit_of;
 use crate::bytes::is_word;
 use crate::bytes::wide;
 use crate::bytes::word_at;
 use tokens::Numeral;
 ghost use mathlib.Core.Path.{_≡_};
-ghost use Prim.Native.Nat.{_+_, _*_, _^_, _<_};
+ghost use Prim.Native.Nat.{ℕ, _+_, _*_, _^_, _<_};
 ghost use mathlib.Core.List.{[], _∷_};
 ghost use lib.ListN.{length, drop};
 ghost use lib.Dec.{ltb};
 ghost use Rattle.tokens.specs.Bytes.{runLen, tokenOf};
-ghost use Rattle.tokens.specs.Numbers.{begins, digitsLen, fitted, noNumeral, numeralOf};
-ghost use Rattle.lexer.specs.Runs.{rowOf, digitBelow, roomyOf, numeralIn, digitsAfter, tailLen, rowNumeral};
+ghost use Rattle.tokens.specs.Numbers.{begins, digitsLen, worth, fitted, noNumeral, numeralOf};
+ghost use Rattle.lexer.specs.Runs.{notationOf, digitBelow, roomyOf, numeralIn, tailLen, rowNumeral};
 
-// How a number is written.
-pub enum Notation {
+// How a number is written: a row of the table of notations.
+pub enum Base {
     Hexadecimal,
     Binary,
     Octal,
@@ -28,67 +28,67 @@ pub struct Digits {
     pub end: usize,
 }
 
-fn base_of(n: Notation) -> u8
-    ensures { λ r. ⌜ r ≡ rowOf n .base ⌝ }
+fn base_of(b: Base) -> u8
+    ensures { λ r. ⌜ r ≡ notationOf b .base ⌝ }
 {
-    match n {
-        Notation::Hexadecimal => 16,
-        Notation::Binary => 2,
-        Notation::Octal => 8,
-        Notation::Decimal => 10,
+    match b {
+        Base::Hexadecimal => 16,
+        Base::Binary => 2,
+        Base::Octal => 8,
+        Base::Decimal => 10,
     }
 }
 
 // How many bytes stand before the digits.
-fn prefix_of(n: Notation) -> usize
-    ensures { λ r. ⌜ r ≡ length (rowOf n .prefix) ⌝ }
+fn prefix_of(b: Base) -> usize
+    ensures { λ r. ⌜ r ≡ length (notationOf b .prefix) ⌝ }
 {
-    match n {
-        Notation::Hexadecimal => 2,
-        Notation::Binary => 2,
-        Notation::Octal => 1,
-        Notation::Decimal => 0,
+    match b {
+        Base::Hexadecimal => 2,
+        Base::Binary => 2,
+        Base::Octal => 1,
+        Base::Decimal => 0,
     }
 }
 
 // How few digits there may be.
-fn fewest_of(n: Notation) -> usize
-    ensures { λ r. ⌜ r ≡ rowOf n .fewest ⌝ }
+fn fewest_of(b: Base) -> usize
+    ensures { λ r. ⌜ r ≡ notationOf b .fewest ⌝ }
 {
-    match n {
-        Notation::Hexadecimal => 1,
-        Notation::Binary => 1,
-        Notation::Octal => 0,
-        Notation::Decimal => 1,
+    match b {
+        Base::Hexadecimal => 1,
+        Base::Binary => 1,
+        Base::Octal => 0,
+        Base::Decimal => 1,
     }
 }
 
 // The largest value after which each digit has room below 2^64.
-fn roomy(n: Notation) -> u64
-    ensures { λ r. ⌜ r ≡ roomyOf n ⌝ }
+fn roomy(b: Base) -> u64
+    ensures { λ r. ⌜ r ≡ roomyOf b ⌝ }
 {
-    match n {
-        Notation::Hexadecimal => 0x0fff_ffff_ffff_ffff,
-        Notation::Binary => 0x7fff_ffff_ffff_ffff,
-        Notation::Octal => 0x1fff_ffff_ffff_ffff,
-        Notation::Decimal => 1844674407370955160,
+    match b {
+        Base::Hexadecimal => 0x0fff_ffff_ffff_ffff,
+        Base::Binary => 0x7fff_ffff_ffff_ffff,
+        Base::Octal => 0x1fff_ffff_ffff_ffff,
+        Base::Decimal => 1844674407370955160,
     }
 }
 
-// Whether v with one digit more is below 2^64. (2^64 less one is 18446744073709551615.)
-fn has_room(n: Notation, most: u64, v: u64, d: u64) -> bool
-    requires { ⌜ most ≡ roomyOf n ⌝ }
-    requires { ⌜ d < rowOf n .base ⌝ }
-    ensures { λ r. ⌜ r ≡ ltb (v * rowOf n .base + d) (2 ^ 64) ⌝ }
+// Whether v with one digit more is below 2^64, which is 18446744073709551616; `most` is roomy(b), asked once before a loop.
+fn has_room(b: Base, most: u64, v: u64, d: u64) -> bool
+    requires { ⌜ most ≡ roomyOf b ⌝ }
+    requires { ⌜ d < notationOf b .base ⌝ }
+    ensures { λ r. ⌜ r ≡ ltb (v * notationOf b .base + d) (2 ^ 64) ⌝ }
 {
     if v <= most {
         return true;
     }
-    match n {
-        Notation::Hexadecimal => false,
-        Notation::Binary => false,
-        Notation::Octal => false,
-        Notation::Decimal => (v == 1844674407370955161) & (d <= 5),
+    match b {
+        Base::Hexadecimal => false,
+        Base::Binary => false,
+        Base::Octal => false,
+        Base::Decimal => (v == 1844674407370955161) & (d <= 5),
     }
 }
 
@@ -107,13 +107,13 @@ fn digits_end(s: &[u8], at: usize, base: u8) -> usize
 }
 
 // The run of digits at a position.
-fn run(s: &[u8], at: usize, n: Notation) -> Digits
-    ensures value { λ r. ⌜ numeralIn r ≡ fitted (r .end) (digitsAfter (rowOf n) 0 (drop at (now (s .entry)))) ⌝ }
-    ensures end { λ r. ⌜ r .end ≡ at + digitsLen (rowOf n) (drop at (now (s .entry))) ⌝ }
+fn run(s: &[u8], at: usize, b: Base) -> Digits
+    ensures value { λ r. ⌜ ((used : ℕ) → numeralIn used r ≡ fitted used (worth (notationOf b) (drop at (now (s .entry))))) ⌝ }
+    ensures end { λ r. ⌜ r .end ≡ at + digitsLen (notationOf b) (drop at (now (s .entry))) ⌝ }
 {
-    let base = base_of(n);
-    let b = wide(base);
-    let most = roomy(n);
+    let base = base_of(b);
+    let times = wide(base);
+    let most = roomy(b);
     let mut v: u64 = 0;
     let mut i = at;
     while i < s.len() {
@@ -126,7 +126,7 @@ fn run(s: &[u8], at: usize, n: Notation) -> Digits
             };
         }
         let d = wide(x);
-        if !has_room(n, most, v, d) {
+        if !has_room(b, most, v, d) {
             let end = digits_end(s, i, base);
             return Digits {
                 over: true,
@@ -134,7 +134,7 @@ fn run(s: &[u8], at: usize, n: Notation) -> Digits
                 end,
             };
         }
-        v = v * b + d;
+        v = v * times + d;
         i += 1;
     }
     Digits {
@@ -155,8 +155,8 @@ fn tail(s: &[u8], at: usize) -> usize
     if !is_word(x) {
         return 0;
     }
-    let next = at + 1;
-    if (x != b'U') | word_at(s, next) {
+    let after = at + 1;
+    if (x != b'U') | word_at(s, after) {
         return 2;
     }
     1
@@ -174,15 +174,15 @@ fn none() -> Numeral
     }
 }
 
-// The number that a token which starts at a position is, if it goes by a notation.
-fn spelled(s: &[u8], at: usize, n: Notation) -> Numeral
+// The number that a token at a position is, if it goes by a base.
+fn spelled(s: &[u8], at: usize, b: Base) -> Numeral
     requires { ⌜ at < length (now s) ⌝ }
-    ensures { λ r. ⌜ r ≡ rowNumeral (rowOf n) (drop (at + length (rowOf n .prefix)) (now (s .entry))) ⌝ }
+    ensures { λ r. ⌜ r ≡ rowNumeral (notationOf b) (drop (at + length (notationOf b .prefix)) (now (s .entry))) ⌝ }
 {
-    let first = at + prefix_of(n);
-    let d = run(s, first, n);
+    let first = at + prefix_of(b);
+    let d = run(s, first, b);
     let end = d.end;
-    if end - first < fewest_of(n) {
+    if end - first < fewest_of(b) {
         return none();
     }
     let t = tail(s, end);
@@ -209,7 +209,7 @@ fn either_at(s: &[u8], at: usize, a: u8, b: u8) -> bool
     (x == a) | (x == b)
 }
 
-// The number that the token at a position is, if any, and how many bytes it took.
+// The number that the token at a position is, if any, and how many bytes it took. 0 alone is octal; it is met most and told first.
 pub fn numeral(s: &[u8], at: usize) -> Numeral
     ensures { λ r. ⌜ r ≡ numeralOf (tokenOf (drop at (now (s .entry)))) ⌝ }
 {
@@ -217,11 +217,11 @@ pub fn numeral(s: &[u8], at: usize) -> Numeral
         return none();
     }
     if s[at] != b'0' {
-        return spelled(s, at, Notation::Decimal);
+        return spelled(s, at, Base::Decimal);
     }
     let next = at + 1;
     if either_at(s, next, b'x', b'X') {
-        return spelled(s, at, Notation::Hexadecimal);
+        return spelled(s, at, Base::Hexadecimal);
     }
     if !word_at(s, next) {
         return Numeral {
@@ -232,7 +232,7 @@ pub fn numeral(s: &[u8], at: usize) -> Numeral
         };
     }
     if either_at(s, next, b'b', b'B') {
-        return spelled(s, at, Notation::Binary);
+        return spelled(s, at, Base::Binary);
     }
-    spelled(s, at, Notation::Octal)
+    spelled(s, at, Base::Octal)
 }

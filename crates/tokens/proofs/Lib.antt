@@ -1,6 +1,6 @@
 pub mod Bytes
 pub mod Runs
-pub mod Spellings
+pub mod Notations
 pub mod WorkedProved
 pub mod Literals
 pub mod Lengths

@@ -5,4 +5,4 @@ use Rattle.tokens.specs.Worked.{Worked}
 
 pub worked : Worked
 unfolding digitOf spells worth isNumber valueOf fitted numeralOf
-worked = record { numbers-are = refl; zeros-are = refl; others-are = refl; reads-are = refl }
+worked = record { numbers-are = refl; reads-are = refl }

@@ -26,32 +26,33 @@ abbrev pub among : List ℕ → ℕ → Bool
 among [] x = false
 among (y ∷ l) x = eqb x y || among l x
 
--- ---- the table of spellings
--- how numbers are written: what stands first, for each place the bytes that may stand there; the base; which bytes are digits; how few of them there may
--- be; whether a U may stand last
-pub record Spelling : Type 0 where
+-- ---- the table of notations
+pub record Notation : Type 0 where
+  -- what stands first: for each place the bytes that may stand there
   pub prefix : List (List ℕ)
   pub base : ℕ
+  -- the bytes that are digits, and how few of them there may be
   pub digits : List ℕ
   pub fewest : ℕ
+  -- whether a U may stand last
   pub unsigned : Bool
 
-abbrev pub hexadecimals : Spelling
+abbrev pub hexadecimals : Notation
 hexadecimals = record { prefix = bytes "0" ∷ bytes "xX" ∷ []; base = 16; digits = bytes "0123456789ABCDEFabcdef"; fewest = 1; unsigned = true }
 
-abbrev pub binaries : Spelling
+abbrev pub binaries : Notation
 binaries = record { prefix = bytes "0" ∷ bytes "bB" ∷ []; base = 2; digits = bytes "01"; fewest = 1; unsigned = true }
 
--- 0 alone too
-abbrev pub octals : Spelling
+-- the zero that leads is the prefix, so that 0 alone is one
+abbrev pub octals : Notation
 octals = record { prefix = bytes "0" ∷ []; base = 8; digits = bytes "01234567"; fewest = 0; unsigned = true }
 
-abbrev pub decimals : Spelling
+abbrev pub decimals : Notation
 decimals = record { prefix = []; base = 10; digits = bytes "0123456789"; fewest = 1; unsigned = true }
 
--- a token goes by the first row with whose prefix it begins, so that none with a zero before other bytes is decimal
-abbrev pub spellings : List Spelling
-spellings = hexadecimals ∷ binaries ∷ octals ∷ decimals ∷ []
+-- a token goes by the first with whose prefix it begins, so that none that begins with 0 is decimal
+abbrev pub notations : List Notation
+notations = hexadecimals ∷ binaries ∷ octals ∷ decimals ∷ []
 
 -- ---- how a token goes by the table
 -- at each place stands one of the bytes that may
@@ -60,13 +61,13 @@ begins [] w = true
 begins (c ∷ p) [] = false
 begins (c ∷ p) (x ∷ w) = among c x && begins p w
 
--- what a function of a row and of the bytes after its prefix says for the first row with whose prefix w begins
-abbrev pub byRow : {A : Type 0} → A → (Spelling → List ℕ → A) → List Spelling → List ℕ → A
+-- f of the first row with whose prefix w begins, and of the bytes after it; other if there is none
+abbrev pub byRow : {A : Type 0} → A → (Notation → List ℕ → A) → List Notation → List ℕ → A
 byRow other f [] w = other
 byRow other f (r ∷ rows) w = cond (begins (r .prefix) w) (f r (drop (length (r .prefix)) w)) (byRow other f rows w)
 
 -- how many digits there are
-abbrev pub digitsLen : Spelling → List ℕ → ℕ
+abbrev pub digitsLen : Notation → List ℕ → ℕ
 digitsLen r d = runLen (among (r .digits)) d
 
 -- what may follow the digits: nothing, or one U
@@ -74,18 +75,18 @@ abbrev pub ending : Bool → List ℕ → Bool
 ending unsigned l = sameBytes l [] || unsigned && sameBytes l (bytes "U")
 
 -- enough digits, and what may follow them
-unfoldable pub spells : Spelling → List ℕ → Bool
+unfoldable pub spells : Notation → List ℕ → Bool
 spells r d = leb (r .fewest) (digitsLen r d) && ending (r .unsigned) (drop (digitsLen r d) d)
 
 -- the number that the digits are
-unfoldable pub worth : Spelling → List ℕ → ℕ
+unfoldable pub worth : Notation → List ℕ → ℕ
 worth r d = positional (r .base) 0 (take (digitsLen r d) d)
 
 unfoldable pub isNumber : List ℕ → Bool
-isNumber w = byRow false spells spellings w
+isNumber w = byRow false spells notations w
 
 unfoldable pub valueOf : List ℕ → ℕ
-valueOf w = byRow 0 worth spellings w
+valueOf w = byRow 0 worth notations w
 
 -- ---- as it is read
 abbrev pub noNumeral : Numeral

@@ -1,27 +1,22 @@
 -- Tokens with the number that each is, if any, and with what the reader answers. Assumes nothing.
 use Prim.Native.Nat.{ℕ, _-_, _^_}
 use Prim.Native.String.{String}
-use mathlib.Core.Path.{_≡_}
-use mathlib.Core.List.{List, [], _∷_, map}
+use mathlib.Core.List.{List, [], _∷_, _++_}
 use mathlib.Core.Option.{Option, none, some}
 use mathlib.Core.Bool.{true, false, cond}
+use Rattle.laws.specs.Worked.{Gives}
 use Rattle.tokens.specs.declared.Numeral.{Numeral}
 use Rattle.tokens.specs.Text.{bytes}
 use Rattle.tokens.specs.Numbers.{isNumber, valueOf, noNumeral, numeralOf}
 
--- ---- the number that a token is
-abbrev Row : Type 0
-Row = String × Option ℕ
-
-abbrev pub given : Row → Option ℕ
-given (text, value) = value
-
-abbrev pub worked : Row → Option ℕ
-worked (text, value) = cond (isNumber (bytes text)) (some (valueOf (bytes text))) none
+-- the number that a token is, if any
+abbrev pub numberFor : String → Option ℕ
+numberFor text = cond (isNumber (bytes text)) (some (valueOf (bytes text))) none
 
 -- each base, each prefix, with U and without
-abbrev pub numbers : List Row
+abbrev pub numbers : List (String × Option ℕ)
 numbers =
+    ("5", some 5) ∷
     ("64", some 64) ∷
     ("64U", some 64) ∷
     ("0x40", some 64) ∷
@@ -33,10 +28,11 @@ numbers =
     ("0b1U", some 1) ∷
     ("040", some 32) ∷
     ("064", some 52) ∷
+    ("0777", some 511) ∷
     ("07U", some 7) ∷ []
 
 -- zeros, and zeros before digits
-abbrev pub zeros : List Row
+abbrev pub zeros : List (String × Option ℕ)
 zeros =
     ("0", some 0) ∷
     ("0U", some 0) ∷
@@ -50,11 +46,12 @@ zeros =
     ("0040", some 32) ∷ []
 
 -- a digit of another base, no digit, a small u, U twice or not last, other bytes, none
-abbrev pub others : List Row
+abbrev pub others : List (String × Option ℕ)
 others =
     ("08", none) ∷
     ("019", none) ∷
     ("0b2", none) ∷
+    ("0b12", none) ∷
     ("0b102", none) ∷
     ("0b", none) ∷
     ("0x", none) ∷
@@ -64,25 +61,24 @@ others =
     ("64u", none) ∷
     ("0UU", none) ∷
     ("64UU", none) ∷
+    ("0xUU", none) ∷
     ("6U4", none) ∷
+    ("64U1", none) ∷
+    ("0U1", none) ∷
+    ("0x1u", none) ∷
+    ("0_1", none) ∷
     ("0o7", none) ∷
+    ("0o1", none) ∷
+    ("o7", none) ∷
+    ("1x40", none) ∷
+    ("1b1", none) ∷
     ("0xg", none) ∷
     ("x40", none) ∷
     ("64abc", none) ∷
     ("", none) ∷ []
 
--- ---- what the reader answers
-abbrev pub Read : Type 0
-Read = String × Numeral
-
-abbrev pub asked : Read → Numeral
-asked (text, n) = numeralOf (bytes text)
-
-abbrev pub answered : Read → Numeral
-answered (text, n) = n
-
--- the value, or that it is over 2^64 - 1, and how many bytes the number took; no number took none
-abbrev pub reads : List Read
+-- what the reader answers: the value, or that it is over 2^64 - 1, and how many bytes the number took; no number took none
+abbrev pub reads : List (String × Numeral)
 reads =
     ("0", record { ok = true; over = false; value = 0; used = 1 }) ∷
     ("0x40U", record { ok = true; over = false; value = 64; used = 5 }) ∷
@@ -94,7 +90,5 @@ reads =
     ("64abc", noNumeral) ∷ []
 
 pub record Worked : Type 0 where
-  pub numbers-are : map worked numbers ≡ map given numbers
-  pub zeros-are : map worked zeros ≡ map given zeros
-  pub others-are : map worked others ≡ map given others
-  pub reads-are : map asked reads ≡ map answered reads
+  pub numbers-are : Gives numberFor (numbers ++ (zeros ++ others))
+  pub reads-are : Gives (λ text. numeralOf (bytes text)) reads

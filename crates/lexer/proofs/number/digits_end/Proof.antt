@@ -6,7 +6,6 @@ use native.Mathlib.Omega.{arith}
 use borrow.Author.Needs.{needs}
 use borrow.Author.Tests.{lt-ltb, le-ltb}
 use Rattle.tokens.specs.Bytes.{runLen}
-use Rattle.tokens.specs.Numbers.{digitOf}
 use Rattle.tokens.proofs.Runs.{run-step, run-stop, run-past}
 use Rattle.lexer.specs.Runs.{digitBelow}
 use Rattle.lexer.proofs.number.digits_end.Statement.{statement}

@@ -7,7 +7,7 @@ use Rattle.lexer.proofs.number.has_room.Tie as tie
 returns : tie.Need-returns
 returns c =
     let a = c .before .args in
-    room-below (a .n) (a .v) (a .d) (c .before .pre .1) (rw (c .before .pre .0) at (c .if1 .taken))
+    room-below (a .b) (a .v) (a .d) (c .before .pre .1) (rw (c .before .pre .0) at (c .if1 .taken))
 
 enum-told : tie.Need-enum-told
 enum-told c = search needs
@@ -22,16 +22,16 @@ enum-told-4 : tie.Need-enum-told-4
 enum-told-4 c = search needs
 
 returns-2 : tie.Need-returns-2
-returns-2 c = let a = c .before .before .before .args in room-past (a .n) _ (a .most) (a .v) (a .d) (c .enum-told .given .1) (c .before .before .before .pre) (c .before .before .if1 .left)
+returns-2 c = let a = c .before .before .before .args in room-past (a .b) _ (a .most) (a .v) (a .d) (c .enum-told .given .1) (c .before .before .before .pre) (c .before .before .if1 .left)
 
 returns-3 : tie.Need-returns-3
-returns-3 c = let a = c .before .before .before .args in room-past (a .n) _ (a .most) (a .v) (a .d) (c .enum-told2 .given .1) (c .before .before .before .pre) (c .before .before .if1 .left)
+returns-3 c = let a = c .before .before .before .args in room-past (a .b) _ (a .most) (a .v) (a .d) (c .enum-told2 .given .1) (c .before .before .before .pre) (c .before .before .if1 .left)
 
 returns-4 : tie.Need-returns-4
-returns-4 c = let a = c .before .before .before .args in room-past (a .n) _ (a .most) (a .v) (a .d) (c .enum-told3 .given .1) (c .before .before .before .pre) (c .before .before .if1 .left)
+returns-4 c = let a = c .before .before .before .args in room-past (a .b) _ (a .most) (a .v) (a .d) (c .enum-told3 .given .1) (c .before .before .before .pre) (c .before .before .if1 .left)
 
 returns-5 : tie.Need-returns-5
-returns-5 c = let a = c .before .before .before .args in room-past (a .n) _ (a .most) (a .v) (a .d) (c .enum-told4 .given .1) (c .before .before .before .pre) (c .before .before .if1 .left)
+returns-5 c = let a = c .before .before .before .args in room-past (a .b) _ (a .most) (a .v) (a .d) (c .enum-told4 .given .1) (c .before .before .before .pre) (c .before .before .if1 .left)
 
 pub has-room-spec : {M : Type 1} → statement M
 has-room-spec =

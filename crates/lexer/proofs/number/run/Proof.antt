@@ -5,18 +5,18 @@ use lib.ListN.{length, drop, getD}
 use native.Mathlib.Omega.{arith}
 use borrow.Author.Needs.{needs}
 use borrow.Author.Tests.{not-true, not-false, ltb-true, ltb-false}
-use Rattle.tokens.specs.Numbers.{digitOf, among, digitsLen}
-use Rattle.lexer.specs.Runs.{rowOf, digitsAfter}
+use Rattle.tokens.specs.Numbers.{digitOf, among, digitsLen, worth}
+use Rattle.lexer.specs.Runs.{notationOf}
 use Rattle.tokens.proofs.Runs.{run-step, run-stop, run-past}
-use Rattle.lexer.proofs.Numbers.{digit-no, digit-is, run-below, fit-small, fit-over, after-step, after-stop, after-past, after-over}
+use Rattle.lexer.proofs.Numbers.{digit-no, digit-is, run-below, fit-small, fit-over, digitsAfter, after-0, after-step, after-stop, after-past, after-over}
 use Rattle.lexer.proofs.number.run.Statement.{statement}
 use Rattle.lexer.proofs.number.run.Tie as tie
 
 abbrev Inv-loop : tie.InvT-loop
-Inv-loop s at n base b most v₀ i₀ v i = (v < 2 ^ 64) × (digitsAfter (rowOf n) v (drop i s) ≡ digitsAfter (rowOf n) 0 (drop at s)) × (i + digitsLen (rowOf n) (drop i s) ≡ at + digitsLen (rowOf n) (drop at s))
+Inv-loop s at b base times most v₀ i₀ v i = (v < 2 ^ 64) × (digitsAfter (notationOf b) v (drop i s) ≡ worth (notationOf b) (drop at s)) × (i + digitsLen (notationOf b) (drop i s) ≡ at + digitsLen (notationOf b) (drop at s))
 
 abbrev μ-loop : tie.MeasureT-loop
-μ-loop s at n base b most v₀ i₀ v i = length s - i
+μ-loop s at b base times most v₀ i₀ v i = length s - i
 
 base-of-requires : tie.Need-base-of-requires Inv-loop μ-loop
 base-of-requires c κs = search needs
@@ -28,7 +28,7 @@ roomy-requires : tie.Need-roomy-requires Inv-loop μ-loop
 roomy-requires c κs = search needs
 
 loop-holds : tie.Need-loop-holds Inv-loop μ-loop
-loop-holds c = (omega arith, refl, refl)
+loop-holds c = (omega arith, after-0 _ _, refl)
 
 shared-slice-read-digit-of : tie.Need-shared-slice-read-digit-of Inv-loop μ-loop
 shared-slice-read-digit-of c = search needs
@@ -41,9 +41,9 @@ returns c =
     let a = c .before .before .before .before .before .before .before .before .before .args in
     let l = c .before .before .before .before .loop in
     let h = c .before .before .before .loop-test .taken in
-    let g : rowOf (a .n) .base ≤ digitOf (getD (a .s .now) (l .i) 0) = rw (c .before .before .before .before .before .before .before .base-of .ensures, c .before .digit-of .ensures) at (c .if1 .taken) in (
-      fit-small (l .i) (l .v) _ (l .inv .0) (sym (after-stop (a .n) (a .s .now) (l .v) (l .i) h g) ∙ l .inv .1),
-      omega (arith, run-stop (among (rowOf (a .n) .digits)) (a .s .now) (l .i) h (digit-no (a .n) _ g), l .inv .2),
+    let g : notationOf (a .b) .base ≤ digitOf (getD (a .s .now) (l .i) 0) = rw (c .before .before .before .before .before .before .before .base-of .ensures, c .before .digit-of .ensures) at (c .if1 .taken) in (
+      λ used. fit-small used (l .v) _ (l .inv .0) (sym (after-stop (a .b) (a .s .now) (l .v) (l .i) h g) ∙ l .inv .1),
+      omega (arith, run-stop (among (notationOf (a .b) .digits)) (a .s .now) (l .i) h (digit-no (a .b) _ g), l .inv .2),
     )
 
 wide-requires-2 : tie.Need-wide-requires-2 Inv-loop μ-loop
@@ -60,21 +60,21 @@ returns-2 c =
     let a = c .before .before .before .before .before .before .before .before .before .before .before .before .before .args in
     let l = c .before .before .before .before .before .before .before .before .loop in
     let b = c .before .before .before .before .before .before .before .before .before .before .before .base-of in
-    let o : 2 ^ 64 ≤ l .v * rowOf (a .n) .base + digitOf (getD (a .s .now) (l .i) 0) =
+    let o : 2 ^ 64 ≤ l .v * notationOf (a .b) .base + digitOf (getD (a .s .now) (l .i) 0) =
     ltb-false _ _ (rw (c .before .before .before .wide2 .ensures, c .before .before .before .before .before .digit-of .ensures) at (sym (c .before .before .has-room .ensures) ∙ not-true _ (c .before .if2 .taken))) in
-    let g : digitOf (getD (a .s .now) (l .i) 0) < rowOf (a .n) .base = rw (b .ensures, c .before .before .before .before .before .digit-of .ensures) at (c .before .before .before .before .if1 .left) in (
-      fit-over _ _ (rw (← l .inv .1) (after-over (a .n) (a .s .now) (l .v) (l .i) (c .before .before .before .before .before .before .before .loop-test .taken) g o)),
-      (rw (b .ensures) at (c .digits-end .ensures)) ∙ (ap (λ (k : ℕ). l .i + k) (run-below (a .n) (drop (l .i) (a .s .now))) ∙ l .inv .2),
+    let g : digitOf (getD (a .s .now) (l .i) 0) < notationOf (a .b) .base = rw (b .ensures, c .before .before .before .before .before .digit-of .ensures) at (c .before .before .before .before .if1 .left) in (
+      λ used. fit-over used _ (rw (← l .inv .1) (after-over (a .b) (a .s .now) (l .v) (l .i) (c .before .before .before .before .before .before .before .loop-test .taken) g o)),
+      (rw (b .ensures) at (c .digits-end .ensures)) ∙ (ap (λ (k : ℕ). l .i + k) (run-below (a .b) (drop (l .i) (a .s .now))) ∙ l .inv .2),
     )
 
 mul-v : tie.Need-mul-v Inv-loop μ-loop
 mul-v c =
-    let r : c .before .before .before .before .before .before .before .loop .v * rowOf (c .before .before .before .before .before .before .before .before .before .before .before .before .args .n) .base + c .before .before .wide2 .result < 2 ^ 64 = ltb-true _ _ (sym (c .before .has-room .ensures) ∙ not-false _ (c .if2 .left)) in
+    let r : c .before .before .before .before .before .before .before .loop .v * notationOf (c .before .before .before .before .before .before .before .before .before .before .before .before .args .b) .base + c .before .before .wide2 .result < 2 ^ 64 = ltb-true _ _ (sym (c .before .has-room .ensures) ∙ not-false _ (c .if2 .left)) in
     rw (c .before .before .before .before .before .before .before .before .before .wide .ensures, c .before .before .before .before .before .before .before .before .before .before .base-of .ensures) (omega arith)
 
 add-v : tie.Need-add-v Inv-loop μ-loop
 add-v c =
-    let r : c .before .before .before .before .before .before .before .loop .v * rowOf (c .before .before .before .before .before .before .before .before .before .before .before .before .args .n) .base + c .before .before .wide2 .result < 2 ^ 64 = ltb-true _ _ (sym (c .before .has-room .ensures) ∙ not-false _ (c .if2 .left)) in
+    let r : c .before .before .before .before .before .before .before .loop .v * notationOf (c .before .before .before .before .before .before .before .before .before .before .before .before .args .b) .base + c .before .before .wide2 .result < 2 ^ 64 = ltb-true _ _ (sym (c .before .has-room .ensures) ∙ not-false _ (c .if2 .left)) in
     rw (c .before .before .before .before .before .before .before .before .before .wide .ensures, c .before .before .before .before .before .before .before .before .before .before .base-of .ensures) (omega arith)
 
 add-i : tie.Need-add-i Inv-loop μ-loop
@@ -92,13 +92,13 @@ loop-again c =
     let w = c .before .before .before .before .before .before .before .before .before .wide in
     let x = c .before .before .before .before .digit-of in
     let d = c .before .before .wide2 in
-    let r : l .v * rowOf (a .n) .base + digitOf (getD (a .s .now) (l .i) 0) < 2 ^ 64 =
+    let r : l .v * notationOf (a .b) .base + digitOf (getD (a .s .now) (l .i) 0) < 2 ^ 64 =
     ltb-true _ _ (rw (d .ensures, x .ensures) at (sym (c .before .has-room .ensures) ∙ not-false _ (c .if2 .left))) in
-    let g : digitOf (getD (a .s .now) (l .i) 0) < rowOf (a .n) .base = rw (b .ensures, x .ensures) at (c .before .before .before .if1 .left) in
+    let g : digitOf (getD (a .s .now) (l .i) 0) < notationOf (a .b) .base = rw (b .ensures, x .ensures) at (c .before .before .before .if1 .left) in
     rw (w .ensures, b .ensures, d .ensures, x .ensures) (
       r,
-      sym (after-step (a .n) (a .s .now) (l .v) (l .i) h g) ∙ l .inv .1,
-      omega (arith, run-step (among (rowOf (a .n) .digits)) (a .s .now) (l .i) h (digit-is (a .n) _ g), l .inv .2),
+      sym (after-step (a .b) (a .s .now) (l .v) (l .i) h g) ∙ l .inv .1,
+      omega (arith, run-step (among (notationOf (a .b) .digits)) (a .s .now) (l .i) h (digit-is (a .b) _ g), l .inv .2),
     )
 
 returns-3 : tie.Need-returns-3 Inv-loop μ-loop
@@ -106,8 +106,8 @@ returns-3 c =
     let a = c .before .before .before .before .before .before .args in
     let l = c .before .loop in
     let h = c .loop-test .left in (
-      fit-small (l .i) (l .v) _ (l .inv .0) (sym (after-past (a .n) (a .s .now) (l .v) (l .i) h) ∙ l .inv .1),
-      omega (arith, run-past (among (rowOf (a .n) .digits)) (a .s .now) (l .i) h, l .inv .2),
+      λ used. fit-small used (l .v) _ (l .inv .0) (sym (after-past (a .b) (a .s .now) (l .v) (l .i) h) ∙ l .inv .1),
+      omega (arith, run-past (among (notationOf (a .b) .digits)) (a .s .now) (l .i) h, l .inv .2),
     )
 
 pub run-spec : {M : Type 1} → statement M

@@ -1,5 +1,5 @@
 -- `lexer::number::spelled` meets its contract: digits from the end of the prefix on, enough of them, and after them nothing of the token or one U. Assumes nothing.
-use mathlib.Core.Path.{sym, _∙_}
+use mathlib.Core.Path.{_∙_}
 use Prim.Native.Nat.{_+_}
 use lib.ListN.{length-drop, drop}
 use native.Mathlib.Omega.{arith}
@@ -7,7 +7,7 @@ use borrow.Author.Needs.{needs}
 use borrow.Author.Tests.{lt-leb, le-leb}
 use Rattle.tokens.specs.Numbers.{among}
 use Rattle.tokens.proofs.Runs.{run-le}
-use Rattle.lexer.specs.Runs.{rowOf, numeralIn}
+use Rattle.lexer.specs.Runs.{notationOf, numeralIn}
 use Rattle.lexer.proofs.Numbers.{prefix-le, spelled-few, spelled-more, spelled-is}
 use Rattle.lexer.proofs.number.spelled.Statement.{statement}
 use Rattle.lexer.proofs.number.spelled.Tie as tie
@@ -16,7 +16,7 @@ prefix-of-requires : tie.Need-prefix-of-requires
 prefix-of-requires c κs = search needs
 
 add-first : tie.Need-add-first
-add-first c = omega (arith, c .prefix-of .ensures, prefix-le (c .before .before .args .n))
+add-first c = omega (arith, c .prefix-of .ensures, prefix-le (c .before .before .args .b))
 
 run-requires : tie.Need-run-requires
 run-requires c κs = search needs
@@ -34,7 +34,7 @@ returns : tie.Need-returns
 returns c =
     let a = c .before .before .before .before .before .before .args in
     let d = c .before .before .before .run in
-    c .none .ensures ∙ rw (← c .before .before .before .before .prefix-of .ensures) (spelled-few (a .n) (a .s .now) _ (d .result .end) (d .ensures .1) (lt-leb _ _ (rw (c .before .before .fewest-of .ensures) at (c .before .if1 .taken))))
+    c .none .ensures ∙ rw (← c .before .before .before .before .prefix-of .ensures) (spelled-few (a .b) (a .s .now) _ (d .result .end) (d .ensures .1) (lt-leb _ _ (rw (c .before .before .fewest-of .ensures) at (c .before .if1 .taken))))
 
 tail-requires : tie.Need-tail-requires
 tail-requires c κs = search needs
@@ -46,7 +46,7 @@ returns-2 : tie.Need-returns-2
 returns-2 c =
     let a = c .before .before .before .before .before .before .before .before .args in
     let d = c .before .before .before .before .before .run in
-    c .none2 .ensures ∙ rw (← c .before .before .before .before .before .before .prefix-of .ensures) (spelled-more (a .n) (a .s .now) _ (d .result .end) (d .ensures .1) (rw (c .before .before .tail .ensures) at (c .before .if2 .taken)))
+    c .none2 .ensures ∙ rw (← c .before .before .before .before .before .before .prefix-of .ensures) (spelled-more (a .b) (a .s .now) _ (d .result .end) (d .ensures .1) (rw (c .before .before .tail .ensures) at (c .before .if2 .taken)))
 
 sub-used : tie.Need-sub-used
 sub-used c = omega (arith, c .before .before .before .before .run .ensures .1)
@@ -55,7 +55,7 @@ add-used : tie.Need-add-used
 add-used c =
     let a = c .before .before .before .before .before .before .before .args in
     let k = c .before .before .before .before .before .prefix-of in
-    omega (arith, c .before .before .before .before .run .ensures .1, k .ensures, prefix-le (a .n), run-le (among (rowOf (a .n) .digits)) (drop (a .at + k .result) (a .s .now)), length-drop (a .at + k .result) (a .s .now))
+    omega (arith, c .before .before .before .before .run .ensures .1, k .ensures, prefix-le (a .b), run-le (among (notationOf (a .b) .digits)) (drop (a .at + k .result) (a .s .now)), length-drop (a .at + k .result) (a .s .now))
 
 returns-3 : tie.Need-returns-3
 returns-3 c =
@@ -64,7 +64,7 @@ returns-3 c =
     let t = c .before .tail in
     let k = c .before .before .before .before .before .prefix-of in
     rw (← k .ensures)
-    (spelled-is (a .n) (a .s .now) (a .at + k .result) (d .result .end) (d .ensures .1) _ (numeralIn (d .result)) (le-leb _ _ (rw (c .before .before .before .fewest-of .ensures) at (c .before .before .if1 .left))) (rw (t .ensures) at (c .if2 .left)) (omega (arith, t .ensures, k .ensures, d .ensures .1)) (d .ensures .0))
+    (spelled-is (a .b) (a .s .now) (a .at + k .result) (d .result .end) (d .ensures .1) _ (numeralIn _ (d .result)) (le-leb _ _ (rw (c .before .before .before .fewest-of .ensures) at (c .before .before .if1 .left))) (rw (t .ensures) at (c .if2 .left)) (omega (arith, t .ensures, k .ensures, d .ensures .1)) (d .ensures .0 _))
 
 pub spelled-spec : {M : Type 1} → statement M
 spelled-spec =

@@ -20,8 +20,8 @@ returns-2 c =
     let a = c .before .before .before .before .before .args in
     tail-other (a .s .now) (a .at) (c .before .before .before .if1 .left) (sym (c .before .is-word .ensures) ∙ not-true _ (c .if2 .taken))
 
-add-next : tie.Need-add-next
-add-next c = search needs
+add-after : tie.Need-add-after
+add-after c = search needs
 
 word-at-requires : tie.Need-word-at-requires
 word-at-requires c κs = search needs
@@ -44,7 +44,7 @@ tail-spec =
     shared-slice-read-x
     is-word-requires
     returns-2
-    add-next
+    add-after
     word-at-requires
     returns-3
     returns-4)

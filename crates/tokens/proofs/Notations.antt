@@ -1,17 +1,18 @@
--- Laws of the table of spellings: each is one law over a row, and what it asks of a row is computed once for all four. Assumes nothing.
-use Prim.Native.Nat.{ℕ, zero, suc, _+_, _-_, _<_, _≤_}
+-- Laws of the table of notations: each is one law over a row, and what it asks of a row is computed once for all four. Assumes nothing.
+use Prim.Native.Nat.{ℕ, zero, suc, _+_, _<_, _≤_}
 use native.Mathlib.Omega.{arith}
 use native.Mathlib.Decide.{decLe}
-use mathlib.Core.Path.{_≡_, refl, sym, ap, _∙_}
+use mathlib.Core.Path.{_≡_, refl, sym, _∙_}
+use mathlib.Core.Logic.{_⊎_, inl, inr, ⊎-elim}
 use mathlib.Core.List.{List, [], _∷_}
 use mathlib.Core.Bool.{Bool, true, false, not, _&&_, _||_, cond, and-false}
-use lib.ListN.{length, take, drop}
+use lib.ListN.{length, drop}
 use lib.Dec.{ltb, leb, eqb}
-use borrow.Author.Tests.{eqb-true, ne-eqb, lt-leb, le-ltb, ltb-true, leb-true}
+use borrow.Author.Tests.{eqb-true, lt-leb, le-ltb, ltb-true, leb-true}
 use Rattle.laws.proofs.BoolLaws.{never, and-split}
 use Rattle.tokens.specs.Text.{bytes}
-use Rattle.tokens.specs.Bytes.{between, sameBytes, letter, wordByte, runLen, all}
-use Rattle.tokens.specs.Numbers.{digitOf, among, Spelling, spellings, begins, byRow, digitsLen, ending, spells, isNumber}
+use Rattle.tokens.specs.Bytes.{letter, wordByte, runLen, all}
+use Rattle.tokens.specs.Numbers.{digitOf, among, Notation, notations, begins, byRow, digitsLen, ending, spells, isNumber}
 use Rattle.tokens.proofs.Runs.{run-le}
 
 -- ---- one of some bytes
@@ -53,27 +54,28 @@ below-is (suc n) f h x g = let p = and-split (f n) (below n f) h in go (decLe n 
     go (yes q) h i = let e : x ≡ n = omega arith in rw e h
     go (no q) h i = i (omega arith)
 
-abbrev pub digitsBelow : Spelling → Bool
-digitsBelow r = below 128 (λ x. same (among (r .digits) x) (ltb (digitOf x) (r .base))) && (all (λ x. ltb x 128) (r .digits) && leb (r .base) 16)
+abbrev agrees : Notation → ℕ → Bool
+agrees r x = same (among (r .digits) x) (ltb (digitOf x) (r .base))
+
+abbrev pub digitsBelow : Notation → Bool
+digitsBelow r = below 128 (agrees r) && (all (λ x. ltb x 128) (r .digits) && leb (r .base) 16)
 
 digit-far : (x : ℕ) → 128 ≤ x → digitOf x ≡ 16
 unfolding digitOf
 digit-far x h = rw (lt-leb x 57 (omega arith), lt-leb x 70 (omega arith), lt-leb x 102 (omega arith), and-false (leb 48 x), and-false (leb 65 x), and-false (leb 97 x))
 
-pub digits-below : (r : Spelling) → digitsBelow r ≡ true → (x : ℕ) → among (r .digits) x ≡ ltb (digitOf x) (r .base)
+pub digits-below : (r : Notation) → digitsBelow r ≡ true → (x : ℕ) → among (r .digits) x ≡ ltb (digitOf x) (r .base)
 digits-below r h x =
-    let p = and-split (below 128 (λ x. same (among (r .digits) x) (ltb (digitOf x) (r .base)))) (all (λ x. ltb x 128) (r .digits) && leb (r .base) 16) h in
+    let p = and-split (below 128 (agrees r)) (all (λ x. ltb x 128) (r .digits) && leb (r .base) 16) h in
     let q = and-split (all (λ x. ltb x 128) (r .digits)) (leb (r .base) 16) (p .1) in
     go (decLe 128 x) (p .0) (q .0) (leb-true (r .base) 16 (q .1))
   where
-    go : Dec (128 ≤ x) → below 128 (λ x. same (among (r .digits) x) (ltb (digitOf x) (r .base))) ≡ true → all (λ x. ltb x 128) (r .digits) ≡ true → r .base ≤ 16
-        → among (r .digits) x ≡ ltb (digitOf x) (r .base)
+    go : Dec (128 ≤ x) → below 128 (agrees r) ≡ true → all (λ x. ltb x 128) (r .digits) ≡ true → r .base ≤ 16 → among (r .digits) x ≡ ltb (digitOf x) (r .base)
     go (yes far) h k b = rw (not-among (λ x. ltb x 128) (r .digits) x k (le-ltb x 128 far), digit-far x far, le-ltb 16 (r .base) b)
-    go (no near) h k b =
-        same-is (among (r .digits) x) (ltb (digitOf x) (r .base)) (below-is 128 (λ x. same (among (r .digits) x) (ltb (digitOf x) (r .base))) h x (omega arith))
+    go (no near) h k b = same-is (among (r .digits) x) (ltb (digitOf x) (r .base)) (below-is 128 (agrees r) h x (omega arith))
 
 -- ---- prefix and digits are word bytes, and there is one at least
-abbrev pub each : (Spelling → Bool) → List Spelling → Bool
+abbrev pub each : (Notation → Bool) → List Notation → Bool
 each f [] = true
 each f (r ∷ rows) = f r && each f rows
 
@@ -81,7 +83,7 @@ abbrev pub prefixWords : List (List ℕ) → Bool
 prefixWords [] = true
 prefixWords (c ∷ p) = all wordByte c && prefixWords p
 
-abbrev pub wordy : Spelling → Bool
+abbrev pub wordy : Notation → Bool
 wordy r = prefixWords (r .prefix) && (all wordByte (r .digits) && ltb 0 (length (r .prefix) + r .fewest))
 
 -- bytes of a run, and then word bytes, are word bytes
@@ -94,13 +96,17 @@ run-words f are (x ∷ d) h = go (f x) refl h (run-words f are d)
     go true e h i = rw (are x e) (i h)
     go false e h i = h
 
+-- what may follow the digits
+pub ending-is : (u : Bool) (l : List ℕ) → ending u l ≡ true → (l ≡ []) ⊎ (l ≡ bytes "U")
+ending-is u [] h = inl refl
+ending-is true (x ∷ []) h = let e : x ≡ 85 = eqb-true x 85 (and-split (eqb x 85) true h .0) in inr (rw e)
+ending-is false (x ∷ []) h = never h
+ending-is true (x ∷ (y ∷ l)) h = never (sym (and-false (eqb x 85)) ∙ h)
+ending-is false (x ∷ (y ∷ l)) h = never h
+
 ending-words : (u : Bool) (l : List ℕ) → ending u l ≡ true → all wordByte l ≡ true
 unfolding wordByte letter
-ending-words u [] h = refl
-ending-words true (x ∷ []) h = let e : x ≡ 85 = eqb-true x 85 (and-split (eqb x 85) true h .0) in rw e
-ending-words false (x ∷ []) h = never h
-ending-words true (x ∷ (y ∷ l)) h = never (sym (and-false (eqb x 85)) ∙ h)
-ending-words false (x ∷ (y ∷ l)) h = never h
+ending-words u l h = ⊎-elim (λ e. rw e) (λ e. rw e) (ending-is u l h)
 
 prefix-words : (p : List (List ℕ)) (w : List ℕ) → prefixWords p ≡ true → begins p w ≡ true → all wordByte (drop (length p) w) ≡ true → all wordByte w ≡ true
 prefix-words [] w h b k = k
@@ -116,7 +122,7 @@ begins-length [] w b = omega arith
 begins-length (c ∷ p) [] b = never b
 begins-length (c ∷ p) (x ∷ w) b = omega (arith, begins-length p w (and-split (among c x) (begins p w) b .1))
 
-row-words : (r : Spelling) (w : List ℕ) → wordy r ≡ true → begins (r .prefix) w ≡ true → spells r (drop (length (r .prefix)) w) ≡ true
+row-words : (r : Notation) (w : List ℕ) → wordy r ≡ true → begins (r .prefix) w ≡ true → spells r (drop (length (r .prefix)) w) ≡ true
     → (all wordByte w ≡ true) × (0 < length w)
 unfolding spells
 row-words r w h b k =
@@ -130,7 +136,7 @@ row-words r w h b k =
       omega (arith, ltb-true 0 (length (r .prefix) + r .fewest) (q .1), leb-true (r .fewest) n (t .0), run-le (among (r .digits)) d, begins-length (r .prefix) w b),
     )
 
-rows-words : (rows : List Spelling) (w : List ℕ) → each wordy rows ≡ true → byRow false spells rows w ≡ true → (all wordByte w ≡ true) × (0 < length w)
+rows-words : (rows : List Notation) (w : List ℕ) → each wordy rows ≡ true → byRow false spells rows w ≡ true → (all wordByte w ≡ true) × (0 < length w)
 rows-words [] w h k = never k
 rows-words (r ∷ rows) w h k = let p = and-split (wordy r) (each wordy rows) h in go (begins (r .prefix) w) refl k (p .0) (rows-words rows w (p .1))
   where
@@ -139,11 +145,11 @@ rows-words (r ∷ rows) w h k = let p = and-split (wordy r) (each wordy rows) h 
     go true e k h i = row-words r w h e k
     go false e k h i = i k
 
-pub spellings-wordy : each wordy spellings ≡ true
+pub notations-wordy : each wordy notations ≡ true
 unfolding wordByte letter
-spellings-wordy = refl
+notations-wordy = refl
 
 -- a number has word bytes alone, and one at least
 pub number-words : (w : List ℕ) → isNumber w ≡ true → (all wordByte w ≡ true) × (0 < length w)
 unfolding isNumber
-number-words w h = rows-words spellings w spellings-wordy h
+number-words w h = rows-words notations w notations-wordy h
