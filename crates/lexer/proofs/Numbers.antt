@@ -11,8 +11,8 @@ use mathlib.Core.Bool.{Bool, true, false, _&&_, _||_, not, true≢false, cond, a
 use lib.ListN.{length, getD, take, drop, drop-of-length-le}
 use lib.Seq.{drop-cons, drop-drop, getD-drop, length-take-le}
 use lib.Dec.{ltb, leb, eqb}
-use borrow.Author.Tests.{eq-eqb, ne-eqb, le-leb, lt-leb, lt-ltb, le-ltb, ltb-true, ltb-false, leb-true}
-use Rattle.laws.proofs.BoolLaws.{never, and-l, and-r, and-split}
+use borrow.Author.Tests.{eq-eqb, ne-eqb, le-leb, lt-leb, lt-ltb, le-ltb, ltb-true, ltb-false}
+use Rattle.laws.proofs.BoolLaws.{never, and-split}
 use Rattle.tokens.specs.declared.Numeral.{Numeral}
 use Rattle.tokens.specs.Text.{bytes}
 use Rattle.tokens.specs.Bytes.{sameBytes, wordByte, letter, runLen, all, tokenLen, tokenOf, afterToken}
@@ -27,43 +27,32 @@ use Rattle.tokens.proofs.Notations.{among-each, not-among, digitsBelow, digits-
 use Rattle.lexer.proofs.Laws.{word-0}
 
 -- ---- what is computed once for each base
-abbrev fine : Notation → Bool
-fine r = digitsBelow r && (all wordByte (r .digits) && (r .unsigned && (ltb 0 (r .base) && leb (length (r .prefix)) 2)))
+record Row (b : Base) : Type 0 where
+  below : digitsBelow (notationOf b) ≡ true
+  words : all wordByte (notationOf b .digits) ≡ true
+  unsigned : notationOf b .unsigned ≡ true
+  some : 0 < notationOf b .base
+  short : length (notationOf b .prefix) ≤ 2
 
-each-fine : (b : Base) → fine (notationOf b) ≡ true
+row : (b : Base) → Row b
 unfolding digitOf wordByte letter
-each-fine base.Hexadecimal = refl
-each-fine base.Binary = refl
-each-fine base.Octal = refl
-each-fine base.Decimal = refl
+row base.Hexadecimal = record { below = refl; words = refl; unsigned = refl; some = omega arith; short = omega arith }
+row base.Binary = record { below = refl; words = refl; unsigned = refl; some = omega arith; short = omega arith }
+row base.Octal = record { below = refl; words = refl; unsigned = refl; some = omega arith; short = omega arith }
+row base.Decimal = record { below = refl; words = refl; unsigned = refl; some = omega arith; short = omega arith }
 
-module _ (b : Base) where
-  abbrev row : Notation
-  row = notationOf b
+pub prefix-le : (b : Base) → length (notationOf b .prefix) ≤ 2
+prefix-le b = row b .short
 
-  facts : (row .unsigned ≡ true) × (0 < row .base) × (length (row .prefix) ≤ 2)
-  facts =
-      let p = and-split (digitsBelow row) (all wordByte (row .digits) && (row .unsigned && (ltb 0 (row .base) && leb (length (row .prefix)) 2))) (each-fine b) in
-      let q = and-split (all wordByte (row .digits)) (row .unsigned && (ltb 0 (row .base) && leb (length (row .prefix)) 2)) (p .1) in
-      let t = and-split (row .unsigned) (ltb 0 (row .base) && leb (length (row .prefix)) 2) (q .1) in
-      let u = and-split (ltb 0 (row .base)) (leb (length (row .prefix)) 2) (t .1) in
-      (t .0, ltb-true 0 (row .base) (u .0), leb-true (length (row .prefix)) 2 (u .1))
+-- ---- digits
+digit-same : (b : Base) (x : ℕ) → among (notationOf b .digits) x ≡ digitBelow (notationOf b .base) x
+digit-same b x = digits-below (notationOf b) (row b .below) x
 
-  pub prefix-le : length (row .prefix) ≤ 2
-  prefix-le = facts .2
+pub digit-no : (b : Base) (x : ℕ) → notationOf b .base ≤ digitOf x → among (notationOf b .digits) x ≡ false
+digit-no b x h = digit-same b x ∙ le-ltb _ _ h
 
-  -- ---- digits
-  digit-same : (x : ℕ) → among (row .digits) x ≡ digitBelow (row .base) x
-  digit-same x = digits-below row (and-l (digitsBelow row) _ (each-fine b)) x
-
-  digit-words : all wordByte (row .digits) ≡ true
-  digit-words = and-l (all wordByte (row .digits)) _ (and-r (digitsBelow row) _ (each-fine b))
-
-  pub digit-no : (x : ℕ) → row .base ≤ digitOf x → among (row .digits) x ≡ false
-  digit-no x h = digit-same x ∙ le-ltb _ _ h
-
-  pub digit-is : (x : ℕ) → digitOf x < row .base → among (row .digits) x ≡ true
-  digit-is x h = digit-same x ∙ lt-ltb _ _ h
+pub digit-is : (b : Base) (x : ℕ) → digitOf x < notationOf b .base → among (notationOf b .digits) x ≡ true
+digit-is b x h = digit-same b x ∙ lt-ltb _ _ h
 
 run-same : (f g : ℕ → Bool) → ((x : ℕ) → f x ≡ g x) → (l : List ℕ) → runLen f l ≡ runLen g l
 run-same f g h [] = refl
@@ -142,7 +131,7 @@ module _ (b : Base) (s : List ℕ) (v i : ℕ) where
   pub after-over : i < length s → digitOf (getD s i 0) < notationOf b .base → 2 ^ 64 ≤ v * notationOf b .base + digitOf (getD s i 0) → 2 ^ 64 ≤ digitsAfter (notationOf b) v (drop i s)
   after-over h g o =
       rw (after-step h g)
-      (omega (arith, grows (notationOf b .base) (v * notationOf b .base + digitOf (getD s i 0)) (facts b .1) (take (digitsLen (notationOf b) (drop (i + 1) s)) (drop (i + 1) s))))
+      (omega (arith, grows (notationOf b .base) (v * notationOf b .base + digitOf (getD s i 0)) (row b .some) (take (digitsLen (notationOf b) (drop (i + 1) s)) (drop (i + 1) s))))
 
 -- ---- the word bytes at the head
 -- of n bytes of a run at the head of l, all of them word bytes, and the word bytes w there
@@ -213,7 +202,7 @@ module _ (s : List ℕ) (at : ℕ) where
 -- ---- a number by its row, in the words of the code: its digits start at `first` and end at `end`
 module _ (b : Base) (s : List ℕ) (first end : ℕ) (h : end ≡ first + digitsLen (notationOf b) (drop first s)) where
   parts : Parts (among (notationOf b .digits)) (drop first s) (digitsLen (notationOf b) (drop first s)) (wordsOf (drop first s))
-  parts = words-parts (among (notationOf b .digits)) (λ x. among-each wordByte (notationOf b .digits) x (digit-words b)) (drop first s)
+  parts = words-parts (among (notationOf b .digits)) (λ x. among-each wordByte (notationOf b .digits) x (row b .words)) (drop first s)
 
   count : end - first ≡ digitsLen (notationOf b) (drop first s)
   count = omega (arith, h)
@@ -223,7 +212,7 @@ module _ (b : Base) (s : List ℕ) (first end : ℕ) (h : end ≡ first + digits
 
   row-spells : spells (notationOf b) (wordsOf (drop first s)) ≡ (leb (notationOf b .fewest) (end - first) && ending true (wordsOf (drop end s)))
   unfolding spells
-  row-spells = rw (parts .0, parts .2, after, count, facts b .0)
+  row-spells = rw (parts .0, parts .2, after, count, row b .unsigned)
 
   pub spelled-few : leb (notationOf b .fewest) (end - first) ≡ false → noNumeral ≡ rowNumeral (notationOf b) (drop first s)
   unfolding rowNumeral
