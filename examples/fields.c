@@ -1,5 +1,6 @@
 /* fields OPCODE WORD: what a descriptor word says, from C (bin/describe says more).
-   OPCODE is f16, tf32, f8f6f4 or i8, with .ws and .sp behind it where they stand, or `shared`. WORD is a number as in a sheet.
+   OPCODE is f16, tf32, f8f6f4 or i8, with .ws and .sp behind it where they stand, or `shared`. WORD is a number as in a
+   sheet, of at most 100 bytes.
    Exit status: 0 the word is good, 1 refused, 2 a wrong command line. */
 #include <inttypes.h>
 #include <stdio.h>

@@ -1,5 +1,6 @@
 //! Compares the proved library with the reference: `words`, `statements` (`numbers` among them) and `sheets` with made
-//! inputs, `entries` with sheets whose answers were worked out by hand, `data` with the cases that `cases` wrote into a folder.
+//! inputs, `entries` with sheets whose answers were worked out by hand, `data` with the cases of a
+//! folder, of which `cases` writes most.
 
 mod cases;
 mod entries;

@@ -58,7 +58,7 @@ struct Known {
     value: u128,
 }
 
-/// The answer for these bytes in the number's place; none where it needs more than the form of one mark.
+/// The answer for these bytes in the number's place; none where an early `]` leaves it to what follows.
 fn known(place: &Place, middle: &[u8]) -> Option<Known> {
     let refused = |column| Some(Known { reason: 3, column, value: 0 });
     let start = spaces(middle);
@@ -562,7 +562,7 @@ mod tests {
 
     #[test]
     fn misread_numbers_are_found() {
-        let wrong: [(&str, Mistake); 16] = [
+        let wrong: [(&str, Mistake); 17] = [
             ("08 is 8", |run| (run == "08").then(|| "8".into())),
             ("octal is decimal", |run| with(run, "0", "", "", "").filter(|rest| rest.starts_with(|c: char| c.is_ascii_digit()))),
             ("octal is refused", |run| with(run, "00", "", "08", "")),
@@ -577,7 +577,8 @@ mod tests {
             ("no U behind binary", |run| with(run, "0b", "U", "0b", "UU")),
             ("no U behind 0", |run| (run == "0U").then(|| "0UU".into())),
             ("a digit behind U", |run| with(run, "", "U1", "", "")),
-            ("wrapped", |run| Number::new(run).map(|number| (number.value() as u32).to_string())),
+            ("wrapped at 32 bits", |run| Number::new(run).map(|number| (number.value() as u32).to_string())),
+            ("wrapped at 64 bits", |run| Number::new(run).map(|number| (number.value() as u64).to_string())),
             ("too long is too large", |run| (run.len() > 80).then(|| "9".repeat(30))),
         ];
         for (name, misread) in wrong {
@@ -657,7 +658,7 @@ mod tests {
         }
     }
 
-    /// What `known` says does not come from the reference: where both sides agree on a wrong answer, it shows.
+    /// What both sides are held to comes from neither of them.
     #[test]
     fn known_answers() {
         let answer = |middle: &str| known(&PLACES[0], middle.as_bytes()).map(|known| (known.reason, known.column, known.value));

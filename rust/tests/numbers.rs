@@ -111,8 +111,8 @@ fn the_limits_of_every_base() {
     for bits in [32, 64] {
         let most = if bits == 32 { u64::from(u32::MAX) } else { u64::MAX };
         for (largest, over) in limits(bits) {
-            let base = if largest.starts_with("0x") || largest.starts_with("0b") { 2 } else { 0 };
-            let zeros = |text: &str| format!("{}0000{}", &text[..base], &text[base..]);
+            let prefix = if largest.starts_with("0x") || largest.starts_with("0b") { 2 } else { 0 };
+            let zeros = |text: &str| format!("{}0000{}", &text[..prefix], &text[prefix..]);
             let longer = if largest.starts_with('0') { [zeros(&largest), zeros(&over)] } else { [largest.clone(), over.clone()] };
             for (good, bad) in [(&largest, &over), (&format!("{largest}U"), &format!("{over}U")), (&longer[0], &longer[1])] {
                 let mov = |text: &str| format!("mov.b{bits} x, {text};");
