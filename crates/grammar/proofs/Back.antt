@@ -13,7 +13,7 @@ use borrow.Author.Tests.{ne-eqb, eqb-true, leb-true, le-leb, lt-ltb}
 use Rattle.tokens.specs.Text.{byte, bytes}
 use Rattle.tokens.specs.Bytes.{between, letter, wordByte, all}
 use Rattle.tokens.specs.Names.{sigil, isName, byteDigits, packed, lowBytes, strip, nameBytes, nameGiven}
-use Rattle.tokens.specs.Numbers.{digitOf, positional, among, Notation, decimals, notations, byRow, digitsLen, spells, worth, isNumber, valueOf, lowDigits, trimmed, decimal}
+use Rattle.tokens.specs.Numbers.{digitOf, positional, among, decimals, rowOf, digitsLen, spells, worth, isNumber, valueOf, lowDigits, trimmed, decimal}
 use Rattle.tokens.proofs.Names.{same-name}
 use Rattle.laws.proofs.BoolLaws.{bool, and-split}
 use Rattle.tokens.proofs.Runs.{run-all}
@@ -201,9 +201,9 @@ unfolding decimal
 decimal-trimmed v = trim-some (lowDigits 20 v) (omega (arith, digits-length 20 v)) (low-digits 20 v)
 
 -- each row but the last asks for a 0 first
-last-row : {A : Type 0} (o : A) (f : Notation → List ℕ → A) (d : List ℕ) → eqb (getD d 0 0) (byte "0") ≡ false → byRow o f notations d ≡ f decimals d
-last-row o f [] h = refl
-last-row o f (x ∷ d) h = rw h
+last-row : (d : List ℕ) → eqb (getD d 0 0) (byte "0") ≡ false → rowOf d ≡ decimals
+last-row [] h = refl
+last-row (x ∷ d) h = rw h
 
 figures-all : (d : List ℕ) → all figure d ≡ true → digitsLen decimals d ≡ length d
 figures-all d h = rw append-nil at (run-all figure d [] h refl)
@@ -212,12 +212,12 @@ figures-all d h = rw append-nil at (run-all figure d [] h refl)
 figures-number : (d : List ℕ) → all figure d ≡ true → 0 < length d → Led d → isNumber d ≡ true
 unfolding isNumber spells
 figures-number d h n (inl e) = rw e
-figures-number d h n (inr e) = last-row false spells d e ∙ rw (figures-all d h, le-leb 1 (length d) n, drop-length d)
+figures-number d h n (inr e) = rw (last-row d e, figures-all d h, le-leb 1 (length d) n, drop-length d)
 
 figures-value : (d : List ℕ) → all figure d ≡ true → Led d → valueOf d ≡ positional 10 0 d
 unfolding valueOf worth digitOf
 figures-value d h (inl e) = rw e
-figures-value d h (inr e) = last-row 0 worth d e ∙ rw (figures-all d h, take-length d)
+figures-value d h (inr e) = rw (last-row d e, figures-all d h, take-length d)
 
 pub decimal-number : (v : ℕ) → isNumber (decimal v) ≡ true
 decimal-number v = let t = decimal-trimmed v in figures-number (decimal v) (t .digits) (t .some) (t .lead)

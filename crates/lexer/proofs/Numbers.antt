@@ -12,18 +12,18 @@ use lib.ListN.{length, getD, take, drop, drop-of-length-le}
 use lib.Seq.{drop-cons, drop-drop, getD-drop, length-take-le}
 use lib.Dec.{ltb, leb, eqb}
 use borrow.Author.Tests.{eq-eqb, ne-eqb, le-leb, lt-leb, lt-ltb, le-ltb, ltb-true, ltb-false}
-use Rattle.laws.proofs.BoolLaws.{never, and-split}
+use Rattle.laws.proofs.BoolLaws.{never, and-l, and-split}
 use Rattle.tokens.specs.declared.Numeral.{Numeral}
 use Rattle.tokens.specs.Text.{bytes}
 use Rattle.tokens.specs.Bytes.{sameBytes, wordByte, letter, runLen, all, tokenLen, tokenOf, afterToken}
-use Rattle.tokens.specs.Numbers.{digitOf, among, positional, Notation, hexadecimals, binaries, octals, decimals, notations, begins, byRow, digitsLen, ending, spells, worth, isNumber, valueOf, numeralOf, fitted, noNumeral}
+use Rattle.tokens.specs.Numbers.{digitOf, among, positional, Notation, hexadecimals, binaries, octals, decimals, notations, begins, rowFor, rowOf, body, digitsLen, ending, spells, worth, isNumber, valueOf, numeralOf, fitted, noNumeral}
 use Rattle.tokens.specs.Cursors.{Rest, on, off, numberHere}
 use Rattle.lexer.specs.declared.number.Base.{Base}
 use Rattle.lexer.specs.declared.number.Base.the-variants as base
 use Rattle.lexer.specs.Runs.{notationOf, digitBelow, roomyOf, wordsOf, tailLen, rowNumeral}
 use Rattle.tokens.proofs.Runs.{run-stop, run-past}
 use Rattle.tokens.proofs.Lengths.{token-le}
-use Rattle.tokens.proofs.Notations.{among-each, not-among, digitsBelow, digits-below, ending-is, each, prefixWords, wordy, notations-wordy, begins-length, number-words}
+use Rattle.tokens.proofs.Notations.{among-each, not-among, digitsBelow, digits-below, each, row-of, prefixWords, wordy, notations-wordy, ending-is, begins-length, number-words}
 use Rattle.lexer.proofs.Laws.{word-0}
 
 -- ---- what is computed once for each base
@@ -259,26 +259,17 @@ words-prefix (c ∷ p) h (x ∷ l) b =
     let t = and-split (among c x) (begins p l) b in
     rw (among-each wordByte c x (q .0) (t .0)) (words-prefix p (q .1) l (t .1))
 
-rows-by : (rows : List Notation) → each wordy rows ≡ true → (l : List ℕ)
-    → cond (byRow false spells rows (wordsOf l)) (fitted (length (wordsOf l)) (byRow 0 worth rows (wordsOf l))) noNumeral ≡ byRow noNumeral rowNumeral rows l
-unfolding rowNumeral
-rows-by [] h l = refl
-rows-by (r ∷ rows) h l =
+-- the row of the word bytes is that of all, and they are a number by it or none
+row-same : (rows : List Notation) → each wordy rows ≡ true → (l : List ℕ) → rowFor rows (wordsOf l) ≡ rowFor rows l
+row-same [] h l = refl
+row-same (r ∷ rows) h l =
     let q = and-split (wordy r) (each wordy rows) h in
-    let t = and-split (prefixWords (r .prefix)) (all wordByte (r .digits) && ltb 0 (length (r .prefix) + r .fewest)) (q .0) in
-    rw (prefix-begins (r .prefix) (t .0) l) (go (begins (r .prefix) l) refl (t .0) (rows-by rows (q .1) l))
-  where
-    go : (b : Bool) → begins (r .prefix) l ≡ b → prefixWords (r .prefix) ≡ true
-        → cond (byRow false spells rows (wordsOf l)) (fitted (length (wordsOf l)) (byRow 0 worth rows (wordsOf l))) noNumeral ≡ byRow noNumeral rowNumeral rows l
-        → cond (cond b (spells r (drop (length (r .prefix)) (wordsOf l))) (byRow false spells rows (wordsOf l)))
-        (fitted (length (wordsOf l)) (cond b (worth r (drop (length (r .prefix)) (wordsOf l))) (byRow 0 worth rows (wordsOf l)))) noNumeral
-        ≡ cond b (rowNumeral r (drop (length (r .prefix)) l)) (byRow noNumeral rowNumeral rows l)
-    go true e h i =
-        let b = prefix-begins (r .prefix) h l ∙ e in
-        let k : length (wordsOf l) ≡ length (r .prefix) + length (drop (length (r .prefix)) (wordsOf l)) = begins-length (r .prefix) (wordsOf l) b in
-        let d = words-prefix (r .prefix) h l e in
-        rw (k, d)
-    go false e h i = i
+    rw (prefix-begins (r .prefix) (and-l (prefixWords (r .prefix)) _ (q .0)) l, row-same rows (q .1) l)
+
+row-numeral : (r : Notation) (l : List ℕ) → prefixWords (r .prefix) ≡ true → begins (r .prefix) l ≡ true
+    → cond (spells r (body r (wordsOf l))) (fitted (length (wordsOf l)) (worth r (body r (wordsOf l)))) noNumeral ≡ rowNumeral r (body r l)
+unfolding rowNumeral
+row-numeral r l h e = rw (begins-length (r .prefix) (wordsOf l) (prefix-begins (r .prefix) h l ∙ e), words-prefix (r .prefix) h l e)
 
 -- no number starts with a byte that is no word byte, so that the token is the word bytes
 no-number : (x : ℕ) (u : List ℕ) → wordByte x ≡ false → isNumber (x ∷ u) ≡ false
@@ -305,9 +296,11 @@ token-words (x ∷ l) = go (wordByte x) refl
     go true e = refl
     go false e = no-numeral x (take (cond (eqb x 37) (runLen wordByte l) 0) l) e ∙ sym empty-numeral
 
-numeral-rows : (l : List ℕ) → numeralOf (tokenOf l) ≡ byRow noNumeral rowNumeral notations l
+numeral-row : (l : List ℕ) → numeralOf (tokenOf l) ≡ rowNumeral (rowOf l) (body (rowOf l) l)
 unfolding numeralOf isNumber valueOf
-numeral-rows l = token-words l ∙ rows-by notations notations-wordy l
+numeral-row l =
+    let r = row-of wordy notations-wordy l in
+    token-words l ∙ rw (row-same notations notations-wordy l) (row-numeral (rowOf l) l (and-l (prefixWords (rowOf l .prefix)) _ (r .1)) (r .0))
 
 -- ---- the token at a position
 zero-numeral : record { ok = true; over = false; value = 0; used = 1 } ≡ numeralOf (48 ∷ [])
@@ -324,7 +317,7 @@ numeral-past s at h = rw (drop-of-length-le s h) (sym empty-numeral)
 
 module _ (s : List ℕ) (at : ℕ) (h : at < length s) where
   pub numeral-decimal : (getD s at 0 ≡ 48 → ⊥) → rowNumeral decimals (drop (at + 0) s) ≡ numeralOf (tokenOf (drop at s))
-  numeral-decimal n = rw (add-zero, numeral-rows (drop at s), drop-cons s at 0 h, ne-eqb (getD s at 0) 48 n)
+  numeral-decimal n = rw (add-zero, numeral-row (drop at s), drop-cons s at 0 h, ne-eqb (getD s at 0) 48 n)
 
   module _ (zero : getD s at 0 ≡ 48) where
     starts : drop at s ≡ 48 ∷ drop (at + 1) s
@@ -334,7 +327,7 @@ module _ (s : List ℕ) (at : ℕ) (h : at < length s) where
     third = let e : at + 1 + 1 ≡ at + 2 = omega arith in rw (drop-drop, e)
 
     pub numeral-hexadecimal : begins (bytes "xX" ∷ []) (drop (at + 1) s) ≡ true → rowNumeral hexadecimals (drop (at + 2) s) ≡ numeralOf (tokenOf (drop at s))
-    numeral-hexadecimal m = rw (numeral-rows (drop at s), starts, m, third)
+    numeral-hexadecimal m = rw (numeral-row (drop at s), starts, m, third)
 
     pub numeral-zero : wordByte (getD s (at + 1) 0) ≡ false → record { ok = true; over = false; value = 0; used = 1 } ≡ numeralOf (tokenOf (drop at s))
     numeral-zero e =
@@ -343,10 +336,10 @@ module _ (s : List ℕ) (at : ℕ) (h : at < length s) where
 
     module _ (no : begins (bytes "xX" ∷ []) (drop (at + 1) s) ≡ false) where
       pub numeral-binary : begins (bytes "bB" ∷ []) (drop (at + 1) s) ≡ true → rowNumeral binaries (drop (at + 2) s) ≡ numeralOf (tokenOf (drop at s))
-      numeral-binary m = rw (numeral-rows (drop at s), starts, no, m, third)
+      numeral-binary m = rw (numeral-row (drop at s), starts, no, m, third)
 
       pub numeral-octal : begins (bytes "bB" ∷ []) (drop (at + 1) s) ≡ false → rowNumeral octals (drop (at + 1) s) ≡ numeralOf (tokenOf (drop at s))
-      numeral-octal m = rw (numeral-rows (drop at s), starts, no, m)
+      numeral-octal m = rw (numeral-row (drop at s), starts, no, m)
 
 -- what a numeral tells of a value and a limit
 abbrev numeralBy : Bool → Bool → ℕ → ℕ → Numeral

@@ -44,7 +44,7 @@ wordsOf l = take (runLen wordByte l) l
 unfoldable pub tailLen : List ℕ → ℕ
 tailLen l = cond (ending true (wordsOf l)) (length (wordsOf l)) 2
 
--- the number that they are after a row's prefix
+-- the number that the word bytes after a row's prefix are
 unfoldable pub rowNumeral : Notation → List ℕ → Numeral
 rowNumeral r l = cond (spells r (wordsOf l)) (fitted (length (r .prefix) + length (wordsOf l)) (worth r (wordsOf l))) noNumeral
 

@@ -9,10 +9,10 @@ use mathlib.Core.Bool.{Bool, true, false, not, _&&_, _||_, cond, and-false}
 use lib.ListN.{length, drop}
 use lib.Dec.{ltb, leb, eqb}
 use borrow.Author.Tests.{eqb-true, lt-leb, le-ltb, ltb-true, leb-true}
-use Rattle.laws.proofs.BoolLaws.{never, and-split}
+use Rattle.laws.proofs.BoolLaws.{never, and-l, and-r, and-split}
 use Rattle.tokens.specs.Text.{bytes}
 use Rattle.tokens.specs.Bytes.{letter, wordByte, runLen, all}
-use Rattle.tokens.specs.Numbers.{digitOf, among, Notation, notations, begins, byRow, digitsLen, ending, spells, isNumber}
+use Rattle.tokens.specs.Numbers.{digitOf, among, Notation, hexadecimals, binaries, octals, decimals, notations, begins, rowFor, rowOf, body, digitsLen, ending, spells, isNumber}
 use Rattle.tokens.proofs.Runs.{run-le}
 
 -- ---- one of some bytes
@@ -74,11 +74,29 @@ digits-below r h x =
     go (yes far) h k b = rw (not-among (λ x. ltb x 128) (r .digits) x k (le-ltb x 128 far), digit-far x far, le-ltb 16 (r .base) b)
     go (no near) h k b = same-is (among (r .digits) x) (ltb (digitOf x) (r .base)) (below-is 128 (agrees r) h x (omega arith))
 
--- ---- prefix and digits are word bytes, and there is one at least
+-- ---- the row of a token
+-- what is computed of each row
 abbrev pub each : (Notation → Bool) → List Notation → Bool
 each f [] = true
 each f (r ∷ rows) = f r && each f rows
 
+module _ (P : Notation → Bool) (last : P decimals ≡ true) (w : List ℕ) where
+  row-in : (rows : List Notation) → each P rows ≡ true → (begins (rowFor rows w .prefix) w ≡ true) × (P (rowFor rows w) ≡ true)
+  row-in [] h = (refl, last)
+  row-in (r ∷ rows) h = let p = and-split (P r) (each P rows) h in go (begins (r .prefix) w) refl (p .0) (row-in rows (p .1))
+    where
+      go : (b : Bool) → begins (r .prefix) w ≡ b → P r ≡ true → (begins (rowFor rows w .prefix) w ≡ true) × (P (rowFor rows w) ≡ true)
+          → (begins (cond b r (rowFor rows w) .prefix) w ≡ true) × (P (cond b r (rowFor rows w)) ≡ true)
+      go true e h i = (e, h)
+      go false e h i = i
+
+-- it begins with the prefix of its row, of which holds what holds of each
+pub row-of : (P : Notation → Bool) → each P notations ≡ true → (w : List ℕ) → (begins (rowOf w .prefix) w ≡ true) × (P (rowOf w) ≡ true)
+row-of P h w =
+    let others = and-r (P octals) (each P (decimals ∷ [])) (and-r (P binaries) (each P (octals ∷ decimals ∷ [])) (and-r (P hexadecimals) (each P (binaries ∷ octals ∷ decimals ∷ [])) h)) in
+    row-in P (and-l (P decimals) true others) w notations h
+
+-- ---- prefix and digits are word bytes, and there is one at least
 abbrev pub prefixWords : List (List ℕ) → Bool
 prefixWords [] = true
 prefixWords (c ∷ p) = all wordByte c && prefixWords p
@@ -122,11 +140,15 @@ begins-length [] w b = omega arith
 begins-length (c ∷ p) [] b = never b
 begins-length (c ∷ p) (x ∷ w) b = omega (arith, begins-length p w (and-split (among c x) (begins p w) b .1))
 
-row-words : (r : Notation) (w : List ℕ) → wordy r ≡ true → begins (r .prefix) w ≡ true → spells r (drop (length (r .prefix)) w) ≡ true
-    → (all wordByte w ≡ true) × (0 < length w)
+-- a number has word bytes alone, and one at least
+pub notations-wordy : each wordy notations ≡ true
+unfolding wordByte letter
+notations-wordy = refl
+
+row-words : (r : Notation) (w : List ℕ) → begins (r .prefix) w ≡ true → wordy r ≡ true → spells r (body r w) ≡ true → (all wordByte w ≡ true) × (0 < length w)
 unfolding spells
-row-words r w h b k =
-    let d = drop (length (r .prefix)) w in
+row-words r w b h k =
+    let d = body r w in
     let n = digitsLen r d in
     let p = and-split (prefixWords (r .prefix)) (all wordByte (r .digits) && ltb 0 (length (r .prefix) + r .fewest)) h in
     let q = and-split (all wordByte (r .digits)) (ltb 0 (length (r .prefix) + r .fewest)) (p .1) in
@@ -136,20 +158,6 @@ row-words r w h b k =
       omega (arith, ltb-true 0 (length (r .prefix) + r .fewest) (q .1), leb-true (r .fewest) n (t .0), run-le (among (r .digits)) d, begins-length (r .prefix) w b),
     )
 
-rows-words : (rows : List Notation) (w : List ℕ) → each wordy rows ≡ true → byRow false spells rows w ≡ true → (all wordByte w ≡ true) × (0 < length w)
-rows-words [] w h k = never k
-rows-words (r ∷ rows) w h k = let p = and-split (wordy r) (each wordy rows) h in go (begins (r .prefix) w) refl k (p .0) (rows-words rows w (p .1))
-  where
-    go : (b : Bool) → begins (r .prefix) w ≡ b → cond b (spells r (drop (length (r .prefix)) w)) (byRow false spells rows w) ≡ true → wordy r ≡ true
-        → (byRow false spells rows w ≡ true → (all wordByte w ≡ true) × (0 < length w)) → (all wordByte w ≡ true) × (0 < length w)
-    go true e k h i = row-words r w h e k
-    go false e k h i = i k
-
-pub notations-wordy : each wordy notations ≡ true
-unfolding wordByte letter
-notations-wordy = refl
-
--- a number has word bytes alone, and one at least
 pub number-words : (w : List ℕ) → isNumber w ≡ true → (all wordByte w ≡ true) × (0 < length w)
 unfolding isNumber
-number-words w h = rows-words notations w notations-wordy h
+number-words w h = let r = row-of wordy notations-wordy w in row-words (rowOf w) w (r .0) (r .1) h

@@ -50,7 +50,6 @@ octals = record { prefix = bytes "0" ∷ []; base = 8; digits = bytes "01234567"
 abbrev pub decimals : Notation
 decimals = record { prefix = []; base = 10; digits = bytes "0123456789"; fewest = 1; unsigned = true }
 
--- a token goes by the first with whose prefix it begins, so that none that begins with 0 is decimal
 abbrev pub notations : List Notation
 notations = hexadecimals ∷ binaries ∷ octals ∷ decimals ∷ []
 
@@ -61,12 +60,19 @@ begins [] w = true
 begins (c ∷ p) [] = false
 begins (c ∷ p) (x ∷ w) = among c x && begins p w
 
--- f of the first row with whose prefix w begins, and of the bytes after it; other if there is none
-abbrev pub byRow : {A : Type 0} → A → (Notation → List ℕ → A) → List Notation → List ℕ → A
-byRow other f [] w = other
-byRow other f (r ∷ rows) w = cond (begins (r .prefix) w) (f r (drop (length (r .prefix)) w)) (byRow other f rows w)
+-- the row of a token: the first with whose prefix it begins, decimals having none; so no token that begins with 0 is decimal
+abbrev pub rowFor : List Notation → List ℕ → Notation
+rowFor [] w = decimals
+rowFor (r ∷ rows) w = cond (begins (r .prefix) w) r (rowFor rows w)
 
--- how many digits there are
+abbrev pub rowOf : List ℕ → Notation
+rowOf w = rowFor notations w
+
+-- the bytes after a row's prefix
+abbrev pub body : Notation → List ℕ → List ℕ
+body r w = drop (length (r .prefix)) w
+
+-- how many digits a body has
 abbrev pub digitsLen : Notation → List ℕ → ℕ
 digitsLen r d = runLen (among (r .digits)) d
 
@@ -83,10 +89,10 @@ unfoldable pub worth : Notation → List ℕ → ℕ
 worth r d = positional (r .base) 0 (take (digitsLen r d) d)
 
 unfoldable pub isNumber : List ℕ → Bool
-isNumber w = byRow false spells notations w
+isNumber w = spells (rowOf w) (body (rowOf w) w)
 
 unfoldable pub valueOf : List ℕ → ℕ
-valueOf w = byRow 0 worth notations w
+valueOf w = worth (rowOf w) (body (rowOf w) w)
 
 -- ---- as it is read
 abbrev pub noNumeral : Numeral
@@ -101,7 +107,6 @@ unfoldable pub numeralOf : List ℕ → Numeral
 numeralOf w = cond (isNumber w) (fitted (length w) (valueOf w)) noNumeral
 
 -- ---- as it is written
-
 -- the n low decimal digits of v, as bytes, the highest first
 unfoldable pub lowDigits : ℕ → ℕ → List ℕ
 lowDigits zero v = []
