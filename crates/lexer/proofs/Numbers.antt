@@ -6,12 +6,11 @@ use native.Mathlib.Omega.{arith}
 use native.Mathlib.Decide.{decLe}
 use mathlib.Core.Path.{_≡_, refl, sym, ap, _∙_}
 use mathlib.Core.List.{List, [], _∷_}
-use mathlib.Core.Logic.{⊎-elim}
 use mathlib.Core.Bool.{Bool, true, false, _&&_, _||_, not, true≢false, cond, and-false}
 use lib.ListN.{length, getD, take, drop, drop-of-length-le}
 use lib.Seq.{drop-cons, drop-drop, getD-drop, length-take-le}
 use lib.Dec.{ltb, leb, eqb}
-use borrow.Author.Tests.{eq-eqb, ne-eqb, le-leb, lt-leb, lt-ltb, le-ltb, ltb-true, ltb-false}
+use borrow.Author.Tests.{eq-eqb, ne-eqb, eqb-true, le-leb, lt-leb, lt-ltb, le-ltb, ltb-true, ltb-false}
 use Rattle.laws.proofs.BoolLaws.{never, and-l, and-split}
 use Rattle.tokens.specs.declared.Numeral.{Numeral}
 use Rattle.tokens.specs.Text.{bytes}
@@ -20,10 +19,10 @@ use Rattle.tokens.specs.Numbers.{digitOf, among, positional, Notation, hexadeci
 use Rattle.tokens.specs.Cursors.{Rest, on, off, numberHere}
 use Rattle.lexer.specs.declared.number.Base.{Base}
 use Rattle.lexer.specs.declared.number.Base.the-variants as base
-use Rattle.lexer.specs.Runs.{notationOf, digitBelow, roomyOf, wordsOf, tailLen, rowNumeral}
+use Rattle.lexer.specs.Runs.{notationOf, digitBelow, roomyOf, wordsOf, suffixLen, rowNumeral}
 use Rattle.tokens.proofs.Runs.{run-stop, run-past}
 use Rattle.tokens.proofs.Lengths.{token-le}
-use Rattle.tokens.proofs.Notations.{among-each, not-among, digitsBelow, digits-below, each, row-of, prefixWords, wordy, notations-wordy, ending-is, begins-length, number-words}
+use Rattle.tokens.proofs.Notations.{among-each, not-among, digitsBelow, digits-below, each, row-of, prefixWords, wordy, notations-wordy, begins-length, number-words}
 use Rattle.lexer.proofs.Laws.{word-0}
 
 -- ---- what is computed once for each base
@@ -150,96 +149,85 @@ words-parts f are (x ∷ l) = go (f x) (wordByte x) refl refl (words-parts f are
     go false false p q i = (refl, refl, rw q, rw q)
 
 -- ---- what follows the digits
-ending-length : (l : List ℕ) → ending true l ≡ true → length l ≤ 1
-ending-length l h = ⊎-elim (λ e. rw e (omega arith)) (λ e. rw e (omega arith)) (ending-is true l h)
-
-tail-by : (b : Bool) (k : ℕ) → (b ≡ true → k ≤ 1) → 1 < cond b k 2 → b ≡ false
-tail-by true k h g = absurd (omega (arith, h refl))
-tail-by false k h g = refl
-
-tail-is : (b : Bool) (k : ℕ) → cond b k 2 ≤ 1 → (b ≡ true) × (cond b k 2 ≡ k)
-tail-is true k g = (refl, refl)
-tail-is false k g = absurd (omega arith)
-
--- after a first word byte
-more-by : (a b : Bool) (m : List ℕ) → wordByte (getD m 0 0) ≡ b → (not a || b) ≡ true → (a && sameBytes (wordsOf m) []) ≡ false
-more-by true true [] e k = never (sym word-0 ∙ e)
-more-by true true (y ∷ m) e k = rw e
-more-by true false m e k = never k
-more-by false b m e k = refl
-
 words-none : (m : List ℕ) → wordByte (getD m 0 0) ≡ false → wordsOf m ≡ []
 words-none [] e = refl
 words-none (y ∷ m) e = rw e
 
-one-by : (a b : Bool) → (not a || b) ≡ false → (a ≡ true) × (b ≡ false)
-one-by true b k = (refl, k)
-one-by false b k = never (sym k)
+words-end : (m : List ℕ) → sameBytes (wordsOf m) [] ≡ not (wordByte (getD m 0 0))
+words-end [] = rw word-0
+words-end (y ∷ m) = go (wordByte y)
+  where
+    go : (w : Bool) → sameBytes (take (cond w (suc (runLen wordByte m)) 0) (y ∷ m)) [] ≡ not w
+    go true = refl
+    go false = refl
 
-module _ (s : List ℕ) (at : ℕ) where
-  pub tail-past : length s ≤ at → 0 ≡ tailLen (drop at s)
-  unfolding tailLen
-  tail-past h = rw (drop-of-length-le s h)
+word-U : wordByte 85 ≡ true
+unfolding wordByte letter
+word-U = refl
 
-  module _ (h : at < length s) where
-    pub tail-other : wordByte (getD s at 0) ≡ false → 0 ≡ tailLen (drop at s)
-    unfolding tailLen
-    tail-other e = rw (drop-cons s at 0 h, e)
+pub suffix-le : (l : List ℕ) → suffixLen l ≤ 1
+suffix-le l = go (eqb (getD l 0 0) 85)
+  where
+    go : (u : Bool) → cond u 1 0 ≤ 1
+    go true = omega arith
+    go false = omega arith
 
-    next : getD (drop (suc at) s) 0 0 ≡ getD s (at + 1) 0
-    next = rw (getD-drop, add-zero, add-one at)
+-- it is nothing or a U exactly where no word byte stands after the U, if there is one
+ending-by : (l : List ℕ) → ending true (wordsOf l) ≡ not (wordByte (getD l (suffixLen l) 0))
+ending-by [] = rw word-0
+ending-by (x ∷ m) = go (eqb x 85) (wordByte x) refl refl
+  where
+    go : (u w : Bool) → eqb x 85 ≡ u → wordByte x ≡ w → ending true (take (cond w (suc (runLen wordByte m)) 0) (x ∷ m)) ≡ not (wordByte (getD (x ∷ m) (cond u 1 0) 0))
+    go true true e q = rw e (words-end m)
+    go true false e q = let k : x ≡ 85 = eqb-true x 85 e in never (sym (rw k at q) ∙ word-U)
+    go false true e q = rw (e, q)
+    go false false e q = rw q
 
-    pub tail-more : wordByte (getD s at 0) ≡ true → (not (eqb (getD s at 0) 85) || wordByte (getD s (at + 1) 0)) ≡ true → 2 ≡ tailLen (drop at s)
-    unfolding tailLen
-    tail-more e k = rw (drop-cons s at 0 h, e, more-by (eqb (getD s at 0) 85) (wordByte (getD s (at + 1) 0)) (drop (suc at) s) (rw next) k)
+suffix-by : (l : List ℕ) → wordByte (getD l (suffixLen l) 0) ≡ false → length (wordsOf l) ≡ suffixLen l
+suffix-by [] h = refl
+suffix-by (x ∷ m) h = go (eqb x 85) (wordByte x) refl refl h
+  where
+    go : (u w : Bool) → eqb x 85 ≡ u → wordByte x ≡ w → wordByte (getD (x ∷ m) (cond u 1 0) 0) ≡ false → length (take (cond w (suc (runLen wordByte m)) 0) (x ∷ m)) ≡ cond u 1 0
+    go true true e q h = rw (words-none m h)
+    go true false e q h = let k : x ≡ 85 = eqb-true x 85 e in never (sym (rw k at q) ∙ word-U)
+    go false true e q h = never (sym h ∙ q)
+    go false false e q h = refl
 
-    pub tail-one : wordByte (getD s at 0) ≡ true → (not (eqb (getD s at 0) 85) || wordByte (getD s (at + 1) 0)) ≡ false → 1 ≡ tailLen (drop at s)
-    unfolding tailLen
-    tail-one e k =
-        let p = one-by (eqb (getD s at 0) 85) (wordByte (getD s (at + 1) 0)) k in
-        rw (drop-cons s at 0 h, e, p .0, words-none (drop (suc at) s) (rw next (p .1)))
-
--- ---- a number by its row, in the words of the code: its digits start at `first` and end at `end`
-module _ (b : Base) (s : List ℕ) (first end : ℕ) (h : end ≡ first + digitsLen (notationOf b) (drop first s)) where
+-- ---- a number by its row, in the words of the code: its digits start at `first` and end at `last`
+module _ (b : Base) (s : List ℕ) (first last : ℕ) (h : last ≡ first + digitsLen (notationOf b) (drop first s)) where
   parts : Parts (among (notationOf b .digits)) (drop first s) (digitsLen (notationOf b) (drop first s)) (wordsOf (drop first s))
   parts = words-parts (among (notationOf b .digits)) (λ x. among-each wordByte (notationOf b .digits) x (row b .words)) (drop first s)
 
-  count : end - first ≡ digitsLen (notationOf b) (drop first s)
+  count : last - first ≡ digitsLen (notationOf b) (drop first s)
   count = omega (arith, h)
 
-  after : drop (digitsLen (notationOf b) (drop first s)) (drop first s) ≡ drop end s
+  after : drop (digitsLen (notationOf b) (drop first s)) (drop first s) ≡ drop last s
   after = rw (drop-drop, h)
 
-  row-spells : spells (notationOf b) (wordsOf (drop first s)) ≡ (leb (notationOf b .fewest) (end - first) && ending true (wordsOf (drop end s)))
+  row-spells : spells (notationOf b) (wordsOf (drop first s)) ≡ (leb (notationOf b .fewest) (last - first) && not (wordByte (getD s (last + suffixLen (drop last s)) 0)))
   unfolding spells
-  row-spells = rw (parts .0, parts .2, after, count, row b .unsigned)
-
-  pub spelled-few : leb (notationOf b .fewest) (end - first) ≡ false → noNumeral ≡ rowNumeral (notationOf b) (drop first s)
-  unfolding rowNumeral
-  spelled-few e = rw (row-spells, e)
-
-  pub spelled-more : 1 < tailLen (drop end s) → noNumeral ≡ rowNumeral (notationOf b) (drop first s)
-  unfolding rowNumeral tailLen
-  spelled-more g =
-      let l = wordsOf (drop end s) in
-      rw (row-spells, tail-by (ending true l) (length l) (ending-length l) g, and-false (leb (notationOf b .fewest) (end - first)))
+  row-spells = rw (parts .0, parts .2, after, count, row b .unsigned, ending-by (drop last s), getD-drop last s (suffixLen (drop last s)) 0)
 
   row-worth : worth (notationOf b) (wordsOf (drop first s)) ≡ worth (notationOf b) (drop first s)
   unfolding worth
   row-worth = rw (parts .0, parts .1)
 
-  tails : tailLen (drop end s) ≤ 1 → (ending true (wordsOf (drop end s)) ≡ true) × (tailLen (drop end s) ≡ length (wordsOf (drop end s)))
-  unfolding tailLen
-  tails g = tail-is (ending true (wordsOf (drop end s))) (length (wordsOf (drop end s))) g
+  pub spelled-few : leb (notationOf b .fewest) (last - first) ≡ false → noNumeral ≡ rowNumeral (notationOf b) (drop first s)
+  unfolding rowNumeral
+  spelled-few e = rw (row-spells, e)
 
-  pub spelled-is : (used : ℕ) (d : Numeral) → leb (notationOf b .fewest) (end - first) ≡ true → tailLen (drop end s) ≤ 1
-      → used ≡ length (notationOf b .prefix) + (end - first) + tailLen (drop end s) → d ≡ fitted used (worth (notationOf b) (drop first s)) → d ≡ rowNumeral (notationOf b) (drop first s)
+  pub spelled-more : wordByte (getD s (last + suffixLen (drop last s)) 0) ≡ true → noNumeral ≡ rowNumeral (notationOf b) (drop first s)
+  unfolding rowNumeral
+  spelled-more e = rw (row-spells, e, and-false (leb (notationOf b .fewest) (last - first)))
+
+  pub spelled-is : (used : ℕ) (d : Numeral) → leb (notationOf b .fewest) (last - first) ≡ true → wordByte (getD s (last + suffixLen (drop last s)) 0) ≡ false
+      → used ≡ length (notationOf b .prefix) + (last - first) + suffixLen (drop last s) → d ≡ fitted used (worth (notationOf b) (drop first s)) → d ≡ rowNumeral (notationOf b) (drop first s)
   unfolding rowNumeral
   spelled-is used d e g k q =
-      let t = tails g in
-      let m : length (wordsOf (drop first s)) ≡ digitsLen (notationOf b) (drop first s) + length (wordsOf (drop end s)) = parts .3 ∙ rw after in
-      let u : used ≡ length (notationOf b .prefix) + length (wordsOf (drop first s)) = omega (arith, k, m, t .1, count) in
-      rw (row-spells, e, t .0, row-worth, ← u) q
+      let m : length (wordsOf (drop first s)) ≡ digitsLen (notationOf b) (drop first s) + length (wordsOf (drop last s)) = parts .3 ∙ rw after in
+      let t = suffix-by (drop last s) (rw (getD-drop last s (suffixLen (drop last s)) 0) g) in
+      let u : used ≡ length (notationOf b .prefix) + length (wordsOf (drop first s)) = omega (arith, k, m, t, count) in
+      rw (row-spells, e, g, row-worth, ← u) q
 
 -- ---- a token by the first row with whose prefix it begins
 prefix-begins : (p : List (List ℕ)) → prefixWords p ≡ true → (l : List ℕ) → begins p (wordsOf l) ≡ begins p l

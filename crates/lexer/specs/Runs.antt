@@ -2,13 +2,14 @@
 use Prim.Native.Nat.{ℕ, _+_, _-_, _^_, min}
 use mathlib.Core.List.{List}
 use mathlib.Core.Bool.{Bool, true, false, cond}
-use lib.ListN.{length, take, drop}
-use lib.Dec.{ltb}
+use lib.ListN.{length, getD, take, drop}
+use lib.Dec.{ltb, eqb}
 use Rattle.tokens.specs.declared.Name.{Name}
 use Rattle.tokens.specs.declared.Numeral.{Numeral}
+use Rattle.tokens.specs.Text.{byte}
 use Rattle.tokens.specs.Bytes.{wordByte, runLen, tokenOf, afterToken}
 use Rattle.tokens.specs.Names.{isName, packed, noName}
-use Rattle.tokens.specs.Numbers.{digitOf, Notation, hexadecimals, binaries, octals, decimals, ending, spells, worth, fitted, noNumeral}
+use Rattle.tokens.specs.Numbers.{digitOf, Notation, hexadecimals, binaries, octals, decimals, spells, worth, fitted, noNumeral}
 use Rattle.lexer.specs.declared.number.Digits.{Digits}
 use Rattle.lexer.specs.declared.number.Base.{Base}
 use Rattle.lexer.specs.declared.number.Base.the-variants as base
@@ -40,9 +41,9 @@ numeralIn used d = record { ok = true; over = d .over; value = d .value; used = 
 abbrev pub wordsOf : List ℕ → List ℕ
 wordsOf l = take (runLen wordByte l) l
 
--- how many word bytes follow the digits: none, or one U; 2 stands for anything else
-unfoldable pub tailLen : List ℕ → ℕ
-tailLen l = cond (ending true (wordsOf l)) (length (wordsOf l)) 2
+-- how many bytes a U at the head takes, if there is one
+abbrev pub suffixLen : List ℕ → ℕ
+suffixLen l = cond (eqb (getD l 0 0) (byte "U")) 1 0
 
 -- the number that the word bytes after a row's prefix are
 unfoldable pub rowNumeral : Notation → List ℕ → Numeral

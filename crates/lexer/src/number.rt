@@ -1,6 +1,5 @@
 // Numbers of any length, in four bases, read in one pass.
 use crate::bytes::digit_of;
-use crate::bytes::is_word;
 use crate::bytes::wide;
 use crate::bytes::word_at;
 use tokens::Numeral;
@@ -11,7 +10,7 @@ ghost use lib.ListN.{length, drop};
 ghost use lib.Dec.{ltb};
 ghost use Rattle.tokens.specs.Bytes.{runLen, tokenOf};
 ghost use Rattle.tokens.specs.Numbers.{begins, digitsLen, worth, fitted, noNumeral, numeralOf};
-ghost use Rattle.lexer.specs.Runs.{notationOf, digitBelow, roomyOf, numeralIn, tailLen, rowNumeral};
+ghost use Rattle.lexer.specs.Runs.{notationOf, digitBelow, roomyOf, numeralIn, suffixLen, rowNumeral};
 
 // How a number is written: a row of the table of notations.
 pub enum Base {
@@ -144,22 +143,17 @@ fn run(s: &[u8], at: usize, b: Base) -> Digits
     }
 }
 
-// How many bytes of the token stand after the digits: none, one U, or, for all else, 2.
-fn tail(s: &[u8], at: usize) -> usize
-    ensures { λ r. ⌜ r ≡ tailLen (drop at (now (s .entry))) ⌝ }
+// How many bytes the U at a position takes, if there is one.
+fn suffix_of(s: &[u8], at: usize) -> usize
+    ensures { λ r. ⌜ r ≡ suffixLen (drop at (now (s .entry))) ⌝ }
 {
     if s.len() <= at {
         return 0;
     }
-    let x = s[at];
-    if !is_word(x) {
-        return 0;
+    if s[at] == b'U' {
+        return 1;
     }
-    let after = at + 1;
-    if (x != b'U') | word_at(s, after) {
-        return 2;
-    }
-    1
+    0
 }
 
 // No number.
@@ -181,15 +175,15 @@ fn spelled(s: &[u8], at: usize, b: Base) -> Numeral
 {
     let first = at + prefix_of(b);
     let d = run(s, first, b);
-    let end = d.end;
-    if end - first < fewest_of(b) {
+    let last = d.end;
+    if last - first < fewest_of(b) {
         return none();
     }
-    let t = tail(s, end);
-    if 1 < t {
+    let end = last + suffix_of(s, last);
+    if word_at(s, end) {
         return none();
     }
-    let used = end - at + t;
+    let used = end - at;
     Numeral {
         ok: true,
         over: d.over,
