@@ -108,6 +108,32 @@ class Module(unittest.TestCase):
         self.refused(9, s.request, 96)
         self.refused(9, s.request, 32 + (1 << 32))
 
+    def test_sparse_ws(self):
+        """With .ws and .sp N is 64 or 128 in each kind; with one of them it may be 256. The word reads and is written either way."""
+        for kind, types, dtype, code in (("f16", 0x10, 1, 0), ("tf32", 0x910, 1, 2), ("f8f6f4", 0x10, 1, 0), ("i8", 0x20, 2, 0)):
+            for ws, sp, n, shape, good in (
+                (1, 1, 64, 0x08100004, True), (1, 1, 128, 0x08200004, True), (1, 1, 256, 0x08400004, False),
+                (1, 0, 256, 0x08400000, True), (0, 1, 256, 0x08400004, True),
+            ):
+                with self.subTest(kind=kind, ws=ws, sp=sp, n=n):
+                    word, fields = shape | types, s.Instruction(sparse=sp, dtype=dtype, atype=code, btype=code, n=n, m=128)
+                    for function, given in ((s.instruction_judge, word), (s.instruction_listed, fields)):
+                        if good:
+                            function(kind, given, ws=ws, sp=sp)
+                        else:
+                            self.refused(s.Reason.SHAPE_N, function, kind, given, ws=ws, sp=sp)
+                    self.assertEqual(s.instruction_decode(kind, word, ws=ws, sp=sp), fields)
+                    self.assertEqual(s.instruction_encode(kind, fields, ws=ws, sp=sp), word)
+        sheet = (
+            "sheet\t1\tsm_100a\n0\ttcgen05.alloc.cta_group::1.sync.aligned.b32 [t], 512;\n0\tmov.b64 b, 0x400800100000;\n"
+            "0\tmov.b32 i, 0x08400014;\n0\ttcgen05.mma.ws.sp.cta_group::1.kind::f16 [t], b, b, [t], i, p;\n"
+            "0\ttcgen05.dealloc.cta_group::1.sync.aligned.b32 t, 512;\n0\texit;\n"
+        )
+        self.assertEqual(s.report(sheet.encode()), b"20\t5\t60\t512\t512\n")
+        self.assertEqual(s.judge(sheet.replace("0x084", "0x082").encode()), s.Passed(7, 512, [0]))
+        dense = sheet.replace("0x08400014", "0x08400010").replace(".sp", "").replace("[t], i", "i")
+        self.assertEqual(s.judge(dense.encode()), s.Passed(7, 512, [0]))
+
     def test_threads(self):
         given, wanted, wrong = contents("crates/foot/stdin"), contents("crates/foot/stdout"), []
 

@@ -29,6 +29,14 @@ static void words(void) {
     is(staplehorn_instruction_judge(0, 0, 0, 0x0C000020), STAPLEHORN_REASON_SHAPE_M, "judge, M, N and types");
     is(staplehorn_instruction_judge(0, 0, 0, 0x08000020), STAPLEHORN_REASON_SHAPE_N, "judge, N and types");
     is(staplehorn_instruction_judge(0, 0, 0, 0x08100020), STAPLEHORN_REASON_TYPES, "judge, types");
+    /* N with .ws and .sp: 128 and not 256, in each kind; 256 with one of them */
+    static const uint32_t types[4] = {0x10, 0x910, 0x10, 0x20};
+    for (uint32_t kind = 0; kind < 4; ++kind) {
+        is(staplehorn_instruction_judge(kind, 1, 1, 0x08200004 | types[kind]), 0, "judge, N 128 with .ws and .sp");
+        is(staplehorn_instruction_judge(kind, 1, 1, 0x08400004 | types[kind]), STAPLEHORN_REASON_SHAPE_N, "judge, N 256 with .ws and .sp");
+        is(staplehorn_instruction_judge(kind, 1, 0, 0x08400000 | types[kind]), 0, "judge, N 256 with .ws");
+        is(staplehorn_instruction_judge(kind, 0, 1, 0x08400004 | types[kind]), 0, "judge, N 256 with .sp");
+    }
     is(staplehorn_instruction_k(1, 1, &k), 0, "k");
     is(k, 16, "K");
     is(staplehorn_instruction_decode(4, 0, 0, 0x08100010, f), 12, "wrong kind");
@@ -236,5 +244,5 @@ int main(void) {
     spelled();
     sheets();
     printf("%d answers right, %d wrong\n", right, wrong);
-    return wrong != 0 || right < 180;
+    return wrong != 0 || right < 196;
 }

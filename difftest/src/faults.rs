@@ -507,10 +507,14 @@ impl Maker<'_> {
         if !self.ensure_live() {
             return None;
         }
+        if reason == 20 && self.one_in(4) {
+            return self.sparse_shape_fault();
+        }
         let mut mma = self.good_mma()?;
-        let unlisted_n: &[u32] = match (mma.ws, mma.kind) {
-            (true, _) => &[0, 8, 32, 48, 96, 192, 264, 504],
-            (false, I8) => &[0, 40, 56, 72, 248, 264, 272, 504],
+        let unlisted_n: &[u32] = match (mma.ws, mma.sp, mma.kind) {
+            (true, true, _) => &[0, 8, 32, 48, 96, 192, 256, 264, 504],
+            (true, false, _) => &[0, 8, 32, 48, 96, 192, 264, 504],
+            (false, _, I8) => &[0, 40, 56, 72, 248, 264, 272, 504],
             _ => &[0, 264, 272, 320, 504],
         };
         let unlisted_m: &[u32] = if mma.ws { &[0, 16, 48, 96, 144, 256] } else { &[0, 16, 32, 48, 96, 192, 256, 496] };
@@ -526,6 +530,20 @@ impl Maker<'_> {
         }
         self.bind_name(&mma.idesc.clone(), Word::Narrow(bad));
         self.spoil_cells(&mut mma, 3);
+        Some(self.at_mma(&mma, &Broken::new(Operand::Idesc), Role::Name))
+    }
+
+    /// N 256, which with `.ws` is for dense alone, where the columns are there and all else is good.
+    fn sparse_shape_fault(&mut self) -> Option<Fault> {
+        if !self.live.iter().any(|l| l.columns >= 256) {
+            self.alloc(256);
+        }
+        let place = self.live.iter().position(|l| l.columns >= 256)?;
+        let kind = self.r.below(4) as usize;
+        let mut mma = self.good_mma_in(place, kind, true, true)?;
+        mma.d = self.cells(place, 256);
+        mma.word = mma.word & !(63 << 17) | (256 / 8) << 17;
+        self.bind_name(&mma.idesc, Word::Narrow(mma.word));
         Some(self.at_mma(&mma, &Broken::new(Operand::Idesc), Role::Name))
     }
 

@@ -464,6 +464,12 @@ impl<'a> Maker<'a> {
         let length = self.live[place].columns;
         let (kind, sp) = (self.r.below(4) as usize, self.one_in(2));
         let ws = length >= 64 && self.one_in(2);
+        self.good_mma_in(place, kind, ws, sp)
+    }
+
+    /// One with this opcode whose d is in this holding.
+    pub fn good_mma_in(&mut self, place: usize, kind: usize, ws: bool, sp: bool) -> Option<Mma> {
+        let length = self.live[place].columns;
         let word = idesc_word(self.r, kind, ws, sp, length);
         let n = word >> 17 & 63;
         let d = self.cells(place, 8 * n);
@@ -583,7 +589,11 @@ fn bits(unit: u32, units: u32) -> u32 {
 
 /// A word of an instruction descriptor that is listed for the opcode, with N at most this.
 fn idesc_word(r: &mut Random, kind: usize, ws: bool, sp: bool, most: u32) -> u32 {
-    let listed = |n: u32| if ws { matches!(n, 64 | 128 | 256) } else { kind != I8 || n <= 32 && n % 8 == 0 || n % 16 == 0 };
+    let listed = |n: u32| match (ws, sp) {
+        (false, _) => kind != I8 || n <= 32 && n % 8 == 0 || n % 16 == 0,
+        (true, false) => matches!(n, 64 | 128 | 256),
+        (true, true) => matches!(n, 64 | 128),
+    };
     let sizes: Vec<u32> = (8..=most.min(256)).step_by(8).filter(|&n| listed(n)).collect();
     let n = if r.below(3) == 0 { sizes[sizes.len() - 1] } else { r.pick(&sizes) };
     let m = if ws { r.pick(&[32u32, 64, 128]) } else { r.pick(&[64, 128]) };

@@ -444,6 +444,8 @@ const A32: &str = "0|@alloc [t], 32;";
 const A64: &str = "0|@alloc [t], 64;";
 const D32: &str = "0|@dealloc t, 32;";
 const D64: &str = "0|@dealloc t, 64;";
+const A512: &str = "0|@alloc [t], 512;";
+const D512: &str = "0|@dealloc t, 512;";
 const EXIT: &str = "0|exit;";
 /// A shared memory descriptor that reads, an instruction descriptor that is listed.
 const B: &str = "0|mov.b64 b, 0x0000400800100000;";
@@ -460,6 +462,7 @@ fn sheet_rows() -> Vec<Sheet> {
     name_rows(&mut row);
     booking_rows(&mut row);
     descriptor_rows(&mut row);
+    shape_rows(&mut row);
     cell_rows(&mut row);
     spelling_rows(&mut row);
     t
@@ -604,6 +607,15 @@ fn descriptor_rows(row: Put) {
         row(&[A64, B, &word, "0|@integers [t], b, b, ^i, p;"], reason, 64, 64);
     }
     row(&[A64, B, "0|mov.b32 i, 0x080C00A0;", "0|@integers [t], b, b, i, p;", D64, EXIT], 0, 0, 64);
+}
+
+/// N 256 with `.ws` is for dense alone.
+fn shape_rows(row: Put) {
+    let sparse = "0|tcgen05.mma.ws.sp.cta_group::1.kind::f16 [t], b, b, [t], ";
+    row(&[A512, B, "0|mov.b32 i, 0x08400014;", &format!("{sparse}^i, p;")], 20, 512, 512);
+    row(&[A512, B, "0|mov.b32 i, 0x08200014;", &format!("{sparse}i, p;"), D512, EXIT], 0, 0, 512);
+    let dense = "0|tcgen05.mma.ws.cta_group::1.kind::f16 [t], b, b, i, p;";
+    row(&[A512, B, "0|mov.b32 i, 0x08400010;", dense, D512, EXIT], 0, 0, 512);
 }
 
 fn cell_rows(row: Put) {

@@ -8,11 +8,13 @@ use crate::spelling::{Spelling, BASES, PREFIXES};
 use staplehorn_difftest::counts::Counts;
 use staplehorn_difftest::proved::{self, Answer};
 use staplehorn_difftest::random::Random;
+use staplehorn_reference::descriptor::Kind;
 use staplehorn_reference::judge::judge;
 use staplehorn_reference::report::report;
 use staplehorn_reference::run::{choose_starts, run as run_steps, End, Outcome};
 use staplehorn_reference::sheet::{steps, Lines, Step};
 use staplehorn_reference::statement::{canonical, judge_alone, Statement};
+use std::collections::BTreeMap;
 
 /// What stands in a list or room before a call, to see what was touched.
 const BEFORE: u16 = 0xA5A5;
@@ -154,6 +156,9 @@ impl<'a, S: Side> Comparison<'a, S> {
         if (3..=5).contains(&theirs[0]) {
             self.alone(sheet, theirs);
         }
+        if theirs[0] == 20 {
+            self.refused_shape(sheet, theirs[1]);
+        }
         self.seen += 1;
         if self.seen % 16 == 0 {
             self.report(sheet, theirs);
@@ -171,6 +176,25 @@ impl<'a, S: Side> Comparison<'a, S> {
         let ours = self.side.statement(&text[FIRST - 1..]);
         let wanted = (reason, (column as usize).wrapping_sub(FIRST - 1));
         self.counts.compare("statements alone", reason, ours, wanted, || shown(sheet, 0));
+    }
+
+    /// Counts a sheet that is refused with 20 in this line for N 256, with `.ws` and `.sp`, by its kind.
+    fn refused_shape(&mut self, sheet: &[u8], line: u32) {
+        let steps = steps_to(sheet, line);
+        if let Some(Shape { kind, ws: true, sp: true, n: 256 }) = shapes(&steps).last() {
+            self.counts.seen("20, .ws.sp, N 256", kind.number());
+        }
+    }
+
+    /// Counts a passed sheet by the kinds that its mma have with `.ws` and such an N.
+    fn passed_shapes(&mut self, steps: &[Step]) {
+        let shapes = shapes(steps);
+        for (what, sp, n) in [("passed, .ws.sp, N 64", true, 64), ("passed, .ws.sp, N 128", true, 128), ("passed, .ws, N 256", false, 256)]
+        {
+            for kind in Kind::ALL.into_iter().filter(|&kind| shapes.contains(&Shape { kind, ws: true, sp, n })) {
+                self.counts.seen(what, kind.number());
+            }
+        }
     }
 
     /// Several lists for one sheet.
@@ -237,6 +261,7 @@ impl<'a, S: Side> Comparison<'a, S> {
             return;
         }
         let steps = steps(sheet).expect("a passed sheet reads");
+        self.passed_shapes(&steps);
         let allocs = count_allocs(&steps);
         let own: Vec<u32> = self.ours[..allocs.min(places)].iter().map(|&start| start.into()).collect();
         let outcome = run_steps(&steps, &own);
@@ -305,6 +330,39 @@ fn is_sound(outcome: &Outcome) -> bool {
 
 fn count_allocs(steps: &[Step]) -> usize {
     steps.iter().filter(|step| matches!(step.statement, Statement::Alloc { .. })).count()
+}
+
+/// What an mma asks for: its opcode, and the N of the word that its idesc is bound to.
+#[derive(Clone, Copy, PartialEq)]
+struct Shape {
+    kind: Kind,
+    ws: bool,
+    sp: bool,
+    n: u32,
+}
+
+/// The shape of each mma whose idesc is bound, in order.
+fn shapes(steps: &[Step]) -> Vec<Shape> {
+    let (mut words, mut shapes) = (BTreeMap::new(), Vec::new());
+    for step in steps {
+        match &step.statement {
+            Statement::Mov { name, value, .. } => {
+                words.insert(name.as_bytes(), *value);
+            }
+            Statement::Mma { kind, ws, sp, idesc, .. } => {
+                let n = words.get(idesc.as_bytes()).map(|word| (word >> 17 & 63) as u32 * 8);
+                shapes.extend(n.map(|n| Shape { kind: *kind, ws: *ws, sp: *sp, n }));
+            }
+            _ => {}
+        }
+    }
+    shapes
+}
+
+/// The statements up to a line that reads, as those before it do.
+fn steps_to(sheet: &[u8], line: u32) -> Vec<Step> {
+    let bytes = Lines::new(sheet).take(line as usize).map(|line| line.bytes.len() + 1).sum();
+    steps(&sheet[..bytes]).expect("lines before a fault read")
 }
 
 /// The line of an alloc, counted from 0.
@@ -806,6 +864,10 @@ fn wanted(sheets: u64) -> Vec<(&'static str, u32, u64)> {
     for base in BASES {
         wanted.extend([("numbers in base", base, 20 * sheets), ("numbers with U in base", base, 10 * sheets)]);
     }
+    for kind in 0..4 {
+        wanted.extend([("20, .ws.sp, N 256", kind, sheets), ("passed, .ws.sp, N 64", kind, sheets)]);
+        wanted.extend([("passed, .ws.sp, N 128", kind, sheets / 2), ("passed, .ws, N 256", kind, sheets / 4)]);
+    }
     wanted
 }
 
@@ -1006,7 +1068,7 @@ mod tests {
 
     #[test]
     fn faults_in_answers_are_found() {
-        let faults: [(&str, AnswerFault); 13] = [
+        let faults: [(&str, AnswerFault); 14] = [
             ("13 for 12", |_, _, a| {
                 if a[0] == 12 {
                     a[0] = 13
@@ -1020,6 +1082,11 @@ mod tests {
             ("20 for 21", |_, _, a| {
                 if a[0] == 21 {
                     a[0] = 20
+                }
+            }),
+            ("N 256 with .ws.sp passed over", |s, _, a| {
+                if a[0] == 20 && matches!(shapes(&steps_to(s, a[1])).last(), Some(Shape { ws: true, sp: true, n: 256, .. })) {
+                    *a = [0, a[1], 0, 0, a[4], 0]
                 }
             }),
             ("11 passed over", |_, _, a| {

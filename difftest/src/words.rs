@@ -129,6 +129,55 @@ fn listed_dtype(kind: Kind) -> u32 {
     }
 }
 
+/// The M that are listed.
+fn listed_m(ws: bool) -> &'static [u32] {
+    if ws {
+        &[32, 64, 128]
+    } else {
+        &[64, 128]
+    }
+}
+
+/// `.ws`, N, and the answers for dense and for sparse, the same in each kind.
+const KNOWN_N: [(u32, u32, [u32; 2]); 9] = [
+    (1, 56, [20, 20]),
+    (1, 64, [0, 0]),
+    (1, 128, [0, 0]),
+    (1, 192, [20, 20]),
+    (1, 256, [0, 20]),
+    (1, 264, [20, 20]),
+    (0, 128, [0, 0]),
+    (0, 256, [0, 0]),
+    (0, 264, [20, 20]),
+];
+
+/// N whose answers are known without the reference.
+fn known_shapes(counts: &mut Counts) {
+    for opcode in opcodes() {
+        let (o, _, ws, _) = opcode;
+        for (_, n, answers) in KNOWN_N.into_iter().filter(|row| row.0 == o.ws) {
+            for &m in listed_m(ws) {
+                known_shape(counts, opcode, [n, m], answers[o.sp as usize]);
+            }
+            // M is asked before
+            known_shape(counts, opcode, [n, 256], 13);
+        }
+    }
+}
+
+/// The word reads and is written whatever N is. One that is sparse where the opcode is not, or the other way, does not.
+fn known_shape(counts: &mut Counts, (o, kind, _, sp): (Opcode, Kind, bool, bool), [n, m]: [u32; 2], wanted: u32) {
+    let w = listed_base(kind, sp) | listed_dtype(kind) << 4 | (n / 8) << 17 | (m / 16) << 24;
+    let code = w >> 7 & 7;
+    let f = [0, o.sp, 0, listed_dtype(kind), code, code, 0, 0, 0, 0, n, m, 0];
+    let shown = || format!("{o:?} {w:#010x}");
+    counts.compare("known N, judge", wanted, proved::instruction_judge(o, w), wanted, shown);
+    counts.compare("known N, listed", wanted, proved::instruction_listed(o, &f), wanted, shown);
+    counts.compare("known N, other sparse", 12, proved::instruction_judge(o, w ^ 4), 12, shown);
+    counts.compare("known N, decode", 0, proved::instruction_decode(o, w), (0, f), shown);
+    counts.compare("known N, encode", 0, proved::instruction_encode(o, &f), (0, w), shown);
+}
+
 fn instructions(counts: &mut Counts, r: &mut Random) {
     for opcode in opcodes() {
         // every combination of bits 0 to 16, at N 64 and M 128
@@ -307,6 +356,7 @@ fn requests(counts: &mut Counts, r: &mut Random) {
 pub fn run() -> bool {
     let mut counts = Counts::new();
     let mut r = Random::new(1);
+    known_shapes(&mut counts);
     instructions(&mut counts, &mut r);
     field_sets(&mut counts, &mut r);
     wrong_opcodes(&mut counts, &mut r);
@@ -337,14 +387,14 @@ pub fn run() -> bool {
         ("request", 0, 10),
         ("request", 9, 100_000),
     ];
-    for (o, _, ws, _) in opcodes() {
-        // every listed shape of the opcode at least once: three by three with `.ws`, else 32 N (18 for i8) by two M
-        let shapes = if ws {
-            9
-        } else if o.kind == 3 {
-            36
-        } else {
-            64
+    for (o, _, ws, sp) in opcodes() {
+        // every listed shape of the opcode at least once: three M by three N with `.ws`, by two if it is sparse; else
+        // 32 N (18 for i8) by two M
+        let shapes = match (ws, sp) {
+            (true, true) => 6,
+            (true, false) => 9,
+            _ if o.kind == 3 => 36,
+            _ => 64,
         };
         wanted.push(("opcodes judged 0", o.number(), shapes));
         for what in ["opcodes judged 13", "opcodes judged 20", "opcodes judged 21"] {

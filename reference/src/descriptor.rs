@@ -216,13 +216,30 @@ fn is_m_listed(ws: bool, m: u32) -> bool {
     }
 }
 
-fn is_n_listed(kind: Kind, ws: bool, n: u32) -> bool {
-    if ws {
-        return matches!(n, 64 | 128 | 256);
-    }
-    match kind {
-        Kind::I8 => matches!(n, 8 | 16 | 24 | 32) || ((48..=256).contains(&n) && n % 16 == 0),
-        Kind::F16 | Kind::Tf32 | Kind::F8f6f4 => (8..=256).contains(&n) && n % 8 == 0,
+// What the opcode says, as the table of shapes names it.
+const NO_WS: bool = false;
+const WS: bool = true;
+const DENSE: bool = false;
+const SPARSE: bool = true;
+
+/// 8, 16, 24 and so on to 256.
+fn is_in_steps_of_8(n: u32) -> bool {
+    (8..=256).contains(&n) && n % 8 == 0
+}
+
+/// 8, 16, 24, 32, then 48, 64 and so on to 256.
+fn is_in_steps_of_16_after_32(n: u32) -> bool {
+    matches!(n, 8 | 16 | 24 | 32) || ((48..=256).contains(&n) && n % 16 == 0)
+}
+
+/// The rows of the table of shapes that are of these kinds and CTA group 1. Kinds
+/// with the same N stand together; both they and the rows are in the table's order.
+fn is_n_listed(kind: Kind, ws: bool, sp: bool, n: u32) -> bool {
+    match (kind, ws, sp) {
+        (Kind::F16 | Kind::Tf32 | Kind::F8f6f4, NO_WS, DENSE | SPARSE) => is_in_steps_of_8(n),
+        (Kind::I8, NO_WS, DENSE | SPARSE) => is_in_steps_of_16_after_32(n),
+        (Kind::F16 | Kind::Tf32 | Kind::F8f6f4 | Kind::I8, WS, DENSE) => matches!(n, 64 | 128 | 256),
+        (Kind::F16 | Kind::Tf32 | Kind::F8f6f4 | Kind::I8, WS, SPARSE) => matches!(n, 64 | 128),
     }
 }
 
@@ -243,11 +260,11 @@ fn are_types_listed(kind: Kind, d: &Instruction) -> bool {
 
 /// The first of the listing tests that fails: 0 none, 1 M, 2 N, 3 types.
 ///
-/// Sparsity changes none of the lists.
-pub fn listing(kind: Kind, ws: bool, _sp: bool, d: &Instruction) -> u32 {
+/// Sparsity is the opcode's and changes only the list of N with `.ws`.
+pub fn listing(kind: Kind, ws: bool, sp: bool, d: &Instruction) -> u32 {
     if !is_m_listed(ws, d.m) {
         1
-    } else if !is_n_listed(kind, ws, d.n) {
+    } else if !is_n_listed(kind, ws, sp, d.n) {
         2
     } else if !are_types_listed(kind, d) {
         3

@@ -47,6 +47,7 @@ pub fn all() -> Vec<Entry> {
     mma_names(&mut e);
     mma_descriptors(&mut e);
     mma_shapes(&mut e);
+    mma_ws_and_sp(&mut e);
     mma_cells(&mut e);
     exits(&mut e);
     lent_list(&mut e);
@@ -921,7 +922,6 @@ fn mma_shapes(e: &mut Entries) {
     good("shape-f8f6f4-mixed", "@mma(f8f6f4)", idesc(0, 5, 3, 40, 64));
     good("shape-ws-32-64", "@mma.ws(f16)", idesc(1, 0, 0, 64, 32));
     good("shape-ws-128-256", "@mma.ws(i8)", idesc(2, 0, 1, 256, 128));
-    good("shape-ws-sp-256", "@mma.ws.sp(f16)", idesc(1, 0, 0, 256, 128) | 4);
     let mut thirteen = |name: &str, opcode: &str, i: u32| e.mma_refused(name, with_idesc(opcode, i), 13);
     thirteen("shape-m-0", "@mma(f16)", idesc(1, 0, 0, 64, 0));
     thirteen("shape-m-32", "@mma(f16)", idesc(1, 0, 0, 64, 32));
@@ -942,6 +942,61 @@ fn mma_shapes(e: &mut Entries) {
     types("types-f16-tf32", "@mma(tf32)", idesc(0, 2, 2, 64, 128));
     types("types-s32-f8f6f4", "@mma(f8f6f4)", idesc(2, 0, 0, 64, 128));
     types("types-f32-i8", "@mma(i8)", idesc(1, 0, 0, 64, 128));
+}
+
+/// The kinds, each with a dtype and a code for the types of A and B that it lists.
+const KINDS: [(&str, u32, u32); 4] = [("f16", 1, 0), ("tf32", 1, 2), ("f8f6f4", 1, 0), ("i8", 2, 0)];
+
+/// N with `.ws` and `.sp`, in each kind.
+fn mma_ws_and_sp(e: &mut Entries) {
+    for (kind, dtype, code) in KINDS {
+        let dense = |m, n| idesc(dtype, code, code, n, m);
+        let sparse = |m, n| dense(m, n) | 4;
+        for (flags, m, n, reason) in [
+            (".sp", 64, 256, 0),
+            (".sp", 128, 192, 0),
+            (".sp", 128, 256, 0),
+            (".ws", 32, 256, 0),
+            (".ws", 64, 256, 0),
+            (".ws", 128, 256, 0),
+            (".ws", 128, 192, 20),
+            (".ws.sp", 32, 64, 0),
+            (".ws.sp", 64, 64, 0),
+            (".ws.sp", 128, 64, 0),
+            (".ws.sp", 32, 128, 0),
+            (".ws.sp", 64, 128, 0),
+            (".ws.sp", 128, 128, 0),
+            (".ws.sp", 128, 192, 20),
+            (".ws.sp", 32, 256, 20),
+            (".ws.sp", 64, 256, 20),
+            (".ws.sp", 128, 256, 20),
+            (".ws.sp", 256, 256, 13),
+        ] {
+            let name = format!("shape-{kind}{}-{m}-{n}", flags.replace('.', "-"));
+            let word = if flags.contains(".sp") { sparse(m, n) } else { dense(m, n) };
+            let lines = with_idesc(&format!("@mma{flags}({kind})"), word);
+            match reason {
+                0 => e.mma_passes(&name, lines),
+                _ => e.mma_refused(&name, lines, reason),
+            }
+        }
+        let both = format!("@mma.ws.sp({kind})");
+        // the sparse bit goes with the opcode before N is looked at
+        e.mma_refused(&format!("shape-{kind}-ws-sp-256-dense"), with_idesc(&both, dense(128, 256)), 12);
+        e.mma_refused(&format!("shape-{kind}-ws-256-sparse"), with_idesc(&format!("@mma.ws({kind})"), sparse(128, 256)), 12);
+        // N comes before types and cells; no kind lists both f32 and s32
+        let other_dtype = idesc(3 - dtype, code, code, 256, 128) | 4;
+        e.mma_refused(&format!("shape-{kind}-ws-sp-256-and-types"), with_idesc(&both, other_dtype), 20);
+        let past_the_end = with_words(&both, "[t+257], a, b, [t], ^i, p", SHARED, SHARED, sparse(128, 256));
+        e.mma_refused(&format!("shape-{kind}-ws-sp-256-and-cells"), past_the_end, 20);
+    }
+    let (whole, back) = ("0|@alloc [t], 512;", "0|@dealloc t, 512;");
+    let b = "0|mov.b64 b, 0x0000400800100000;";
+    let sparse = "0|@mma.ws.sp(f16) [t], b, b, [t], ^i, p;";
+    let dense = "0|@mma.ws(f16) [t], b, b, i, p;";
+    e.refused("given-ws-sp-256", &[whole, b, "0|mov.b32 i, 0x08400014;", sparse], [20, 5, 512, 512]);
+    e.passed("given-ws-sp-128", &[whole, b, "0|mov.b32 i, 0x08200014;", sparse, back, "0|exit;"], 512, &[0]);
+    e.passed("given-ws-256", &[whole, b, "0|mov.b32 i, 0x08400010;", dense, back, "0|exit;"], 512, &[0]);
 }
 
 fn mma_cells(e: &mut Entries) {

@@ -202,6 +202,21 @@ fn which_types_are_21() {
 }
 
 #[test]
+fn n_with_ws_and_sp() {
+    let a512 = "0|@alloc [t], 512;";
+    let sparse = "0|@mma.ws.sp(f16) [t], b, b, [t], i, p;";
+    let end = ["0|@dealloc t, 512;", EXIT];
+    gives(&[a512, B, "0|mov.b32 i, 0x08400014;", sparse], [20, 5, 60, 512, 512]);
+    points_at(&[a512, B, "0|mov.b32 i, 0x08400014;", sparse], 20, Some(4));
+    gives(&[a512, B, "0|mov.b32 i, 0x08200014;", sparse, end[0], end[1]], [0, 7, 0, 0, 512]);
+    let dense = "0|@mma.ws(f16) [t], b, b, i, p;";
+    gives(&[a512, B, "0|mov.b32 i, 0x08400010;", dense, end[0], end[1]], [0, 7, 0, 0, 512]);
+    // reading and M come before
+    gives(&[a512, B, "0|mov.b32 i, 0x08400010;", sparse], [12, 5, 60, 512, 512]);
+    gives(&[a512, B, "0|mov.b32 i, 0x10400014;", sparse], [13, 5, 60, 512, 512]);
+}
+
+#[test]
 fn statements_alone() {
     assert_eq!(alone(" exit;"), (3, 1));
     assert_eq!(alone("exit; "), (3, 6));

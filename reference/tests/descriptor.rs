@@ -64,6 +64,17 @@ fn entry_i8() {
 }
 
 #[test]
+fn entry_ws_sp() {
+    let sparse = |n| Instruction { sparse: 1, ..plain(F32, 0, 0, 128, n) };
+    both_ways(Kind::F16, true, true, sparse(256), 0x08400014);
+    assert_eq!(judge_word(Kind::F16, true, true, 0x08400014), 20);
+    both_ways(Kind::F16, true, true, sparse(128), 0x08200014);
+    assert_eq!(judge_word(Kind::F16, true, true, 0x08200014), 0);
+    both_ways(Kind::F16, true, false, plain(F32, 0, 0, 128, 256), 0x08400010);
+    assert_eq!(judge_word(Kind::F16, true, false, 0x08400010), 0);
+}
+
+#[test]
 fn entry_shared() {
     let d = Shared { start: 0, leading: 256, stride: 128, base: 0, mode: 0, swizzle: 0 };
     assert_eq!(encode_shared(&d), Ok(0x0000400800100000));
@@ -212,19 +223,45 @@ fn reading_mixed_types() {
 #[test]
 fn reading_ws() {
     for kind in Kind::ALL {
-        for sp in [false, true] {
+        for (sp, ns) in [(false, &[64, 128, 256][..]), (true, &[64, 128])] {
             for n in (0..=520).step_by(4) {
                 let d = plain(if kind == Kind::I8 { 2 } else { 1 }, 0, 0, 32, n);
-                let want = if [64, 128, 256].contains(&n) { 0 } else { 2 };
+                let want = if ns.contains(&n) { 0 } else { 2 };
                 assert_eq!(listing(kind, true, sp, &d), want);
             }
         }
     }
     let i8_48 = plain(S32, 1, 0, 128, 48);
     assert_eq!(listed(Kind::I8, true, false, &i8_48), 20);
-    let sparse_256 = Instruction { sparse: 1, ..plain(F32, 0, 0, 128, 256) };
-    let word = encode_instruction(Kind::F16, true, true, &sparse_256).unwrap();
-    assert_eq!(judge_word(Kind::F16, true, true, word), 0);
+}
+
+/// With `.ws` the list of N goes by the `.sp` of the opcode, in each kind.
+#[test]
+fn reading_ws_sp() {
+    for kind in Kind::ALL {
+        let code = if kind == Kind::Tf32 { 2 } else { 0 };
+        let dtype = if kind == Kind::I8 { S32 } else { F32 };
+        let dense = |m, n| plain(dtype, code, code, m, n);
+        let sparse = |m, n| Instruction { sparse: 1, ..dense(m, n) };
+        let judge = |ws, sp, d| {
+            // N is no matter of coding
+            let word = encode_instruction(kind, ws, sp, &d).unwrap();
+            assert_eq!(decode_instruction(kind, ws, sp, word), Ok(d));
+            judge_word(kind, ws, sp, word)
+        };
+        for m in [32, 64, 128] {
+            assert_eq!(judge(true, true, sparse(m, 64)), 0);
+            assert_eq!(judge(true, true, sparse(m, 128)), 0);
+            assert_eq!(judge(true, true, sparse(m, 192)), 20);
+            assert_eq!(judge(true, true, sparse(m, 256)), 20);
+            assert_eq!(judge(true, false, dense(m, 256)), 0);
+            assert_eq!(judge(false, true, sparse(m, 256)), if m == 32 { 13 } else { 0 });
+        }
+        assert_eq!(judge(true, true, sparse(256, 256)), 13);
+        let word = encode_instruction(kind, true, false, &dense(128, 256)).unwrap();
+        assert_eq!(judge_word(kind, true, true, word), 12);
+        assert_eq!(judge_word(kind, true, false, word | 4), 12);
+    }
 }
 
 // The lists, written out once more in another way.
@@ -237,7 +274,9 @@ fn listing_order_and_lists() {
             let want = if m == 64 || m == 128 || (ws && m == 32) { 0 } else { 1 };
             assert_eq!(listing(kind, ws, sp, &plain(dtype, 0, 0, m, 64)), want);
         }
-        let ns: Vec<u32> = if ws {
+        let ns: Vec<u32> = if ws && sp {
+            vec![64, 128]
+        } else if ws {
             vec![64, 128, 256]
         } else if kind == Kind::I8 {
             [8, 16, 24, 32].into_iter().chain((3..=16).map(|i| i * 16)).collect()

@@ -87,6 +87,34 @@ fn every_value_of_every_field() {
     }
 }
 
+/// Every N at every M, the other fields good: a line for each of the two that is not listed, and the library names the first.
+#[test]
+fn every_n_of_every_opcode() {
+    for o in opcodes() {
+        let types = match o.kind {
+            F16 | F8f6f4 => 1 << 4,
+            Tf32 => 1 << 4 | 2 << 7 | 2 << 10,
+            I8 => 2 << 4,
+        };
+        let listed: Vec<u32> = match (o.ws, o.sp, o.kind) {
+            (true, true, _) => vec![64, 128],
+            (true, false, _) => vec![64, 128, 256],
+            (false, _, I8) => [8, 16, 24, 32].into_iter().chain((48..=256).step_by(16)).collect(),
+            (false, ..) => (8..=256).step_by(8).collect(),
+        };
+        for m in (0..=496).step_by(16) {
+            for n in (0..=504).step_by(8) {
+                let word = types | (o.sp as u32) << 2 | (n / 8) << 17 | (m / 16) << 24;
+                let kept = [(m == 64 || m == 128 || o.ws && m == 32, Reason::ShapeM), (listed.contains(&n), Reason::ShapeN)];
+                let expected: Vec<_> = kept.into_iter().filter(|row| !row.0).map(|row| row.1).collect();
+                let broken: Vec<_> = not_listed(o, &values(word)).into_iter().map(|row| row.0).collect();
+                assert_eq!(broken, expected, "{o:?} M {m} N {n}");
+                assert_eq!(agree(o, word), expected.first().copied(), "{o:?} M {m} N {n}");
+            }
+        }
+    }
+}
+
 #[test]
 fn every_refused_fields_have_a_rule() {
     let mut r = Random(11);

@@ -106,6 +106,36 @@ fn words() {
     assert_eq!((request(32), request(96)), (Ok(()), Err(Reason::Columns)));
 }
 
+/// With `.ws` and `.sp` N is 64 or 128 in each kind; with one of them it may be 256. The word reads and is written either way.
+#[test]
+fn sparse_ws_takes_no_n_256() {
+    for (kind, dtype, code, types) in
+        [(Kind::F16, 1, 0, 0x10), (Kind::Tf32, 1, 2, 0x910), (Kind::F8f6f4, 1, 0, 0x10), (Kind::I8, 2, 0, 0x20)]
+    {
+        for (ws, sp, n, shape, expected) in [
+            (true, true, 64, 0x0810_0004, Ok(())),
+            (true, true, 128, 0x0820_0004, Ok(())),
+            (true, true, 256, 0x0840_0004, Err(Reason::ShapeN)),
+            (true, false, 256, 0x0840_0000, Ok(())),
+            (false, true, 256, 0x0840_0004, Ok(())),
+        ] {
+            let (o, word) = (Opcode { kind, ws, sp }, shape | types);
+            let fields = InstructionFields { sparse: sp, dtype, atype: code, btype: code, n, m: 128, ..Default::default() };
+            assert_eq!((o.judge(word), o.listed(fields)), (expected, expected), "{o:?} {n}");
+            assert_eq!((o.decode(word), o.encode(fields)), (Ok(fields), Ok(word)), "{o:?} {n}");
+        }
+    }
+    let sheet = "sheet\t1\tsm_100a\n0\ttcgen05.alloc.cta_group::1.sync.aligned.b32 [t], 512;\n0\tmov.b64 b, 0x400800100000;\n\
+                 0\tmov.b32 i, 0x08400014;\n0\ttcgen05.mma.ws.sp.cta_group::1.kind::f16 [t], b, b, [t], i, p;\n\
+                 0\ttcgen05.dealloc.cta_group::1.sync.aligned.b32 t, 512;\n0\texit;\n";
+    let passed = Ok(Passed { line: 7, peak: 512, starts: vec![0] });
+    let refused = Refused { reason: Reason::ShapeN, line: 5, column: 60, held: 512, peak: 512 };
+    assert_eq!(judge(sheet.as_bytes()), Err(refused));
+    assert_eq!(judge(sheet.replace("0x084", "0x082").as_bytes()), passed);
+    let dense = sheet.replace("0x08400014", "0x08400010").replace(".sp", "").replace("[t], i", "i");
+    assert_eq!(judge(dense.as_bytes()), passed);
+}
+
 /// Each field by itself keeps its place: the word of a field's value has it in that field's bits, and reads as the same fields.
 #[test]
 fn every_field_has_its_place() {

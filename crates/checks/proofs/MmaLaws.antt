@@ -1,7 +1,7 @@
 -- The tests of an mma are those of its rules: names by the slots and the table, descriptors by their numbers. Assumes nothing.
 use Prim.Native.Nat.{ℕ, _+_, _%_, _^_, _<_}
 use native.Mathlib.Omega.{arith}
-use mathlib.Core.Path.{_≡_, refl, sym, ap, _∙_}
+use mathlib.Core.Path.{_≡_, refl, sym, ap, ap₂, _∙_}
 use mathlib.Core.Bool.{Bool, true, false, not, _&&_, cond}
 use mathlib.Core.List.{List}
 use lib.Dec.{leb, eqb}
@@ -94,7 +94,7 @@ operands s hi lo columns valueHi valueLo numbers widths h m d pd a pa b pb e pe 
 module _ (s : State) (held w : ℕ) (m : Mma) (columns : ℕ) (a b e : Tested) (v : Value) (o : Operands m columns a b e v s) where
   -- the number of the first rule of listing that is broken
   abbrev listingOf : ℕ
-  listingOf = firstBroken (instruction.listing (m .kind) (m .ws) (fieldsOf s m))
+  listingOf = firstBroken (instruction.listing (m .kind) (m .ws) (sparse (m .metadata)) (fieldsOf s m))
 
   -- reason 6
   abbrev names : Bool
@@ -165,7 +165,7 @@ module _ (s : State) (held w : ℕ) (m : Mma) (columns : ℕ) (a b e : Tested) (
       listing-is =
           ap (λ (x : Judged). x .reason) pi
           ∙ judged-lists (m .kind) (m .ws) sp word read-0
-          ∙ ap (λ (x : InstructionRead). firstBroken (instruction.listing (m .kind) (m .ws) (instruction.fields (x .descriptor)))) decoded-is
+          ∙ ap₂ (λ (y : Bool) (x : InstructionRead). firstBroken (instruction.listing (m .kind) (m .ws) y (instruction.fields (x .descriptor)))) ps decoded-is
 
       after-12 : (x : ℕ) → x ≡ mmaOrder true true (i .reason) (kept (allEnd s m)) → x ≡ firstBroken (openRules lowest s held w (Multiply m))
       after-12 x p =

@@ -3,8 +3,9 @@
 use Prim.Native.Nat.{ℕ}
 use mathlib.Core.Path.{_≡_}
 use mathlib.Core.Bool.{Bool, true, false}
-use mathlib.Core.List.{List, [], _∷_, map}
+use mathlib.Core.List.{List, [], _∷_, _++_, map}
 use mathlib.Core.Option.{Option, none, some}
+use Rattle.laws.specs.Tests.{bit}
 use Rattle.laws.specs.Layout.{pack}
 use Rattle.laws.specs.Worked.{Gives}
 use Rattle.instruction.specs.Instruction as I
@@ -22,16 +23,21 @@ Row C A B = C × List A × B
 abbrev pub Right : {C A B : Type 0} → (C → A → B) → List (Row C A B) → Type 0
 Right f rows = map (λ row. map (f (row .0)) (row .1)) rows ≡ map (λ row. map (λ _. row .2) (row .1)) rows
 
--- ---- instruction descriptors. The fields by codes: dtype, the two types, M and N, with nothing else set
-abbrev pub coded : ℕ → ℕ → ℕ → ℕ → ℕ → Fields
-coded d a b m n = I.fieldsIn (0 ∷ 0 ∷ 0 ∷ d ∷ a ∷ b ∷ 0 ∷ 0 ∷ 0 ∷ 0 ∷ n ∷ m ∷ 0 ∷ [])
+-- each of some with each of others
+abbrev pub each : {A B : Type 0} → List A → List B → List (A × B)
+each [] bs = []
+each (a ∷ others) bs = map (λ b. (a, b)) bs ++ each others bs
+
+-- ---- instruction descriptors. The fields by codes: sparse, dtype, the two types, M and N, with nothing else set
+abbrev pub coded : Bool → ℕ → ℕ → ℕ → ℕ → ℕ → Fields
+coded sp d a b m n = I.fieldsIn (0 ∷ bit sp ∷ 0 ∷ d ∷ a ∷ b ∷ 0 ∷ 0 ∷ 0 ∷ 0 ∷ n ∷ m ∷ 0 ∷ [])
 
 -- the same with types that each kind lists
-abbrev pub shaped : Kind → ℕ → ℕ → Fields
-shaped Kind.F16 m n = coded 1 0 0 m n
-shaped Kind.Tf32 m n = coded 1 2 2 m n
-shaped Kind.F8f6f4 m n = coded 1 0 0 m n
-shaped Kind.I8 m n = coded 2 0 0 m n
+abbrev pub shaped : Kind → Bool → ℕ → ℕ → Fields
+shaped Kind.F16 sp m n = coded sp 1 0 0 m n
+shaped Kind.Tf32 sp m n = coded sp 1 2 2 m n
+shaped Kind.F8f6f4 sp m n = coded sp 1 0 0 m n
+shaped Kind.I8 sp m n = coded sp 2 0 0 m n
 
 -- sparsity selector, sparse, saturate, negate A, negate B and max shift, of a listed shape
 abbrev pub Flags : Type 0
@@ -39,7 +45,7 @@ Flags = ℕ × ℕ × ℕ × ℕ × ℕ × ℕ
 
 abbrev pub flagged : Kind → Flags → Fields
 flagged kind x =
-    let f = shaped kind 128 64 in
+    let f = shaped kind false 128 64 in
     I.fieldsIn (x .0 ∷ x .1 ∷ x .2 ∷ f .dtype ∷ f .atype ∷ f .btype ∷ x .3 ∷ x .4 ∷ 0 ∷ 0 ∷ f .n ∷ f .m ∷ x .5 ∷ [])
 
 -- the reason of some fields, and that of their word
@@ -100,34 +106,50 @@ types =
     ∷ (Kind.I8, (3, 0, 0) ∷ (2, 2, 0) ∷ (2, 0, 2) ∷ [], 12)
     ∷ []
 
+-- without `.sp`, with it, and either
+abbrev pub withoutSp : List Bool
+withoutSp = false ∷ []
+
+abbrev pub withSp : List Bool
+withSp = true ∷ []
+
+abbrev pub eitherSp : List Bool
+eitherSp = withoutSp ++ withSp
+
+-- the kinds but i8, i8, and all
+abbrev pub floats : List Kind
+floats = Kind.F16 ∷ Kind.Tf32 ∷ Kind.F8f6f4 ∷ []
+
+abbrev pub integers : List Kind
+integers = Kind.I8 ∷ []
+
+abbrev pub kinds : List Kind
+kinds = floats ++ integers
+
+-- `.sp`, a kind, and M or N
+abbrev pub Case : Type 0
+Case = Bool × (Kind × ℕ)
+
 -- M without and with `.ws`
-abbrev pub ms : List (Row Bool ℕ ℕ)
+abbrev pub ms : List (Row Bool Case ℕ)
 ms =
-    (false, 64 ∷ 128 ∷ [], 0)
-    ∷ (false, 0 ∷ 32 ∷ 48 ∷ 80 ∷ 96 ∷ 112 ∷ 144 ∷ 256 ∷ [], 13)
-    ∷ (true, 32 ∷ 64 ∷ 128 ∷ [], 0)
-    ∷ (true, 0 ∷ 16 ∷ 48 ∷ 80 ∷ 96 ∷ 112 ∷ 144 ∷ 256 ∷ [], 13)
+    (false, each eitherSp (each kinds (64 ∷ 128 ∷ [])), 0)
+    ∷ (false, each eitherSp (each kinds (0 ∷ 32 ∷ 48 ∷ 80 ∷ 96 ∷ 112 ∷ 144 ∷ 256 ∷ [])), 13)
+    ∷ (true, each eitherSp (each kinds (32 ∷ 64 ∷ 128 ∷ [])), 0)
+    ∷ (true, each eitherSp (each kinds (0 ∷ 16 ∷ 48 ∷ 80 ∷ 96 ∷ 112 ∷ 144 ∷ 256 ∷ [])), 13)
     ∷ []
 
--- N under each kind, without and with `.ws`
-abbrev pub ns : List (Row (Kind × Bool) ℕ ℕ)
+-- N without and with `.ws`, dense and sparse
+abbrev pub ns : List (Row Bool Case ℕ)
 ns =
-    ((Kind.F16, false), 8 ∷ 16 ∷ 24 ∷ 40 ∷ 248 ∷ 256 ∷ [], 0)
-    ∷ ((Kind.F16, false), 0 ∷ 264 ∷ 504 ∷ [], 20)
-    ∷ ((Kind.Tf32, false), 8 ∷ 40 ∷ 256 ∷ [], 0)
-    ∷ ((Kind.Tf32, false), 0 ∷ 264 ∷ [], 20)
-    ∷ ((Kind.F8f6f4, false), 8 ∷ 40 ∷ 256 ∷ [], 0)
-    ∷ ((Kind.F8f6f4, false), 0 ∷ 264 ∷ [], 20)
-    ∷ ((Kind.I8, false), 8 ∷ 16 ∷ 24 ∷ 32 ∷ 48 ∷ 64 ∷ 240 ∷ 256 ∷ [], 0)
-    ∷ ((Kind.I8, false), 0 ∷ 40 ∷ 56 ∷ 72 ∷ 248 ∷ 264 ∷ 272 ∷ [], 20)
-    ∷ ((Kind.F16, true), 64 ∷ 128 ∷ 256 ∷ [], 0)
-    ∷ ((Kind.F16, true), 0 ∷ 8 ∷ 32 ∷ 56 ∷ 72 ∷ 192 ∷ 248 ∷ 264 ∷ [], 20)
-    ∷ ((Kind.Tf32, true), 64 ∷ 128 ∷ 256 ∷ [], 0)
-    ∷ ((Kind.Tf32, true), 8 ∷ 192 ∷ [], 20)
-    ∷ ((Kind.F8f6f4, true), 64 ∷ 128 ∷ 256 ∷ [], 0)
-    ∷ ((Kind.F8f6f4, true), 8 ∷ 192 ∷ [], 20)
-    ∷ ((Kind.I8, true), 64 ∷ 128 ∷ 256 ∷ [], 0)
-    ∷ ((Kind.I8, true), 8 ∷ 32 ∷ 48 ∷ 192 ∷ [], 20)
+    (false, each eitherSp (each floats (8 ∷ 16 ∷ 24 ∷ 40 ∷ 248 ∷ 256 ∷ [])), 0)
+    ∷ (false, each eitherSp (each floats (0 ∷ 264 ∷ 504 ∷ [])), 20)
+    ∷ (false, each eitherSp (each integers (8 ∷ 16 ∷ 24 ∷ 32 ∷ 48 ∷ 64 ∷ 240 ∷ 256 ∷ [])), 0)
+    ∷ (false, each eitherSp (each integers (0 ∷ 40 ∷ 56 ∷ 72 ∷ 248 ∷ 264 ∷ 272 ∷ 504 ∷ [])), 20)
+    ∷ (true, each withoutSp (each kinds (64 ∷ 128 ∷ 256 ∷ [])), 0)
+    ∷ (true, each withoutSp (each kinds (0 ∷ 8 ∷ 32 ∷ 48 ∷ 56 ∷ 72 ∷ 120 ∷ 136 ∷ 192 ∷ 248 ∷ 264 ∷ 504 ∷ [])), 20)
+    ∷ (true, each withSp (each kinds (64 ∷ 128 ∷ [])), 0)
+    ∷ (true, each withSp (each kinds (0 ∷ 8 ∷ 32 ∷ 48 ∷ 56 ∷ 72 ∷ 120 ∷ 136 ∷ 192 ∷ 248 ∷ 256 ∷ 264 ∷ 504 ∷ [])), 20)
     ∷ []
 
 -- of several that are not listed M comes first, then N: dtype, M and N of kind f16 with two types f16
@@ -284,19 +306,19 @@ pub record Worked : Type 0 where
   pub k : Right (λ sp kind. I.kOf kind sp) ks
   pub code : Right I.elementOf codes
   pub dtype : Gives I.dtypeOf dtypes
-  pub types-fields : Right (λ kind t. ofFields kind false false (coded (t .0) (t .1) (t .2) 128 64)) types
-  pub types-word : Right (λ kind t. ofWord kind false false (coded (t .0) (t .1) (t .2) 128 64)) types
-  pub m-fields : Right (λ ws m. ofFields Kind.F16 ws false (shaped Kind.F16 m 64)) ms
-  pub m-word : Right (λ ws m. ofWord Kind.F16 ws false (shaped Kind.F16 m 64)) ms
-  pub n-fields : Right (λ o n. ofFields (o .0) (o .1) false (shaped (o .0) 64 n)) ns
-  pub n-word : Right (λ o n. ofWord (o .0) (o .1) false (shaped (o .0) 64 n)) ns
-  pub several-fields : Gives (λ p. ofFields Kind.F16 false false (coded (p .0) 0 0 (p .1) (p .2))) several
-  pub several-word : Gives (λ p. ofWord Kind.F16 false false (coded (p .0) 0 0 (p .1) (p .2))) several
+  pub types-fields : Right (λ kind t. ofFields kind false false (coded false (t .0) (t .1) (t .2) 128 64)) types
+  pub types-word : Right (λ kind t. ofWord kind false false (coded false (t .0) (t .1) (t .2) 128 64)) types
+  pub m-fields : Right (λ ws c. ofFields (c .1 .0) ws (c .0) (shaped (c .1 .0) (c .0) (c .1 .1) 64)) ms
+  pub m-word : Right (λ ws c. ofWord (c .1 .0) ws (c .0) (shaped (c .1 .0) (c .0) (c .1 .1) 64)) ms
+  pub n-fields : Right (λ ws c. ofFields (c .1 .0) ws (c .0) (shaped (c .1 .0) (c .0) 64 (c .1 .1))) ns
+  pub n-word : Right (λ ws c. ofWord (c .1 .0) ws (c .0) (shaped (c .1 .0) (c .0) 64 (c .1 .1))) ns
+  pub several-fields : Gives (λ p. ofFields Kind.F16 false false (coded false (p .0) 0 0 (p .1) (p .2))) several
+  pub several-word : Gives (λ p. ofWord Kind.F16 false false (coded false (p .0) 0 0 (p .1) (p .2))) several
   pub flags-fields : Right (λ o x. ofFields (o .0) (o .1) (o .2) (flagged (o .0) x)) flags
   pub flags-word : Right (λ o x. ofWord (o .0) (o .1) (o .2) (flagged (o .0) x)) flags
   pub reads : Gives (λ w. I.values (I.fieldsRead (I.decoded (w .0) (w .1) (w .2) (w .3)) .fields)) words
   pub fixed : Gives (I.wordReason Kind.F16 false false) fixedBits
-  pub range : Gives (λ p. I.encodedNumbers Kind.F16 false false (I.values (coded 1 0 0 (p .0) (p .1))) .reason) ranges
+  pub range : Gives (λ p. I.encodedNumbers Kind.F16 false false (I.values (coded false 1 0 0 (p .0) (p .1))) .reason) ranges
   pub swizzle-fields : Right (λ base swizzle. sharedReason (swizzled base swizzle)) swizzles
   pub swizzle-word : Right (λ base swizzle. sharedRead (swizzled base swizzle)) swizzles
   pub shared-reads : Gives (λ w. S.numbers (S.decoded w .descriptor)) sharedWords

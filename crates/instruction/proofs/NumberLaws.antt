@@ -118,11 +118,11 @@ word-made kind ws sp l w b k e p q t = ap made e ∙ sym (word-numbers kind ws s
 -- and their reason
 pub numbers-reason : (kind : Kind) (ws sp : Bool) (f : Fields) (b k t : Bool)
     → b ≡ all (ranges layout (values f)) → k ≡ keeps kind ws sp (named kind (values f)) → b && k ≡ t
-    → fieldsReason kind ws sp f ≡ cond t (firstBroken (listing kind ws f)) 12
+    → fieldsReason kind ws sp f ≡ cond t (firstBroken (listing kind ws sp f)) 12
 numbers-reason kind ws sp f b k t p q e =
-    ap (λ (a : InstructionWord). cond (eqb (a .reason) 0) (firstBroken (listing kind ws f)) 12) (word-numbers kind ws sp (values f) b k t p q e) ∙ by-test t
+    ap (λ (a : InstructionWord). cond (eqb (a .reason) 0) (firstBroken (listing kind ws sp f)) 12) (word-numbers kind ws sp (values f) b k t p q e) ∙ by-test t
   where
-    by-test : (t : Bool) → cond (eqb (cond t (made (pack layout (values f))) noWord .reason) 0) (firstBroken (listing kind ws f)) 12 ≡ cond t (firstBroken (listing kind ws f)) 12
+    by-test : (t : Bool) → cond (eqb (cond t (made (pack layout (values f))) noWord .reason) 0) (firstBroken (listing kind ws sp f)) 12 ≡ cond t (firstBroken (listing kind ws sp f)) 12
     by-test true = refl
     by-test false = refl
 
@@ -142,15 +142,15 @@ unfolding encodedNumbers
 numbers-back kind ws sp f e = word-back kind ws sp f (all (ranges layout (values f))) (keeps kind ws sp (named kind (values f))) refl refl e
 
 -- ---- what is judged goes by the fields that were read
-abbrev judgedFields : Kind → Bool → FieldsRead → Judged
-judgedFields kind ws a = record { reason = cond (eqb (a .reason) 0) (firstBroken (listing kind ws (a .fields))) (a .reason); n = a .fields .n }
+abbrev judgedFields : Kind → Bool → Bool → FieldsRead → Judged
+judgedFields kind ws sp a = record { reason = cond (eqb (a .reason) 0) (firstBroken (listing kind ws sp (a .fields))) (a .reason); n = a .fields .n }
 
 pub judged-read : (kind : Kind) (ws sp : Bool) (w : ℕ) (f : Fields) → fieldsRead (decoded kind ws sp w) ≡ good f
-    → judged kind ws sp w ≡ record { reason = firstBroken (listing kind ws f); n = f .n }
-judged-read kind ws sp w f e = ap (judgedFields kind ws) e
+    → judged kind ws sp w ≡ record { reason = firstBroken (listing kind ws sp f); n = f .n }
+judged-read kind ws sp w f e = ap (judgedFields kind ws sp) e
 
 pub judged-refused : (kind : Kind) (ws sp : Bool) (w : ℕ) → decoded kind ws sp w ≡ noDescriptor → judged kind ws sp w ≡ record { reason = 12; n = 0 }
-judged-refused kind ws sp w e = ap (λ (a : InstructionRead). judgedFields kind ws (fieldsRead a)) e
+judged-refused kind ws sp w e = ap (λ (a : InstructionRead). judgedFields kind ws sp (fieldsRead a)) e
 
 -- no rule has that number, nor is it 0
 abbrev NoneIs : ℕ → List Rule → Type 0
@@ -163,21 +163,21 @@ none-is k (rule number true ∷ rs) h = none-is k rs (h .1)
 none-is k (rule number false ∷ rs) h = h .0
 
 -- no listing rule has the number of a word with no reading: the reason 12 says that there is none
-unlisted : (kind : Kind) (ws : Bool) (f : Fields) → eqb (firstBroken (listing kind ws f)) 12 ≡ false
-unlisted kind ws f = none-is 12 (listing kind ws f) (refl, (refl, (refl, refl)))
+unlisted : (kind : Kind) (ws sp : Bool) (f : Fields) → eqb (firstBroken (listing kind ws sp f)) 12 ≡ false
+unlisted kind ws sp f = none-is 12 (listing kind ws sp f) (refl, (refl, (refl, refl)))
 
-by-reading : (kind : Kind) (ws : Bool) (f : Fields) (x : ℕ) (t : Bool) → eqb x 0 ≡ t → (eqb x 0 ≡ false → x ≡ 12)
-    → eqb (cond (eqb x 0) (firstBroken (listing kind ws f)) x) 12 ≡ not (eqb x 0)
-by-reading kind ws f x true e h = rw e (unlisted kind ws f)
-by-reading kind ws f x false e h = rw (e, h e)
+by-reading : (kind : Kind) (ws sp : Bool) (f : Fields) (x : ℕ) (t : Bool) → eqb x 0 ≡ t → (eqb x 0 ≡ false → x ≡ 12)
+    → eqb (cond (eqb x 0) (firstBroken (listing kind ws sp f)) x) 12 ≡ not (eqb x 0)
+by-reading kind ws sp f x true e h = rw e (unlisted kind ws sp f)
+by-reading kind ws sp f x false e h = rw (e, h e)
 
 pub judged-reads : (kind : Kind) (ws sp : Bool) (w : ℕ) → eqb (judged kind ws sp w .reason) 12 ≡ not (eqb (decoded kind ws sp w .reason) 0)
 judged-reads kind ws sp w =
-    by-reading kind ws (fields (decoded kind ws sp w .descriptor)) (decoded kind ws sp w .reason) (eqb (decoded kind ws sp w .reason) 0) refl
+    by-reading kind ws sp (fields (decoded kind ws sp w .descriptor)) (decoded kind ws sp w .reason) (eqb (decoded kind ws sp w .reason) 0) refl
     (λ e. ap (λ (a : InstructionRead). a .reason) (unread kind ws sp w (eqb-false (decoded kind ws sp w .reason) 0 e)))
 
 -- and of a word that reads the reason is that of the listing
 pub judged-lists : (kind : Kind) (ws sp : Bool) (w : ℕ) → eqb (decoded kind ws sp w .reason) 0 ≡ true
-    → judged kind ws sp w .reason ≡ firstBroken (listing kind ws (fields (decoded kind ws sp w .descriptor)))
+    → judged kind ws sp w .reason ≡ firstBroken (listing kind ws sp (fields (decoded kind ws sp w .descriptor)))
 judged-lists kind ws sp w e =
-    ap (λ (t : Bool). cond t (firstBroken (listing kind ws (fields (decoded kind ws sp w .descriptor)))) (decoded kind ws sp w .reason)) e
+    ap (λ (t : Bool). cond t (firstBroken (listing kind ws sp (fields (decoded kind ws sp w .descriptor)))) (decoded kind ws sp w .reason)) e

@@ -1,7 +1,7 @@
 -- The instruction descriptor (docs/FORMAT.md, 'Descriptor words'): 32 bits, read under an opcode, that is a kind, `.ws` and `.sp`. The code goes by
 -- the fields as numbers; a descriptor with named types is a view of them. Assumes nothing.
 use Prim.Native.Nat.{ℕ, _*_, _%_}
-use mathlib.Core.Bool.{Bool, false, _&&_, _||_, not, cond, Bool·beq}
+use mathlib.Core.Bool.{Bool, true, false, _&&_, _||_, not, cond, Bool·beq}
 use mathlib.Core.List.{List, [], _∷_}
 use mathlib.Core.Option.{Option, none, some}
 use lib.Dec.{eqb, leb}
@@ -255,9 +255,12 @@ steps least most by n = all (leb least n ∷ leb n most ∷ eqb (n % by) 0 ∷ [
 abbrev pub mListed : Bool → ℕ → Bool
 mListed ws m = cond ws (among m (32 ∷ 64 ∷ 128 ∷ [])) (among m (64 ∷ 128 ∷ []))
 
--- N is 8 to 256 in eights; for i8 8 to 32 in eights, then 48 to 256 in sixteens; with `.ws` 64, 128 or 256.
-abbrev pub nListed : Kind → Bool → ℕ → Bool
-nListed kind ws n = cond ws (among n (64 ∷ 128 ∷ 256 ∷ [])) (cond (isI8 kind) (steps 8 32 8 n || steps 48 256 16 n) (steps 8 256 8 n))
+-- N by the rows of the PTX ISA's table of kinds and shapes. Without `.ws`, dense or sparse: 8 to 256 in eights; for i8 8 to 32 in eights, then 48 to 256
+-- in sixteens. With `.ws`, in every kind: 64, 128 or 256 when dense, 64 or 128 when sparse.
+abbrev pub nListed : Kind → Bool → Bool → ℕ → Bool
+nListed kind false sp n = cond (isI8 kind) (steps 8 32 8 n || steps 48 256 16 n) (steps 8 256 8 n)
+nListed kind true false n = among n (64 ∷ 128 ∷ 256 ∷ [])
+nListed kind true true n = among n (64 ∷ 128 ∷ [])
 
 -- By codes, the dtypes of a kind: f16 has f32, and f16 with two f16; both its types agree. tf32 has f32; f8f6f4 f16 or f32; i8 s32.
 abbrev pub typesListed : Kind → ℕ → ℕ → ℕ → Bool
@@ -268,16 +271,16 @@ typesListed Kind.F8f6f4 d a b = eqb d (dtypeCode Dtype.F16) || eqb d (dtypeCode 
 typesListed Kind.I8 d a b = eqb d (dtypeCode Dtype.S32)
 
 -- the listing rules in their order, each with its reason: M, N and the types
-abbrev pub listing : Kind → Bool → Fields → List Rule
-listing kind ws f =
+abbrev pub listing : Kind → Bool → Bool → Fields → List Rule
+listing kind ws sp f =
     rule 13 (mListed ws (f .m))
-    ∷ rule 20 (nListed kind ws (f .n))
+    ∷ rule 20 (nListed kind ws sp (f .n))
     ∷ rule 21 (typesListed kind (f .dtype) (f .atype) (f .btype))
     ∷ []
 
 -- the reason of some numbers under an opcode: 12 if no word reads as them, else the first listing rule that they break
 abbrev pub fieldsReason : Kind → Bool → Bool → Fields → ℕ
-fieldsReason kind ws sp f = cond (eqb (encodedNumbers kind ws sp (values f) .reason) 0) (firstBroken (listing kind ws f)) 12
+fieldsReason kind ws sp f = cond (eqb (encodedNumbers kind ws sp (values f) .reason) 0) (firstBroken (listing kind ws sp f)) 12
 
 -- K is 16, 8, 32, 32 in the order of the kinds, doubled when sparse.
 abbrev pub denseK : Kind → ℕ
@@ -290,11 +293,11 @@ abbrev pub kOf : Kind → Bool → ℕ
 kOf kind sp = cond sp (denseK kind * 2) (denseK kind)
 
 -- the reason of a word under an opcode: 12 if it has no reading, else the first listing rule that it breaks
-abbrev pub readReason : Kind → Bool → InstructionRead → ℕ
-readReason kind ws a = cond (eqb (a .reason) 0) (firstBroken (listing kind ws (fields (a .descriptor)))) (a .reason)
+abbrev pub readReason : Kind → Bool → Bool → InstructionRead → ℕ
+readReason kind ws sp a = cond (eqb (a .reason) 0) (firstBroken (listing kind ws sp (fields (a .descriptor)))) (a .reason)
 
 abbrev pub wordReason : Kind → Bool → Bool → ℕ → ℕ
-wordReason kind ws sp word = readReason kind ws (decoded kind ws sp word)
+wordReason kind ws sp word = readReason kind ws sp (decoded kind ws sp word)
 
 -- what an mma needs of a word: its reason, and N where it reads
 abbrev pub judged : Kind → Bool → Bool → ℕ → Judged

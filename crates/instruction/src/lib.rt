@@ -265,13 +265,12 @@ fn m_listed(ws: bool, m: u32) -> bool
 }
 
 // N is listed.
-fn n_listed(kind: Kind, ws: bool, n: u32) -> bool
-    ensures { λ r. ⌜ r ≡ nListed kind ws n ⌝ }
+fn n_listed(kind: Kind, ws: bool, sp: bool, n: u32) -> bool
+    ensures { λ r. ⌜ r ≡ nListed kind ws sp n ⌝ }
 {
     if ws {
-        return (n == 64) | (n == 128) | (n == 256);
-    }
-    if kind_number(kind) == 3 {
+        (n == 64) | (n == 128) | (!sp & (n == 256))
+    } else if kind_number(kind) == 3 {
         ((8 <= n) & (n <= 32) & (n % 8 == 0)) | ((48 <= n) & (n <= 256) & (n % 16 == 0))
     } else {
         (8 <= n) & (n <= 256) & (n % 8 == 0)
@@ -291,13 +290,13 @@ fn types_listed(kind: Kind, dtype: u32, atype: u32, btype: u32) -> bool
 }
 
 // The reason of the first listing rule that a shape and types break, or 0.
-fn listing_reason(kind: Kind, ws: bool, f: Fields) -> u32
-    ensures { λ r. ⌜ r ≡ firstBroken (listing kind ws f) ⌝ }
+fn listing_reason(kind: Kind, ws: bool, sp: bool, f: Fields) -> u32
+    ensures { λ r. ⌜ r ≡ firstBroken (listing kind ws sp f) ⌝ }
 {
     if !m_listed(ws, f.m) {
         return reasons::SHAPE_M;
     }
-    if !n_listed(kind, ws, f.n) {
+    if !n_listed(kind, ws, sp, f.n) {
         return reasons::SHAPE_N;
     }
     if types_listed(kind, f.dtype, f.atype, f.btype) {
@@ -317,7 +316,7 @@ pub fn listed_fields(kind: Kind, ws: bool, sp: bool, f: Fields) -> u32
     if !admits(kind, ws, sp, f) {
         return reasons::DESCRIPTOR;
     }
-    listing_reason(kind, ws, f)
+    listing_reason(kind, ws, sp, f)
 }
 
 // K of a dense opcode.
@@ -353,7 +352,7 @@ pub fn judge_word(kind: Kind, ws: bool, sp: bool, word: u32) -> Judged
         };
     }
     Judged {
-        reason: listing_reason(kind, ws, f),
+        reason: listing_reason(kind, ws, sp, f),
         n: f.n,
     }
 }

@@ -44,6 +44,9 @@ alloc512 = "0\ttcgen05.alloc.cta_group::1.sync.aligned.b32 [t], 512;"
 abbrev pub dealloc32 : String
 dealloc32 = "0\ttcgen05.dealloc.cta_group::1.sync.aligned.b32 t, 32;"
 
+abbrev pub dealloc512 : String
+dealloc512 = "0\ttcgen05.dealloc.cta_group::1.sync.aligned.b32 t, 512;"
+
 abbrev pub exit : String
 exit = "0\texit;"
 
@@ -52,6 +55,30 @@ shared = "0\tmov.b64 a, 0x0000400800100000;"
 
 abbrev pub m128n64 : String
 m128n64 = "0\tmov.b32 i, 0x08100010;"
+
+-- an mma of each kind with `.ws` and `.sp`, N being 128
+abbrev pub sparse128 : List String
+sparse128 =
+    "0\tmov.b32 i, 0x08200014;"
+    ∷ "0\tmov.b32 j, 0x08200914;"
+    ∷ "0\tmov.b32 k, 0x08200024;"
+    ∷ "0\ttcgen05.mma.ws.sp.cta_group::1.kind::f16 [t], a, a, [t], i, p;"
+    ∷ "0\ttcgen05.mma.ws.sp.cta_group::1.kind::tf32 [t], a, a, [t], j, p;"
+    ∷ "0\ttcgen05.mma.ws.sp.cta_group::1.kind::f8f6f4 [t], a, a, [t], i, p;"
+    ∷ "0\ttcgen05.mma.ws.sp.cta_group::1.kind::i8 [t], a, a, [t], k, p;"
+    ∷ []
+
+-- an mma of each kind with `.ws` alone, N being 256
+abbrev pub dense256 : List String
+dense256 =
+    "0\tmov.b32 i, 0x08400010;"
+    ∷ "0\tmov.b32 j, 0x08400910;"
+    ∷ "0\tmov.b32 k, 0x08400020;"
+    ∷ "0\ttcgen05.mma.ws.cta_group::1.kind::f16 [t], a, a, i, p;"
+    ∷ "0\ttcgen05.mma.ws.cta_group::1.kind::tf32 [t], a, a, j, p;"
+    ∷ "0\ttcgen05.mma.ws.cta_group::1.kind::f8f6f4 [t], a, a, i, p;"
+    ∷ "0\ttcgen05.mma.ws.cta_group::1.kind::i8 [t], a, a, k, p;"
+    ∷ []
 
 -- ---- tables
 -- A wrong line 1 has column 1.
@@ -74,12 +101,13 @@ ends =
     (alloc32 ∷ dealloc32 ∷ exit ∷ [], (16, 4, 1)) ∷
     []
 
--- What is asked for is given back, each number in whatever base: passed.
+-- What is asked for is given back, each number in whatever base and each shape listed: passed.
 abbrev pub passes : List (List String × (ℕ × ℕ × ℕ))
 passes =
     (alloc32 ∷ dealloc32 ∷ exit ∷ [], (0, 4, 0)) ∷
     ("0\ttcgen05.alloc.cta_group::1.sync.aligned.b32 [t], 040U;" ∷ dealloc32 ∷ exit ∷ [], (0, 4, 0)) ∷
     (alloc32 ∷ "0\ttcgen05.dealloc.cta_group::1.sync.aligned.b32 t, 0b100000;" ∷ exit ∷ [], (0, 4, 0)) ∷
+    (alloc512 ∷ shared ∷ (sparse128 ++ (dense256 ++ (dealloc512 ∷ exit ∷ []))), (0, 19, 0)) ∷
     []
 
 -- A line of wrong layout has column 1.
@@ -155,6 +183,11 @@ mmas =
     (alloc64 ∷ m128n64 ∷ shared ∷ "0\ttcgen05.mma.cta_group::1.kind::f16  [ t+1 ], [t+57], a, i, p;" ∷ [], (14, 5, 39)) ∷
     (alloc64 ∷ m128n64 ∷ shared ∷ "0\ttcgen05.mma.cta_group::1.kind::f16 [t], [ t+57 ], a, i, p;" ∷ [], (14, 5, 43)) ∷
     (alloc64 ∷ "0\tmov.b32 i, 0x08100014;" ∷ shared ∷ "0\ttcgen05.mma.sp.cta_group::1.kind::f16 [t], a, a,[t + 63], i, p;" ∷ [], (14, 5, 51)) ∷
+    -- N 256 with `.ws` and `.sp`, in each kind
+    (alloc512 ∷ "0\tmov.b32 i, 0x08400014;" ∷ shared ∷ "0\ttcgen05.mma.ws.sp.cta_group::1.kind::f16 [t], a, a, [t], i, p;" ∷ [], (20, 5, 60)) ∷
+    (alloc512 ∷ "0\tmov.b32 i, 0x08400914;" ∷ shared ∷ "0\ttcgen05.mma.ws.sp.cta_group::1.kind::tf32 [t], a, a, [t], i, p;" ∷ [], (20, 5, 61)) ∷
+    (alloc512 ∷ "0\tmov.b32 i, 0x08400014;" ∷ shared ∷ "0\ttcgen05.mma.ws.sp.cta_group::1.kind::f8f6f4 [t], a, a, [t], i, p;" ∷ [], (20, 5, 63)) ∷
+    (alloc512 ∷ "0\tmov.b32 i, 0x08400024;" ∷ shared ∷ "0\ttcgen05.mma.ws.sp.cta_group::1.kind::i8 [t], a, a, [t], i, p;" ∷ [], (20, 5, 59)) ∷
     []
 
 -- ---- the claim: each sheet of each table has what stands beside it

@@ -17,6 +17,7 @@ use Rattle.statement.specs.declared.Statement.{Statement}
 use Rattle.statement.specs.declared.Statement.the-variants.{Alloc, Multiply}
 use Rattle.statement.specs.Views as act
 use Rattle.statement.specs.Views.{Act, actOf}
+use Rattle.statement.specs.Canonical.{sparse}
 use Rattle.statement.specs.Cells as cells
 use Rattle.rules.specs.State.{State, Placer, isLive, isBound, columnsOf}
 use Rattle.statement.specs.Positions.{addressAt, idescAt}
@@ -49,7 +50,7 @@ mmaRows s m =
     row 6 atName (mmaNamed s m)
     ∷ row 12 atName (mmaReads s m)
     ∷ row 13 atName (one (idescAt m) (instruction.mListed (m .ws) (fieldsOf s m .m)))
-    ∷ row 20 atName (one (idescAt m) (instruction.nListed (m .kind) (m .ws) (fieldsOf s m .n)))
+    ∷ row 20 atName (one (idescAt m) (instruction.nListed (m .kind) (m .ws) (sparse (m .metadata)) (fieldsOf s m .n)))
     ∷ row 21 atName (one (idescAt m) (instruction.typesListed (m .kind) (fieldsOf s m .dtype) (fieldsOf s m .atype) (fieldsOf s m .btype)))
     ∷ row 14 atOperand (allEnd s m)
     ∷ []
@@ -115,8 +116,8 @@ module _ (place : Placer) (s : State) (held w : ℕ) where
 
   -- an mma's listing in turn: the number is that of the first rule of listing that is broken
   pub mma-listed : (m : Mma) → firstBroken (openRules place s held w (Multiply m))
-      ≡ mmaOrder (kept (mmaNamed s m)) (kept (mmaReads s m)) (firstBroken (listing (m .kind) (m .ws) (fieldsOf s m))) (kept (allEnd s m))
+      ≡ mmaOrder (kept (mmaNamed s m)) (kept (mmaReads s m)) (firstBroken (listing (m .kind) (m .ws) (sparse (m .metadata)) (fieldsOf s m))) (kept (allEnd s m))
   mma-listed m =
       first-broken (Multiply m)
       ∙ ap (λ n. cond (kept (mmaNamed s m)) (cond (kept (mmaReads s m)) n 12) 6)
-      (in-turn (listing (m .kind) (m .ws) (fieldsOf s m)) (rule 14 (kept (allEnd s m)) ∷ []) refl)
+      (in-turn (listing (m .kind) (m .ws) (sparse (m .metadata)) (fieldsOf s m)) (rule 14 (kept (allEnd s m)) ∷ []) refl)

@@ -137,7 +137,7 @@ unfoldable pub mListed : State → Statement → List Test
 mListed s t = asked (for (mmaOf t) (λ m. one (idescAt m) (instruction.mListed (m .ws) (fieldsOf s m .m))) ∷ [])
 
 unfoldable pub nListed : State → Statement → List Test
-nListed s t = asked (for (mmaOf t) (λ m. one (idescAt m) (instruction.nListed (m .kind) (m .ws) (fieldsOf s m .n))) ∷ [])
+nListed s t = asked (for (mmaOf t) (λ m. one (idescAt m) (instruction.nListed (m .kind) (m .ws) (sparse (m .metadata)) (fieldsOf s m .n))) ∷ [])
 
 unfoldable pub typesListed : State → Statement → List Test
 typesListed s t = asked (for (mmaOf t) (λ m. one (idescAt m) (instruction.typesListed (m .kind) (fieldsOf s m .dtype) (fieldsOf s m .atype) (fieldsOf s m .btype))) ∷ [])

@@ -249,6 +249,11 @@ mmaCases =
     ∷ ((false, 64, 0x02100010, at 1 0 0, a3, Dense), 13)
     ∷ ((false, 512, 0x08420010, at 1 0 0, a3, Dense), 20)
     ∷ ((false, 64, 0x0C100010, at 1 0 0, a3, Dense), 13)
+    -- with `.ws` N 256 is listed when dense alone
+    ∷ ((true, 256, 0x08400010, at 1 0 0, a3, Dense), 0)
+    ∷ ((true, 256, 0x08400014, at 1 0 0, a3, Sparse (at 1 0 0)), 20)
+    ∷ ((true, 256, 0x08200014, at 1 0 0, a3, Sparse (at 1 0 0)), 0)
+    ∷ ((false, 256, 0x08400014, at 1 0 0, a3, Sparse (at 1 0 0)), 0)
     -- the listing comes before the columns
     ∷ ((false, 32, 0x02100010, at 1 0 0, a3, Dense), 13)
     ∷ []

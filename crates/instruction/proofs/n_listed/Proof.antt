@@ -1,14 +1,25 @@
--- `instruction::n_listed` meets its contract: one list for each way through the tests. Assumes nothing.
+-- `instruction::n_listed` meets its contract: one list for each way through the tests, and with `.ws` the two lists by `.sp`. Assumes nothing.
+use Prim.Native.Nat.{ℕ}
+use mathlib.Core.Path.{_≡_, refl}
+use mathlib.Core.Bool.{Bool, true, false, _&&_, _||_, not, or-false}
+use lib.Dec.{eqb}
 use borrow.Author.Tests.{eq-eqb, ne-eqb}
 use borrow.Author.Needs.{needs}
+use Rattle.instruction.specs.Instruction.{nListed}
+use Rattle.instruction.specs.declared.Kind.{Kind}
 use Rattle.instruction.proofs.n_listed.Statement.{statement}
 use Rattle.instruction.proofs.n_listed.Tie as tie
 
-returns : tie.Need-returns
-returns c = rw (c .if1 .taken)
+-- 256 stands in the list of dense alone
+by-sparsity : (kind : Kind) (sp : Bool) (n : ℕ) → (eqb n 64 || eqb n 128) || (not sp && eqb n 256) ≡ nListed kind true sp n
+by-sparsity kind false n = refl
+by-sparsity kind true n = or-false (eqb n 64 || eqb n 128)
 
 kind-number-requires : tie.Need-kind-number-requires
 kind-number-requires c κs = search needs
+
+returns : tie.Need-returns
+returns c = let a = c .before .args in rw (c .if1 .taken) (by-sparsity (a .kind) (a .sp) (a .n))
 
 returns-2 : tie.Need-returns-2
 returns-2 c = rw (c .before .before .if1 .left, ← c .before .kind-number .ensures, eq-eqb _ _ (c .if2 .taken))
@@ -17,4 +28,4 @@ returns-3 : tie.Need-returns-3
 returns-3 c = rw (c .before .before .if1 .left, ← c .before .kind-number .ensures, ne-eqb _ _ (c .if2 .left))
 
 pub n-listed-spec : {M : Type 1} → statement M
-n-listed-spec = tie.close (tie.spec returns kind-number-requires returns-2 returns-3)
+n-listed-spec = tie.close (tie.spec kind-number-requires returns returns-2 returns-3)

@@ -186,16 +186,16 @@ fn m_not_listed(o: Opcode, m: u64) -> Vec<String> {
 }
 
 fn n_not_listed(o: Opcode, n: u64) -> Vec<String> {
-    let behind = if o.ws { " with .ws" } else { "" };
     let mut b = Broken::default();
-    let (kept, takes) = match (o.ws, o.kind) {
-        (true, _) => (matches!(n, 64 | 128 | 256), "64, 128 or 256"),
-        (false, I8) => {
-            (matches!(n, 8 | 16 | 24 | 32) || (48..=256).contains(&n) && n % 16 == 0, "8, 16, 24, 32, then 48 to 256 in sixteens")
+    let (kept, takes) = match (o.ws, o.sp, o.kind) {
+        (false, _, I8) => {
+            (matches!(n, 8 | 16 | 24 | 32) || (48..=256).contains(&n) && n % 16 == 0, "takes 8, 16, 24, 32, then 48 to 256 in sixteens")
         }
-        (false, _) => ((8..=256).contains(&n) && n % 8 == 0, "8 to 256 in eights"),
+        (false, ..) => ((8..=256).contains(&n) && n % 8 == 0, "takes 8 to 256 in eights"),
+        (true, false, _) => (matches!(n, 64 | 128 | 256), "with .ws takes 64, 128 or 256"),
+        (true, true, _) => (matches!(n, 64 | 128), "with .ws and .sp takes 64 or 128"),
     };
-    b.unless(kept, || format!("N {n}: {}{behind} takes {takes}", kind_name(o.kind)));
+    b.unless(kept, || format!("N {n}: {} {takes}", kind_name(o.kind)));
     b.0
 }
 
