@@ -186,7 +186,7 @@ impl<'a, S: Side> Comparison<'a, S> {
         }
     }
 
-    /// Counts a passed sheet by the kinds that its mma have with `.ws` and such an N.
+    /// Counts a passed sheet whose run is compared by the kinds that its mma have with `.ws` and such an N.
     fn passed_shapes(&mut self, steps: &[Step]) {
         let shapes = shapes(steps);
         for (what, sp, n) in [("passed, .ws.sp, N 64", true, 64), ("passed, .ws.sp, N 128", true, 128), ("passed, .ws, N 256", false, 256)]
@@ -1068,7 +1068,7 @@ mod tests {
 
     #[test]
     fn faults_in_answers_are_found() {
-        let faults: [(&str, AnswerFault); 14] = [
+        let faults: [(&str, AnswerFault); 15] = [
             ("13 for 12", |_, _, a| {
                 if a[0] == 12 {
                     a[0] = 13
@@ -1087,6 +1087,12 @@ mod tests {
             ("N 256 with .ws.sp passed over", |s, _, a| {
                 if a[0] == 20 && matches!(shapes(&steps_to(s, a[1])).last(), Some(Shape { ws: true, sp: true, n: 256, .. })) {
                     *a = [0, a[1], 0, 0, a[4], 0]
+                }
+            }),
+            ("N 256 with .ws refused", |s, _, a| {
+                let listed = |shape: &Shape| matches!(shape, Shape { ws: true, sp: false, n: 256, .. });
+                if a[0] == 0 && steps(s).is_some_and(|steps| shapes(&steps).iter().any(listed)) {
+                    a[0] = 20
                 }
             }),
             ("11 passed over", |_, _, a| {

@@ -130,6 +130,13 @@ kinds = floats ++ integers
 abbrev pub Case : Type 0
 Case = Bool × (Kind × ℕ)
 
+-- the reason of a case that has its M and N 64, and of one that has its N and M 64
+abbrev pub withM : (Kind → Bool → Bool → Fields → ℕ) → Bool → Case → ℕ
+withM reason ws c = reason (c .1 .0) ws (c .0) (shaped (c .1 .0) (c .0) (c .1 .1) 64)
+
+abbrev pub withN : (Kind → Bool → Bool → Fields → ℕ) → Bool → Case → ℕ
+withN reason ws c = reason (c .1 .0) ws (c .0) (shaped (c .1 .0) (c .0) 64 (c .1 .1))
+
 -- M without and with `.ws`
 abbrev pub ms : List (Row Bool Case ℕ)
 ms =
@@ -308,10 +315,10 @@ pub record Worked : Type 0 where
   pub dtype : Gives I.dtypeOf dtypes
   pub types-fields : Right (λ kind t. ofFields kind false false (coded false (t .0) (t .1) (t .2) 128 64)) types
   pub types-word : Right (λ kind t. ofWord kind false false (coded false (t .0) (t .1) (t .2) 128 64)) types
-  pub m-fields : Right (λ ws c. ofFields (c .1 .0) ws (c .0) (shaped (c .1 .0) (c .0) (c .1 .1) 64)) ms
-  pub m-word : Right (λ ws c. ofWord (c .1 .0) ws (c .0) (shaped (c .1 .0) (c .0) (c .1 .1) 64)) ms
-  pub n-fields : Right (λ ws c. ofFields (c .1 .0) ws (c .0) (shaped (c .1 .0) (c .0) 64 (c .1 .1))) ns
-  pub n-word : Right (λ ws c. ofWord (c .1 .0) ws (c .0) (shaped (c .1 .0) (c .0) 64 (c .1 .1))) ns
+  pub m-fields : Right (withM ofFields) ms
+  pub m-word : Right (withM ofWord) ms
+  pub n-fields : Right (withN ofFields) ns
+  pub n-word : Right (withN ofWord) ns
   pub several-fields : Gives (λ p. ofFields Kind.F16 false false (coded false (p .0) 0 0 (p .1) (p .2))) several
   pub several-word : Gives (λ p. ofWord Kind.F16 false false (coded false (p .0) 0 0 (p .1) (p .2))) several
   pub flags-fields : Right (λ o x. ofFields (o .0) (o .1) (o .2) (flagged (o .0) x)) flags
