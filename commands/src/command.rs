@@ -4,15 +4,19 @@
 //! would be judged as an empty one, and a report that nobody gets would count as written.
 
 use std::ffi::c_int;
-use std::fs::File;
-use std::io::Write;
+use std::fs::{self, File};
+use std::io::{self, Write};
 use std::mem::ManuallyDrop;
 use std::os::fd::FromRawFd;
+use std::path::Path;
 
 /// Exit statuses. Of several sheets the largest counts.
 pub const PASSED: c_int = 0;
 pub const REFUSED: c_int = 1;
 pub const FAILED: c_int = 2;
+
+/// An input that is no sheet for its size is counted so far; more is over it.
+pub const MOST_COUNTED: usize = 64 << 20;
 
 extern "C" {
     fn signal(number: c_int, handler: usize) -> usize;
@@ -50,6 +54,26 @@ pub fn print(program: &str, text: &[u8]) -> c_int {
 
 /// The version line of a program.
 pub fn version(program: &str) -> String {
+    format!("{program} (staplehorn) {}\n", number_of_version())
+}
+
+/// The library's version as three numbers.
+pub fn number_of_version() -> String {
     let v = staplehorn::version();
-    format!("{program} (staplehorn) {}.{}.{}\n", v / 10_000, v / 100 % 100, v % 100)
+    format!("{}.{}.{}", v / 10_000, v / 100 % 100, v % 100)
+}
+
+/// Writes a file whole or not at all: under another name beside it, which then takes its place.
+pub fn write_whole(path: &Path, text: &[u8]) -> io::Result<()> {
+    // a link stays one, and its file is written
+    let path = fs::canonicalize(path).unwrap_or_else(|_| path.into());
+    if path.metadata().is_ok_and(|found| !found.is_file()) {
+        return fs::write(&path, text);
+    }
+    let mut beside = path.clone().into_os_string();
+    beside.push(format!(".{}", std::process::id()));
+    let mut file = File::options().write(true).create_new(true).open(&beside)?;
+    file.write_all(text).and_then(|()| fs::rename(&beside, &path)).inspect_err(|_| {
+        let _ = fs::remove_file(&beside);
+    })
 }

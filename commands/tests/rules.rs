@@ -1,11 +1,7 @@
 //! `describe` names a broken rule exactly where the library refuses: over words, over fields, and over every value of each field.
 #![deny(clippy::undocumented_unsafe_blocks)]
 
-#[allow(dead_code)]
-#[path = "../src/bin/describe/rules.rs"]
-mod rules;
-
-use rules::*;
+use commands::rules::*;
 use staplehorn::Kind::{self, F8f6f4, Tf32, F16, I8};
 use staplehorn::{Opcode, Reason, SharedFields};
 

@@ -3,15 +3,12 @@
 #![deny(clippy::undocumented_unsafe_blocks)]
 #![no_main]
 
-#[path = "../command/mod.rs"]
-mod command;
-mod number;
-mod rules;
-
-use command::{complain, print, FAILED, PASSED, REFUSED};
-use number::Fault;
-use rules::{kind_name, name_in, types, Field, ATYPE, BTYPE, DTYPE, DTYPES, INSTRUCTION, MODE, MODES, SHARED, SWIZZLE, SWIZZLES};
-use staplehorn::{InstructionFields, Kind, Opcode, Reason, SharedFields};
+use commands::command::{self, complain, print, FAILED, PASSED, REFUSED};
+use commands::number::{self, Fault};
+use commands::rules::{
+    self, kind_of, name_in, types, Field, Rule, ATYPE, BTYPE, DTYPE, DTYPES, INSTRUCTION, MODE, MODES, SHARED, SWIZZLE, SWIZZLES,
+};
+use staplehorn::{InstructionFields, Opcode, Reason, SharedFields};
 use std::ffi::c_int;
 use std::fmt::Write as _;
 
@@ -49,7 +46,7 @@ impl Sort {
         }
         let (text, sp) = text.strip_suffix(".sp").map_or((text, false), |t| (t, true));
         let (text, ws) = text.strip_suffix(".ws").map_or((text, false), |t| (t, true));
-        let kind = [Kind::F16, Kind::Tf32, Kind::F8f6f4, Kind::I8].into_iter().find(|&k| kind_name(k) == text)?;
+        let kind = kind_of(text)?;
         Some(Sort::Instruction(Opcode { kind, ws, sp }))
     }
 
@@ -87,9 +84,9 @@ impl Said {
         Said { text, good: reason.is_none() }
     }
 
-    fn broken(&mut self, lines: Vec<String>) {
-        for line in lines {
-            self.text += &format!("broken: {line}\n");
+    fn broken(&mut self, rules: impl IntoIterator<Item = Rule>) {
+        for rule in rules {
+            self.text += &format!("broken: {rule}\n");
         }
     }
 
@@ -108,7 +105,7 @@ fn instruction(o: Opcode, word: u32) -> Said {
     let mut said = Said::reason(reason);
     match reason {
         Some(Reason::Descriptor) => said.broken(rules::no_reading(o, &values, rules::rest(&INSTRUCTION, word.into()))),
-        Some(_) => said.broken(rules::not_listed(o, &values).into_iter().map(|row| row.1).collect()),
+        Some(_) => said.broken(rules::not_listed(o, &values).into_iter().map(|row| row.1)),
         None => {}
     }
     // what the library read; for a word without a reading what its bits hold

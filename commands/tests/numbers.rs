@@ -1,10 +1,6 @@
 //! Numbers through the wrapper: what the library reads in each place, what it writes, and where it points; `describe` reads them the same.
 
-#[allow(dead_code)]
-#[path = "../src/bin/describe/number.rs"]
-mod number;
-
-use number::{b32, b64, Fault, MOST};
+use commands::number::{b32, b64, Fault, MOST};
 use staplehorn::{canonical, judge, statement, Passed, Reason, Refused, RefusedStatement};
 
 const ALLOC: &str = "tcgen05.alloc.cta_group::1.sync.aligned.b32";

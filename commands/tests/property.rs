@@ -1,0 +1,252 @@
+//! Over many sheets, good and damaged: an explanation always ends, never panics, says the library's answer in its first line, and lists
+//! allocations that add up to the columns held.
+
+use commands::explain::{explain, Explanation};
+use commands::picture;
+use commands::render::{json, sarif, text};
+use commands::sheet::Sheet;
+use serde_json::Value;
+use std::collections::BTreeMap;
+
+/// xorshift64*
+struct Random(u64);
+
+impl Random {
+    fn next(&mut self) -> u64 {
+        self.0 ^= self.0 >> 12;
+        self.0 ^= self.0 << 25;
+        self.0 ^= self.0 >> 27;
+        self.0.wrapping_mul(0x2545_F491_4F6C_DD1D)
+    }
+
+    fn below(&mut self, n: usize) -> usize {
+        (self.next() >> 16) as usize % n.max(1)
+    }
+}
+
+/// Every sheet of data/ and examples/.
+fn corpus() -> Vec<Vec<u8>> {
+    let top = concat!(env!("CARGO_MANIFEST_DIR"), "/..");
+    let mut files = Vec::new();
+    for folder in ["data", "examples"] {
+        let entries = std::fs::read_dir(format!("{top}/{folder}")).unwrap();
+        files.extend(entries.map(|entry| entry.unwrap().path()).filter(|path| path.extension().is_some_and(|e| e == "sheet")));
+    }
+    files.sort();
+    let sheets: Vec<_> = files.iter().map(|path| std::fs::read(path).unwrap()).collect();
+    assert!(sheets.len() > 300);
+    sheets
+}
+
+const PIECES: &[&str] = &[
+    "",
+    " ",
+    "\t",
+    "\n",
+    "\r",
+    ",",
+    ";",
+    "[",
+    "]",
+    "{",
+    "}",
+    "+",
+    "0",
+    "08",
+    "64",
+    "32",
+    "0x",
+    "0x10200010",
+    "4294967296",
+    "t",
+    "_",
+    "%",
+    "@p ",
+    "//",
+    "\u{FEFF}",
+    "sheet\t1\tsm_100a\n",
+    "0\texit;\n",
+    "*",
+    "4",
+    "\0",
+    "\u{7f}",
+    "\u{e9}",
+    ".ws",
+    ".sp",
+    "::2",
+    "-1",
+    "0x08400014",
+];
+
+/// One to three changes: a byte, a piece, a line left out, doubled or moved, an end cut off, a part of another sheet.
+fn damaged(r: &mut Random, sheets: &[Vec<u8>]) -> Vec<u8> {
+    let mut bytes = sheets[r.below(sheets.len())].clone();
+    for _ in 0..=r.below(3) {
+        let at = r.below(bytes.len() + 1);
+        let mut lines: Vec<Vec<u8>> = bytes.split_inclusive(|&b| b == b'\n').map(<[u8]>::to_vec).collect();
+        match r.below(9) {
+            0 if at < bytes.len() => bytes[at] = r.next() as u8,
+            1 if at < bytes.len() => bytes[at] = 32 + r.below(95) as u8,
+            2 if at < bytes.len() => drop(bytes.remove(at)),
+            3 => drop(bytes.splice(at..at, PIECES[r.below(PIECES.len())].bytes())),
+            4 => bytes.truncate(at),
+            5 if !lines.is_empty() => {
+                lines.remove(r.below(lines.len()));
+                bytes = lines.concat();
+            }
+            6 if !lines.is_empty() => {
+                let line = lines[r.below(lines.len())].clone();
+                lines.insert(r.below(lines.len() + 1), line);
+                bytes = lines.concat();
+            }
+            7 => {
+                let other = &sheets[r.below(sheets.len())];
+                let others: Vec<&[u8]> = other.split_inclusive(|&b| b == b'\n').collect();
+                lines.insert(r.below(lines.len() + 1), others[r.below(others.len())].to_vec());
+                bytes = lines.concat();
+            }
+            8 if at < bytes.len() => {
+                // a digit for another
+                if let Some(i) = bytes[at..].iter().position(u8::is_ascii_digit) {
+                    bytes[at + i] = b'0' + r.below(10) as u8;
+                }
+            }
+            _ => {}
+        }
+    }
+    bytes
+}
+
+/// The numbers of the first line of an explanation: reason, line, column, held and peak.
+fn figures(shown: &str) -> Vec<u64> {
+    let first = shown.lines().next().unwrap_or_default();
+    let reason = first.strip_prefix("error[").and_then(|rest| rest.split(']').next()).unwrap_or("0");
+    let (_, tail) = first.rsplit_once("(line ").unwrap_or(("", ""));
+    let tail = format!("{reason} {tail}");
+    tail.split(|c: char| !c.is_ascii_digit()).filter(|part| !part.is_empty()).map(|part| part.parse().unwrap()).collect()
+}
+
+/// What must hold of a sheet; gives its reason.
+fn holds(bytes: &[u8], e: &Explanation, shown: &str) -> u64 {
+    let report = staplehorn::report(bytes);
+    let line = String::from_utf8(report.text).unwrap();
+    let wanted: Vec<u64> = line.lines().next().unwrap().split('\t').map(|part| part.parse().unwrap()).collect();
+    assert_eq!(figures(shown), wanted, "{}\n{shown}", String::from_utf8_lossy(bytes));
+    if let (Some(history), true) = (&e.history, wanted[0] != 0) {
+        let sum: u32 = history.live().map(|a| a.columns).sum();
+        assert_eq!(u64::from(sum), wanted[3], "{shown}");
+    }
+    if let Some(primary) = &e.primary {
+        assert_eq!((primary.line as u64, primary.from as u64), (wanted[1], wanted[2]), "{shown}");
+    }
+    for span in &e.related {
+        assert!(span.line >= 1 && span.from >= 1 && span.to >= span.from, "{span:?}\n{shown}");
+    }
+    wanted[0]
+}
+
+/// JSON, SARIF and the picture have the library's figures too, and the allocations that JSON lists add up to what is held.
+fn other_forms(sheet: &Sheet, e: &Explanation) {
+    let a = e.answer;
+    let reason = a.reason.map_or(0, |reason| reason.number());
+    let figures = |object: &Value| ["reason", "line", "column", "held", "peak"].map(|key| object[key].as_u64());
+    let wanted = [reason, a.line, a.column, a.held, a.peak].map(|number| Some(number.into()));
+    let object = json::object("k.sheet", sheet, e);
+    assert_eq!(figures(&object), wanted, "{object}");
+    if let (Some(all), true) = (object["allocations"].as_array(), reason != 0) {
+        assert_eq!(all.iter().filter_map(|a| a["columns"].as_u64()).sum::<u64>(), u64::from(a.held), "{object}");
+    }
+    let log = sarif::log(&[("k.sheet".into(), sheet, e)], true);
+    let results = log["runs"][0]["results"].as_array().unwrap();
+    assert_eq!(results.len(), usize::from(reason != 0));
+    for result in results {
+        assert_eq!(figures(&result["properties"]), wanted, "{result}");
+        let region = &result["locations"][0]["physicalLocation"]["region"];
+        assert!(a.line == 0 || region["startLine"] == a.line && region["startColumn"] == a.column, "{result}");
+    }
+    let svg = picture::svg("k.sheet", sheet, e);
+    assert!(svg.starts_with('<') && svg.contains(&format!("held {}, peak {} of 512 columns", a.held, a.peak)), "{svg}");
+}
+
+#[test]
+fn every_explanation_agrees_with_the_report() {
+    let sheets = corpus();
+    let mut r = Random(17);
+    let mut reasons = BTreeMap::<u64, (usize, usize, usize)>::new();
+    for i in 0..100_000 + sheets.len() {
+        let bytes = sheets.get(i).cloned().unwrap_or_else(|| damaged(&mut r, &sheets));
+        let sheet = Sheet::new(&bytes);
+        let e = explain(&bytes, bytes.len());
+        let shown = String::from_utf8(text::render("k.sheet", &sheet, &e, false)).unwrap();
+        let counts = reasons.entry(holds(&bytes, &e, &shown)).or_default();
+        counts.0 += 1;
+        counts.1 += usize::from(e.history.is_some());
+        counts.2 += usize::from(e.helps.iter().any(|help| help.edit.is_some()));
+        if i % 8 == 0 {
+            other_forms(&sheet, &e);
+        }
+        if i % 500 == 0 {
+            assert!(!text::render("k.sheet", &sheet, &e, true).is_empty());
+        }
+    }
+    println!("reason: sheets, with what the lines did, with an edit\n{reasons:#?}");
+    for reason in [0, 2, 3, 4, 5, 6, 8, 9, 10, 11, 12, 13, 14, 15, 20, 21] {
+        let (sheets, known, _) = reasons.get(&reason).copied().unwrap_or_default();
+        assert!(sheets >= 50, "reason {reason}: {sheets} sheets");
+        // the allocations that the lines left add up to what is held, so that they are listed
+        assert_eq!(sheets, known, "reason {reason}");
+    }
+}
+
+/// Sheets at their limits, and what is over them.
+#[test]
+fn large_sheets() {
+    let header = "sheet\t1\tsm_100a\n";
+    let fill = |line: &str, size: usize| header.to_string() + &line.repeat((size - header.len()) / line.len());
+    let pair = "0\ttcgen05.alloc.cta_group::1.sync.aligned.b32 [t], 32;\n0\ttcgen05.dealloc.cta_group::1.sync.aligned.b32 t, 32;\n";
+    for sheet in [
+        fill("0\tmov.b32 x, 1;\n", 65_536),
+        fill(pair, 65_536),
+        fill(pair, 65_400) + "0\ttcgen05.alloc.cta_group::1.sync.aligned.b32 [t], 32;\n0\texit;\n",
+        fill(pair, 65_600 + pair.len()),
+        header.to_string() + &"0\texit;\n".repeat(4_096),
+        "x".repeat(65_537),
+        String::new(),
+        "\n".repeat(65_536),
+    ] {
+        let bytes = sheet.as_bytes();
+        let e = explain(bytes, bytes.len());
+        let shown = String::from_utf8(text::render("k.sheet", &Sheet::new(bytes), &e, false)).unwrap();
+        holds(bytes, &e, &shown);
+    }
+}
+
+/// A full refused sheet is explained in under 20 ms: the best of some tries, for a machine may be busy.
+#[test]
+fn time() {
+    let header = "sheet\t1\tsm_100a\n";
+    let alloc = "0\ttcgen05.alloc.cta_group::1.sync.aligned.b32 [t], 256;\n";
+    let loads = "1\ttcgen05.ld.sync.aligned.32x32b.x2.b32 {r0, r1}, [t+2097152];\n";
+    let short = "0\tmov.b32 x, 1;\n";
+    for (line, end) in [
+        (loads, "0\texit;\n"),
+        (short, "0\texit;\n"),
+        (loads, "0\ttcgen05.dealloc.cta_group::1.sync.aligned.b32 s, 256;\n"),
+        (short, "0\tmov.b32 x 1;\n"),
+    ] {
+        let room = 65_536 - header.len() - alloc.len() - end.len();
+        let sheet = [header, alloc, &line.repeat((room / line.len()).min(4_092)), end].concat();
+        let best = (0..10)
+            .map(|_| {
+                let began = std::time::Instant::now();
+                let e = explain(sheet.as_bytes(), sheet.len());
+                let shown = text::render("k.sheet", &Sheet::new(sheet.as_bytes()), &e, false);
+                assert!(e.answer.reason.is_some() && !shown.is_empty());
+                began.elapsed()
+            })
+            .min()
+            .unwrap();
+        println!("{} lines, {} bytes: {best:?}", sheet.lines().count(), sheet.len());
+        assert!(best.as_millis() < 20, "{best:?}");
+    }
+}
