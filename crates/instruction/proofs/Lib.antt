@@ -1,3 +1,4 @@
 pub mod NamingLaws
 pub mod NumberLaws
 pub mod Exact
+pub mod ListedN

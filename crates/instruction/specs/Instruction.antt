@@ -2,11 +2,11 @@
 -- the fields as numbers; a descriptor with named types is a view of them. Assumes nothing.
 use Prim.Native.Nat.{ℕ, _*_, _%_}
 use mathlib.Core.Bool.{Bool, true, false, _&&_, _||_, not, cond, Bool·beq}
-use mathlib.Core.List.{List, [], _∷_}
+use mathlib.Core.List.{List, [], _∷_, _++_, map}
 use mathlib.Core.Option.{Option, none, some}
 use lib.Dec.{eqb, leb}
 use lib.ListN.{getD}
-use Rattle.laws.specs.Tests.{all, among, find, bit}
+use Rattle.laws.specs.Tests.{all, among, find, bit, isSome}
 use Rattle.laws.specs.Layout.{Part, plain, scaled, fixed, ranges, pack}
 use Rattle.laws.specs.Format.{readBy, wordBy}
 use Rattle.laws.specs.Rules.{Rule, rule, firstBroken}
@@ -261,6 +261,54 @@ abbrev pub nListed : Kind → Bool → Bool → ℕ → Bool
 nListed kind false sp n = cond (isI8 kind) (steps 8 32 8 n || steps 48 256 16 n) (steps 8 256 8 n)
 nListed kind true false n = among n (64 ∷ 128 ∷ 256 ∷ [])
 nListed kind true true n = among n (64 ∷ 128 ∷ [])
+
+-- The N that a descriptor can hold: 0 to 504 in eights.
+abbrev pub nHeld : ℕ → Bool
+nHeld n = steps 0 504 8 n
+
+-- the kinds but i8, i8, and all; a qualifier that does not stand, that stands, and either
+abbrev pub floats : List Kind
+floats = Kind.F16 ∷ Kind.Tf32 ∷ Kind.F8f6f4 ∷ []
+
+abbrev pub integers : List Kind
+integers = Kind.I8 ∷ []
+
+abbrev pub kinds : List Kind
+kinds = floats ++ integers
+
+abbrev pub absent : List Bool
+absent = false ∷ []
+
+abbrev pub present : List Bool
+present = true ∷ []
+
+abbrev pub either : List Bool
+either = absent ++ present
+
+-- The same written out: kinds, whether `.ws` stands, whether `.sp` stands, and every N that they take (`NExact` in Claims.antt).
+abbrev pub NRow : Type 0
+NRow = List Kind × List Bool × List Bool × List ℕ
+
+abbrev pub nTable : List NRow
+nTable =
+    (floats, absent, either, 8 ∷ 16 ∷ 24 ∷ 32 ∷ 40 ∷ 48 ∷ 56 ∷ 64 ∷ 72 ∷ 80 ∷ 88 ∷ 96 ∷ 104 ∷ 112 ∷ 120 ∷ 128 ∷ 136 ∷ 144 ∷ 152 ∷ 160 ∷ 168 ∷ 176 ∷ 184 ∷ 192 ∷ 200 ∷ 208 ∷ 216 ∷ 224 ∷ 232 ∷ 240 ∷ 248 ∷ 256 ∷ [])
+    ∷ (integers, absent, either, 8 ∷ 16 ∷ 24 ∷ 32 ∷ 48 ∷ 64 ∷ 80 ∷ 96 ∷ 112 ∷ 128 ∷ 144 ∷ 160 ∷ 176 ∷ 192 ∷ 208 ∷ 224 ∷ 240 ∷ 256 ∷ [])
+    ∷ (kinds, present, absent, 64 ∷ 128 ∷ 256 ∷ [])
+    ∷ (kinds, present, present, 64 ∷ 128 ∷ [])
+    ∷ []
+
+-- a row has an N under an opcode; some row of the table has it
+abbrev pub rowHas : Kind → Bool → Bool → ℕ → NRow → Bool
+rowHas kind ws sp n row =
+    all
+    (among (kindNumber kind) (map kindNumber (row .0))
+    ∷ among (bit ws) (map bit (row .1))
+    ∷ among (bit sp) (map bit (row .2))
+    ∷ among n (row .3)
+    ∷ [])
+
+abbrev pub nInTable : Kind → Bool → Bool → ℕ → Bool
+nInTable kind ws sp n = isSome (find (rowHas kind ws sp n) nTable)
 
 -- By codes, the dtypes of a kind: f16 has f32, and f16 with two f16; both its types agree. tf32 has f32; f8f6f4 f16 or f32; i8 s32.
 abbrev pub typesListed : Kind → ℕ → ℕ → ℕ → Bool

@@ -2,7 +2,7 @@
 -- the others: and-true, and-false, or-true, or-false, and-assoc, and-comm in mathlib.Core.Bool, not-true and not-false in borrow.Author.Tests.
 -- Assumes nothing.
 use mathlib.Core.Path.{_≡_, refl, sym, _∙_}
-use mathlib.Core.Bool.{Bool, true, false, not, _&&_, _||_, cond, and-false, true≢false}
+use mathlib.Core.Bool.{Bool, true, false, not, _&&_, _||_, cond, and-false, true≢false, Bool·beq}
 use mathlib.Core.Logic.{_⊎_, inl, inr}
 
 -- ---- one test
@@ -21,6 +21,12 @@ pub same-test : (a b : Bool) → (a ≡ true → b ≡ true) → (b ≡ true →
 same-test true b f g = sym (f refl)
 same-test false true f g = g refl
 same-test false false f g = refl
+
+pub beq-is : (a b : Bool) → Bool·beq a b ≡ true → a ≡ b
+beq-is true true h = refl
+beq-is true false h = never h
+beq-is false true h = never h
+beq-is false false h = refl
 
 -- ---- and: taken apart
 pub and-l : (a b : Bool) → a && b ≡ true → a ≡ true

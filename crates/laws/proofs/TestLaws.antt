@@ -1,12 +1,14 @@
--- What a list of tests says of its parts, and a search of what it finds. Assumes nothing.
-use Prim.Native.Nat.{_≤_}
+-- What a list of tests says of its parts, a search of what it finds, and a test that is computed of every number below a bound of each of them.
+-- Assumes nothing.
+use Prim.Native.Nat.{ℕ, zero, suc, _≤_, _<_}
 use native.Mathlib.Omega.{arith}
+use native.Mathlib.Decide.{decLe}
 use mathlib.Core.Path.{_≡_, refl, sym, subst}
-use mathlib.Core.Bool.{Bool, true, false, _&&_, _||_, cond}
+use mathlib.Core.Bool.{Bool, true, false, _&&_, _||_, cond, Bool·beq}
 use mathlib.Core.List.{List, [], _∷_}
 use mathlib.Core.Option.{Option, some, Option·some-injective, Option·none-ne-some}
 use Rattle.laws.specs.Tests.{all, allFrom, find, bit, isSome}
-use Rattle.laws.proofs.BoolLaws.{and-split, and-join}
+use Rattle.laws.proofs.BoolLaws.{and-split, and-join, beq-is}
 
 pub bit-le : (b : Bool) → bit b ≤ 1
 bit-le true = omega arith
@@ -74,3 +76,23 @@ first-some test (x ∷ xs) y false = first-some test xs x (test x)
 pub find-any : {A : Type 0} (test : A → Bool) (xs : List A) → isSome (find test xs) ≡ any test xs
 find-any test [] = refl
 find-any test (x ∷ xs) = first-some test xs x (test x)
+
+-- ---- a test of every number below a bound: what is computed holds of each
+abbrev pub below : ℕ → (ℕ → Bool) → Bool
+below zero f = true
+below (suc n) f = f n && below n f
+
+pub below-is : (n : ℕ) (f : ℕ → Bool) → below n f ≡ true → (x : ℕ) → x < n → f x ≡ true
+below-is zero f h x g = absurd (omega arith)
+below-is (suc n) f h x g = let p = and-split (f n) (below n f) h in go (decLe n x) (p .0) (below-is n f (p .1) x)
+  where
+    go : Dec (n ≤ x) → f n ≡ true → (x < n → f x ≡ true) → f x ≡ true
+    go (yes q) h i = let e : x ≡ n = omega arith in rw e h
+    go (no q) h i = i (omega arith)
+
+-- two tests that agree there are the same at each
+abbrev pub agree : ℕ → (ℕ → Bool) → (ℕ → Bool) → Bool
+agree n f g = below n (λ x. Bool·beq (f x) (g x))
+
+pub agree-is : (n : ℕ) (f g : ℕ → Bool) → agree n f g ≡ true → (x : ℕ) → x < n → f x ≡ g x
+agree-is n f g h x l = beq-is (f x) (g x) (below-is n (λ y. Bool·beq (f y) (g y)) h x l)

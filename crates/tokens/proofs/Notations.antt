@@ -10,6 +10,7 @@ use lib.ListN.{length, drop}
 use lib.Dec.{ltb, leb, eqb}
 use borrow.Author.Tests.{eqb-true, lt-leb, le-ltb, ltb-true, leb-true}
 use Rattle.laws.proofs.BoolLaws.{never, and-l, and-r, and-split}
+use Rattle.laws.proofs.TestLaws.{agree, agree-is}
 use Rattle.tokens.specs.Text.{bytes}
 use Rattle.tokens.specs.Bytes.{letter, wordByte, runLen, all}
 use Rattle.tokens.specs.Numbers.{digitOf, among, Notation, hexadecimals, binaries, octals, decimals, notations, begins, rowFor, rowOf, body, digitsLen, ending, spells, isNumber}
@@ -33,32 +34,11 @@ not-among f l x h e = go (among l x) refl
     go false q = refl
 
 -- ---- the digits of a row are the bytes whose value is below its base
-abbrev same : Bool → Bool → Bool
-same true b = b
-same false b = not b
-
-same-is : (a b : Bool) → same a b ≡ true → a ≡ b
-same-is true b h = sym h
-same-is false true h = never h
-same-is false false h = refl
-
-abbrev below : ℕ → (ℕ → Bool) → Bool
-below zero f = true
-below (suc n) f = f n && below n f
-
-below-is : (n : ℕ) (f : ℕ → Bool) → below n f ≡ true → (x : ℕ) → x < n → f x ≡ true
-below-is zero f h x g = absurd (omega arith)
-below-is (suc n) f h x g = let p = and-split (f n) (below n f) h in go (decLe n x) (p .0) (below-is n f (p .1) x)
-  where
-    go : Dec (n ≤ x) → f n ≡ true → (x < n → f x ≡ true) → f x ≡ true
-    go (yes q) h i = let e : x ≡ n = omega arith in rw e h
-    go (no q) h i = i (omega arith)
-
-abbrev agrees : Notation → ℕ → Bool
-agrees r x = same (among (r .digits) x) (ltb (digitOf x) (r .base))
+abbrev agrees : Notation → Bool
+agrees r = agree 128 (among (r .digits)) (λ x. ltb (digitOf x) (r .base))
 
 abbrev pub digitsBelow : Notation → Bool
-digitsBelow r = below 128 (agrees r) && (all (λ x. ltb x 128) (r .digits) && leb (r .base) 16)
+digitsBelow r = agrees r && (all (λ x. ltb x 128) (r .digits) && leb (r .base) 16)
 
 digit-far : (x : ℕ) → 128 ≤ x → digitOf x ≡ 16
 unfolding digitOf
@@ -66,13 +46,13 @@ digit-far x h = rw (lt-leb x 57 (omega arith), lt-leb x 70 (omega arith), lt-leb
 
 pub digits-below : (r : Notation) → digitsBelow r ≡ true → (x : ℕ) → among (r .digits) x ≡ ltb (digitOf x) (r .base)
 digits-below r h x =
-    let p = and-split (below 128 (agrees r)) (all (λ x. ltb x 128) (r .digits) && leb (r .base) 16) h in
+    let p = and-split (agrees r) (all (λ x. ltb x 128) (r .digits) && leb (r .base) 16) h in
     let q = and-split (all (λ x. ltb x 128) (r .digits)) (leb (r .base) 16) (p .1) in
     go (decLe 128 x) (p .0) (q .0) (leb-true (r .base) 16 (q .1))
   where
-    go : Dec (128 ≤ x) → below 128 (agrees r) ≡ true → all (λ x. ltb x 128) (r .digits) ≡ true → r .base ≤ 16 → among (r .digits) x ≡ ltb (digitOf x) (r .base)
+    go : Dec (128 ≤ x) → agrees r ≡ true → all (λ x. ltb x 128) (r .digits) ≡ true → r .base ≤ 16 → among (r .digits) x ≡ ltb (digitOf x) (r .base)
     go (yes far) h k b = rw (not-among (λ x. ltb x 128) (r .digits) x k (le-ltb x 128 far), digit-far x far, le-ltb 16 (r .base) b)
-    go (no near) h k b = same-is (among (r .digits) x) (ltb (digitOf x) (r .base)) (below-is 128 (agrees r) h x (omega arith))
+    go (no near) h k b = agree-is 128 (among (r .digits)) (λ y. ltb (digitOf y) (r .base)) h x (omega arith)
 
 -- ---- the row of a token
 -- what is computed of each row
