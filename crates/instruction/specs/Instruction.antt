@@ -247,25 +247,6 @@ encoded kind ws sp = wordBy layout numbers (λ d. all (rules kind ws sp d)) made
 unfoldable pub encodedNumbers : Kind → Bool → Bool → List ℕ → InstructionWord
 encodedNumbers kind ws sp l = cond (all (ranges layout l) && keeps kind ws sp (named kind l)) (made (pack layout l)) noWord
 
--- a number from a least to a most in steps
-abbrev pub steps : ℕ → ℕ → ℕ → ℕ → Bool
-steps least most by n = all (leb least n ∷ leb n most ∷ eqb (n % by) 0 ∷ [])
-
--- M is 64 or 128; with `.ws` 32, 64 or 128.
-abbrev pub mListed : Bool → ℕ → Bool
-mListed ws m = cond ws (among m (32 ∷ 64 ∷ 128 ∷ [])) (among m (64 ∷ 128 ∷ []))
-
--- N by the rows of the PTX ISA's table of kinds and shapes. Without `.ws`, dense or sparse: 8 to 256 in eights; for i8 8 to 32 in eights, then 48 to 256
--- in sixteens. With `.ws`, in every kind: 64, 128 or 256 when dense, 64 or 128 when sparse.
-abbrev pub nListed : Kind → Bool → Bool → ℕ → Bool
-nListed kind false sp n = cond (isI8 kind) (steps 8 32 8 n || steps 48 256 16 n) (steps 8 256 8 n)
-nListed kind true false n = among n (64 ∷ 128 ∷ 256 ∷ [])
-nListed kind true true n = among n (64 ∷ 128 ∷ [])
-
--- The N that a descriptor can hold: 0 to 504 in eights.
-abbrev pub nHeld : ℕ → Bool
-nHeld n = steps 0 504 8 n
-
 -- the kinds but i8, i8, and all; a qualifier that does not stand, that stands, and either
 abbrev pub floats : List Kind
 floats = Kind.F16 ∷ Kind.Tf32 ∷ Kind.F8f6f4 ∷ []
@@ -285,7 +266,22 @@ present = true ∷ []
 abbrev pub either : List Bool
 either = absent ++ present
 
--- The same written out: kinds, whether `.ws` stands, whether `.sp` stands, and every N that they take (`NExact` in Claims.antt).
+-- a number from a least to a most in steps
+abbrev pub steps : ℕ → ℕ → ℕ → ℕ → Bool
+steps least most by n = all (leb least n ∷ leb n most ∷ eqb (n % by) 0 ∷ [])
+
+-- M is 64 or 128; with `.ws` 32, 64 or 128.
+abbrev pub mListed : Bool → ℕ → Bool
+mListed ws m = cond ws (among m (32 ∷ 64 ∷ 128 ∷ [])) (among m (64 ∷ 128 ∷ []))
+
+-- N by the rows of the PTX ISA's table of kinds and shapes. Without `.ws`, dense or sparse: 8 to 256 in eights; for i8 8 to 32 in eights, then 48 to 256
+-- in sixteens. With `.ws`, in every kind: 64, 128 or 256 when dense, 64 or 128 when sparse.
+abbrev pub nListed : Kind → Bool → Bool → ℕ → Bool
+nListed kind false sp n = cond (isI8 kind) (steps 8 32 8 n || steps 48 256 16 n) (steps 8 256 8 n)
+nListed kind true false n = among n (64 ∷ 128 ∷ 256 ∷ [])
+nListed kind true true n = among n (64 ∷ 128 ∷ [])
+
+-- The same written out: kinds, whether `.ws` stands, whether `.sp` stands, and each N that they take (`NExact` in Claims.antt: the two agree).
 abbrev pub NRow : Type 0
 NRow = List Kind × List Bool × List Bool × List ℕ
 
@@ -309,6 +305,10 @@ rowHas kind ws sp n row =
 
 abbrev pub nInTable : Kind → Bool → Bool → ℕ → Bool
 nInTable kind ws sp n = isSome (find (rowHas kind ws sp n) nTable)
+
+-- every N that a descriptor can hold: 0 to 504 in eights
+abbrev pub nHeld : ℕ → Bool
+nHeld n = steps 0 504 8 n
 
 -- By codes, the dtypes of a kind: f16 has f32, and f16 with two f16; both its types agree. tf32 has f32; f8f6f4 f16 or f32; i8 s32.
 abbrev pub typesListed : Kind → ℕ → ℕ → ℕ → Bool

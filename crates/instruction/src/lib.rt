@@ -1,11 +1,12 @@
 // The instruction descriptor: 32 bits, read and written under an opcode: a kind, `.ws` and `.sp`.
+ghost use Prim.Native.Nat.{_<_};
 ghost use mathlib.Core.Path.{_≡_};
 ghost use mathlib.Core.List.{[], _∷_};
 ghost use Rattle.laws.specs.Tests.{all, isSome};
 ghost use Rattle.laws.specs.Layout.{pack, says, stands, ranges};
 ghost use Rattle.laws.specs.Rules.{firstBroken};
 ghost use Rattle.laws.proofs.LayoutLaws.{Inside};
-ghost use Rattle.instruction.specs.Instruction.{layout, kindNumber, dtypeOf, elementOf, values, named, fieldsRead, encodedNumbers, keeps, noDescriptor, decoded, mListed, nListed, typesListed, listing, fieldsReason, denseK, kOf, judged};
+ghost use Rattle.instruction.specs.Instruction.{layout, kindNumber, isI8, dtypeOf, elementOf, values, named, fieldsRead, encodedNumbers, keeps, noDescriptor, decoded, mListed, steps, nListed, typesListed, listing, fieldsReason, denseK, kOf, judged};
 
 pub enum Kind {
     F16,
@@ -60,6 +61,12 @@ fn kind_number(kind: Kind) -> u32
     }
 }
 
+fn is_i8(kind: Kind) -> bool
+    ensures { λ r. ⌜ r ≡ isI8 kind ⌝ }
+{
+    kind_number(kind) == 3
+}
+
 // A code is a dtype's.
 fn known_dtype(c: u32) -> bool
     ensures { λ r. ⌜ r ≡ isSome (dtypeOf c) ⌝ }
@@ -84,14 +91,14 @@ fn known_element(kind: Kind, c: u32) -> bool
 fn admits(kind: Kind, ws: bool, sp: bool, f: Fields) -> bool
     ensures { λ r. ⌜ r ≡ keeps kind ws sp (named kind (values f)) ⌝ }
 {
-    let number = kind_number(kind);
+    let integers = is_i8(kind);
     known_dtype(f.dtype)
         & known_element(kind, f.atype)
         & known_element(kind, f.btype)
         & ((f.sparse == 1) == sp)
         & ((f.sparse == 1) | (f.selector == 0))
-        & (!(f.saturate == 1) | (number == 3))
-        & (!((f.anegate == 1) | (f.bnegate == 1)) | !(number == 3))
+        & (!(f.saturate == 1) | integers)
+        & (!((f.anegate == 1) | (f.bnegate == 1)) | !integers)
         & ((f.shift == 0) | ws)
 }
 
@@ -264,16 +271,25 @@ fn m_listed(ws: bool, m: u32) -> bool
     }
 }
 
-// N is listed.
+// A number is one of those from a least to a most in steps.
+fn in_steps(least: u32, most: u32, by: u32, n: u32) -> bool
+    requires { ⌜ 0 < by ⌝ }
+    ensures { λ r. ⌜ r ≡ steps least most by n ⌝ }
+{
+    (least <= n) & (n <= most) & (n % by == 0)
+}
+
+// N is listed. Without `.ws` i8 takes 8 to 32 in eights, then 48 to 256 in sixteens; the other kinds take 8 to 256 in eights. With `.ws` every kind
+// takes 64 and 128, and 256 when dense.
 fn n_listed(kind: Kind, ws: bool, sp: bool, n: u32) -> bool
     ensures { λ r. ⌜ r ≡ nListed kind ws sp n ⌝ }
 {
     if ws {
         (n == 64) | (n == 128) | (!sp & (n == 256))
-    } else if kind_number(kind) == 3 {
-        ((8 <= n) & (n <= 32) & (n % 8 == 0)) | ((48 <= n) & (n <= 256) & (n % 16 == 0))
+    } else if is_i8(kind) {
+        in_steps(8, 32, 8, n) | in_steps(48, 256, 16, n)
     } else {
-        (8 <= n) & (n <= 256) & (n % 8 == 0)
+        in_steps(8, 256, 8, n)
     }
 }
 

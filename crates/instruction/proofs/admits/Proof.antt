@@ -5,8 +5,8 @@ use borrow.Author.Needs.{needs}
 use Rattle.instruction.proofs.admits.Statement.{statement}
 use Rattle.instruction.proofs.admits.Tie as tie
 
-kind-number-requires : tie.Need-kind-number-requires
-kind-number-requires c κs = search needs
+is-i8-requires : tie.Need-is-i8-requires
+is-i8-requires c κs = search needs
 
 known-dtype-requires : tie.Need-known-dtype-requires
 known-dtype-requires c κs = search needs
@@ -21,14 +21,14 @@ returns : tie.Need-returns
 returns c =
     let k = c .before .before .before .before .before .before .before .before in
     let x = k .before .before .before .args in
-    rw (k .before .known-dtype .ensures, k .known-element .ensures, c .before .before .before .before .before .before .before .known-element2 .ensures, k .before .before .kind-number .ensures)
+    rw (k .before .known-dtype .ensures, k .known-element .ensures, c .before .before .before .before .before .before .before .known-element2 .ensures, k .before .before .is-i8 .ensures)
     (admitted (x .kind) (x .ws) (x .sp) (values (x .f)))
 
 pub admits-spec : {M : Type 1} → statement M
 admits-spec =
     tie.close
     (tie.spec
-    kind-number-requires
+    is-i8-requires
     known-dtype-requires
     known-element-requires
     known-element-requires-2
