@@ -281,15 +281,19 @@ nListed kind false sp n = cond (isI8 kind) (steps 8 32 8 n || steps 48 256 16 n)
 nListed kind true false n = among n (64 ∷ 128 ∷ 256 ∷ [])
 nListed kind true true n = among n (64 ∷ 128 ∷ [])
 
--- The same written out: kinds, whether `.ws` stands, whether `.sp` stands, and each N that they take (`NExact` in Claims.antt: the two agree).
+-- The same written out: kinds, whether `.ws` stands, whether `.sp` stands, and each N that they take. `n-exact` (proofs/ListedN.antt) shows that the two agree.
 abbrev pub NRow : Type 0
 NRow = List Kind × List Bool × List Bool × List ℕ
 
 abbrev pub nTable : List NRow
 nTable =
+    -- f16, tf32 and f8f6f4 without `.ws`, dense or sparse
     (floats, absent, either, 8 ∷ 16 ∷ 24 ∷ 32 ∷ 40 ∷ 48 ∷ 56 ∷ 64 ∷ 72 ∷ 80 ∷ 88 ∷ 96 ∷ 104 ∷ 112 ∷ 120 ∷ 128 ∷ 136 ∷ 144 ∷ 152 ∷ 160 ∷ 168 ∷ 176 ∷ 184 ∷ 192 ∷ 200 ∷ 208 ∷ 216 ∷ 224 ∷ 232 ∷ 240 ∷ 248 ∷ 256 ∷ [])
+    -- i8 without `.ws`, dense or sparse
     ∷ (integers, absent, either, 8 ∷ 16 ∷ 24 ∷ 32 ∷ 48 ∷ 64 ∷ 80 ∷ 96 ∷ 112 ∷ 128 ∷ 144 ∷ 160 ∷ 176 ∷ 192 ∷ 208 ∷ 224 ∷ 240 ∷ 256 ∷ [])
+    -- every kind with `.ws`, dense
     ∷ (kinds, present, absent, 64 ∷ 128 ∷ 256 ∷ [])
+    -- every kind with `.ws`, sparse
     ∷ (kinds, present, present, 64 ∷ 128 ∷ [])
     ∷ []
 
