@@ -91,14 +91,13 @@ fn known_element(kind: Kind, c: u32) -> bool
 fn admits(kind: Kind, ws: bool, sp: bool, f: Fields) -> bool
     ensures { λ r. ⌜ r ≡ keeps kind ws sp (named kind (values f)) ⌝ }
 {
-    let integers = is_i8(kind);
     known_dtype(f.dtype)
         & known_element(kind, f.atype)
         & known_element(kind, f.btype)
         & ((f.sparse == 1) == sp)
         & ((f.sparse == 1) | (f.selector == 0))
-        & (!(f.saturate == 1) | integers)
-        & (!((f.anegate == 1) | (f.bnegate == 1)) | !integers)
+        & (!(f.saturate == 1) | is_i8(kind))
+        & (!((f.anegate == 1) | (f.bnegate == 1)) | !is_i8(kind))
         & ((f.shift == 0) | ws)
 }
 

@@ -5,9 +5,6 @@ use borrow.Author.Needs.{needs}
 use Rattle.instruction.proofs.admits.Statement.{statement}
 use Rattle.instruction.proofs.admits.Tie as tie
 
-is-i8-requires : tie.Need-is-i8-requires
-is-i8-requires c κs = search needs
-
 known-dtype-requires : tie.Need-known-dtype-requires
 known-dtype-requires c κs = search needs
 
@@ -17,19 +14,27 @@ known-element-requires c κs = search needs
 known-element-requires-2 : tie.Need-known-element-requires-2
 known-element-requires-2 c κs = search needs
 
+is-i8-requires : tie.Need-is-i8-requires
+is-i8-requires c κs = search needs
+
+is-i8-requires-2 : tie.Need-is-i8-requires-2
+is-i8-requires-2 c κs = search needs
+
 returns : tie.Need-returns
 returns c =
-    let k = c .before .before .before .before .before .before .before .before in
+    let i = c .before .before .before .before in
+    let k = i .before .before .before .before .before in
     let x = k .before .before .before .args in
-    rw (k .before .known-dtype .ensures, k .known-element .ensures, c .before .before .before .before .before .before .before .known-element2 .ensures, k .before .before .is-i8 .ensures)
+    rw (k .before .before .known-dtype .ensures, k .before .known-element .ensures, k .known-element2 .ensures, i .is-i8 .ensures, c .before .is-i82 .ensures)
     (admitted (x .kind) (x .ws) (x .sp) (values (x .f)))
 
 pub admits-spec : {M : Type 1} → statement M
 admits-spec =
     tie.close
     (tie.spec
-    is-i8-requires
     known-dtype-requires
     known-element-requires
     known-element-requires-2
+    is-i8-requires
+    is-i8-requires-2
     returns)
