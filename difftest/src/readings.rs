@@ -462,7 +462,6 @@ fn sheet_rows() -> Vec<Sheet> {
     name_rows(&mut row);
     booking_rows(&mut row);
     descriptor_rows(&mut row);
-    shape_rows(&mut row);
     n_rows(&mut row);
     cell_rows(&mut row);
     spelling_rows(&mut row);
@@ -610,27 +609,18 @@ fn descriptor_rows(row: Put) {
     row(&[A64, B, "0|mov.b32 i, 0x080C00A0;", "0|@integers [t], b, b, i, p;", D64, EXIT], 0, 0, 64);
 }
 
-/// N 256 with `.ws` is for dense alone.
-fn shape_rows(row: Put) {
-    let sparse = "0|tcgen05.mma.ws.sp.cta_group::1.kind::f16 [t], b, b, [t], ";
-    row(&[A512, B, "0|mov.b32 i, 0x08400014;", &format!("{sparse}^i, p;")], 20, 512, 512);
-    row(&[A512, B, "0|mov.b32 i, 0x08200014;", &format!("{sparse}i, p;"), D512, EXIT], 0, 0, 512);
-    let dense = "0|tcgen05.mma.ws.cta_group::1.kind::f16 [t], b, b, i, p;";
-    row(&[A512, B, "0|mov.b32 i, 0x08400010;", dense, D512, EXIT], 0, 0, 512);
-}
-
 /// Under every opcode each N that a descriptor can hold: those that are listed pass, and every other is 20.
 fn n_rows(row: Put) {
-    let eights: Vec<u32> = (8..=256).step_by(8).collect();
-    let sixteens = [8, 16, 24, 32, 48, 64, 80, 96, 112, 128, 144, 160, 176, 192, 208, 224, 240, 256];
+    let floats: Vec<u32> = (8..=256).step_by(8).collect();
+    let integers = [8, 16, 24, 32, 48, 64, 80, 96, 112, 128, 144, 160, 176, 192, 208, 224, 240, 256];
     // M 128 and types that the kind lists
     for (kind, base) in [("f16", 0x08000010), ("tf32", 0x08000910), ("f8f6f4", 0x08000010), ("i8", 0x080000A0)] {
         for (ws, sp) in [(false, false), (false, true), (true, false), (true, true)] {
             let listed: &[u32] = match (ws, sp) {
                 (true, true) => &[64, 128],
                 (true, false) => &[64, 128, 256],
-                _ if kind == "i8" => &sixteens,
-                _ => &eights,
+                _ if kind == "i8" => &integers,
+                _ => &floats,
             };
             let (ws, metadata, sparse, bit) = (if ws { ".ws" } else { "" }, if sp { " [t]," } else { "" }, if sp { ".sp" } else { "" }, u32::from(sp) << 2);
             let mma = format!("0|tcgen05.mma{ws}{sparse}.cta_group::1.kind::{kind} [t], b, b,{metadata}");

@@ -106,6 +106,26 @@ types =
     ∷ (Kind.I8, (3, 0, 0) ∷ (2, 2, 0) ∷ (2, 0, 2) ∷ [], 12)
     ∷ []
 
+-- without `.sp`, with it, and either
+abbrev pub withoutSp : List Bool
+withoutSp = false ∷ []
+
+abbrev pub withSp : List Bool
+withSp = true ∷ []
+
+abbrev pub eitherSp : List Bool
+eitherSp = withoutSp ++ withSp
+
+-- the kinds but i8, i8, and all
+abbrev pub floats : List Kind
+floats = Kind.F16 ∷ Kind.Tf32 ∷ Kind.F8f6f4 ∷ []
+
+abbrev pub integers : List Kind
+integers = Kind.I8 ∷ []
+
+abbrev pub kinds : List Kind
+kinds = floats ++ integers
+
 -- `.sp`, a kind, and M or N
 abbrev pub Case : Type 0
 Case = Bool × (Kind × ℕ)
@@ -120,23 +140,23 @@ withN reason ws c = reason (c .1 .0) ws (c .0) (shaped (c .1 .0) (c .0) 64 (c .1
 -- M without and with `.ws`
 abbrev pub ms : List (Row Bool Case ℕ)
 ms =
-    (false, each I.either (each I.kinds (64 ∷ 128 ∷ [])), 0)
-    ∷ (false, each I.either (each I.kinds (0 ∷ 32 ∷ 48 ∷ 80 ∷ 96 ∷ 112 ∷ 144 ∷ 256 ∷ [])), 13)
-    ∷ (true, each I.either (each I.kinds (32 ∷ 64 ∷ 128 ∷ [])), 0)
-    ∷ (true, each I.either (each I.kinds (0 ∷ 16 ∷ 48 ∷ 80 ∷ 96 ∷ 112 ∷ 144 ∷ 256 ∷ [])), 13)
+    (false, each eitherSp (each kinds (64 ∷ 128 ∷ [])), 0)
+    ∷ (false, each eitherSp (each kinds (0 ∷ 32 ∷ 48 ∷ 80 ∷ 96 ∷ 112 ∷ 144 ∷ 256 ∷ [])), 13)
+    ∷ (true, each eitherSp (each kinds (32 ∷ 64 ∷ 128 ∷ [])), 0)
+    ∷ (true, each eitherSp (each kinds (0 ∷ 16 ∷ 48 ∷ 80 ∷ 96 ∷ 112 ∷ 144 ∷ 256 ∷ [])), 13)
     ∷ []
 
 -- N without and with `.ws`, dense and sparse
 abbrev pub ns : List (Row Bool Case ℕ)
 ns =
-    (false, each I.either (each I.floats (8 ∷ 16 ∷ 24 ∷ 40 ∷ 248 ∷ 256 ∷ [])), 0)
-    ∷ (false, each I.either (each I.floats (0 ∷ 264 ∷ 504 ∷ [])), 20)
-    ∷ (false, each I.either (each I.integers (8 ∷ 16 ∷ 24 ∷ 32 ∷ 48 ∷ 64 ∷ 240 ∷ 256 ∷ [])), 0)
-    ∷ (false, each I.either (each I.integers (0 ∷ 40 ∷ 56 ∷ 72 ∷ 248 ∷ 264 ∷ 272 ∷ 504 ∷ [])), 20)
-    ∷ (true, each I.absent (each I.kinds (64 ∷ 128 ∷ 256 ∷ [])), 0)
-    ∷ (true, each I.absent (each I.kinds (0 ∷ 8 ∷ 32 ∷ 48 ∷ 56 ∷ 72 ∷ 120 ∷ 136 ∷ 192 ∷ 248 ∷ 264 ∷ 504 ∷ [])), 20)
-    ∷ (true, each I.present (each I.kinds (64 ∷ 128 ∷ [])), 0)
-    ∷ (true, each I.present (each I.kinds (0 ∷ 8 ∷ 32 ∷ 48 ∷ 56 ∷ 72 ∷ 120 ∷ 136 ∷ 192 ∷ 248 ∷ 256 ∷ 264 ∷ 504 ∷ [])), 20)
+    (false, each eitherSp (each floats (8 ∷ 16 ∷ 24 ∷ 40 ∷ 248 ∷ 256 ∷ [])), 0)
+    ∷ (false, each eitherSp (each floats (0 ∷ 264 ∷ 504 ∷ [])), 20)
+    ∷ (false, each eitherSp (each integers (8 ∷ 16 ∷ 24 ∷ 32 ∷ 48 ∷ 64 ∷ 240 ∷ 256 ∷ [])), 0)
+    ∷ (false, each eitherSp (each integers (0 ∷ 40 ∷ 56 ∷ 72 ∷ 248 ∷ 264 ∷ 272 ∷ 504 ∷ [])), 20)
+    ∷ (true, each withoutSp (each kinds (64 ∷ 128 ∷ 256 ∷ [])), 0)
+    ∷ (true, each withoutSp (each kinds (0 ∷ 8 ∷ 32 ∷ 48 ∷ 56 ∷ 72 ∷ 120 ∷ 136 ∷ 192 ∷ 248 ∷ 264 ∷ 504 ∷ [])), 20)
+    ∷ (true, each withSp (each kinds (64 ∷ 128 ∷ [])), 0)
+    ∷ (true, each withSp (each kinds (0 ∷ 8 ∷ 32 ∷ 48 ∷ 56 ∷ 72 ∷ 120 ∷ 136 ∷ 192 ∷ 248 ∷ 256 ∷ 264 ∷ 504 ∷ [])), 20)
     ∷ []
 
 -- of several that are not listed M comes first, then N: dtype, M and N of kind f16 with two types f16

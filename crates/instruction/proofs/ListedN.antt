@@ -2,15 +2,15 @@
 use Prim.Native.Nat.{ℕ, _*_, _/_, _%_, _^_, _≤_, _<_}
 use mathlib.Core.Path.{_≡_, refl, ap, subst}
 use mathlib.Core.Bool.{Bool, true, false, _&&_}
-use mathlib.Core.List.{[], _∷_, map}
+use mathlib.Core.List.{List, [], _∷_}
 use native.Mathlib.Omega.{arith}
 use lib.Dec.{eqb, leb}
 use borrow.Author.Tests.{eqb-true, leb-true, le-leb}
 use Rattle.laws.specs.Tests.{all}
 use Rattle.laws.specs.Layout.{ranges, pack}
 use Rattle.laws.proofs.BoolLaws.{and-l, chosen}
-use Rattle.laws.proofs.TestLaws.{each, all-of, agree, agree-is}
-use Rattle.instruction.specs.Instruction.{layout, fields, values, named, keeps, found, made, noWord, fieldsRead, decoded, encodedNumbers, nListed, nHeld, kinds, either, nInTable}
+use Rattle.laws.proofs.TestLaws.{each, all-of, agreeBelow, agree-below}
+use Rattle.instruction.specs.Instruction.{layout, fields, values, named, keeps, found, made, noWord, fieldsRead, decoded, encodedNumbers, nListed, nHeld, nInTable}
 use Rattle.instruction.specs.Claims.{NExact}
 use Rattle.instruction.specs.Descriptor.{Instruction}
 use Rattle.instruction.specs.declared.Kind.{Kind}
@@ -19,27 +19,32 @@ use Rattle.instruction.specs.declared.InstructionWord.{InstructionWord}
 use Rattle.instruction.proofs.Exact.{instruction-exact}
 
 -- ---- a test of every opcode: what is computed holds of each
-every-kind : (f : Kind → Bool) → all (map f kinds) ≡ true → (kind : Kind) → f kind ≡ true
-every-kind f h Kind.F16 = each (map f kinds) h .0
-every-kind f h Kind.Tf32 = each (map f kinds) h .1 .0
-every-kind f h Kind.F8f6f4 = each (map f kinds) h .1 .1 .0
-every-kind f h Kind.I8 = each (map f kinds) h .1 .1 .1 .0
+abbrev ofKinds : (Kind → Bool) → List Bool
+ofKinds f = f Kind.F16 ∷ f Kind.Tf32 ∷ f Kind.F8f6f4 ∷ f Kind.I8 ∷ []
 
-every-bool : (f : Bool → Bool) → all (map f either) ≡ true → (b : Bool) → f b ≡ true
-every-bool f h false = each (map f either) h .0
-every-bool f h true = each (map f either) h .1 .0
+every-kind : (f : Kind → Bool) → all (ofKinds f) ≡ true → (kind : Kind) → f kind ≡ true
+every-kind f h Kind.F16 = each (ofKinds f) h .0
+every-kind f h Kind.Tf32 = each (ofKinds f) h .1 .0
+every-kind f h Kind.F8f6f4 = each (ofKinds f) h .1 .1 .0
+every-kind f h Kind.I8 = each (ofKinds f) h .1 .1 .1 .0
+
+abbrev ofBools : (Bool → Bool) → List Bool
+ofBools f = f false ∷ f true ∷ []
+
+every-bool : (f : Bool → Bool) → all (ofBools f) ≡ true → (b : Bool) → f b ≡ true
+every-bool f h false = each (ofBools f) h .0
+every-bool f h true = each (ofBools f) h .1 .0
 
 abbrev everyOpcode : (Kind → Bool → Bool → Bool) → Bool
-everyOpcode f = all (map (λ kind. all (map (λ ws. all (map (f kind ws) either)) either)) kinds)
+everyOpcode f = all (ofKinds (λ kind. all (ofBools (λ ws. all (ofBools (f kind ws))))))
 
 every-opcode : (f : Kind → Bool → Bool → Bool) → everyOpcode f ≡ true → (kind : Kind) (ws sp : Bool) → f kind ws sp ≡ true
 every-opcode f h kind ws =
-    every-bool (f kind ws)
-    (every-bool (λ t. all (map (f kind t) either)) (every-kind (λ k. all (map (λ t. all (map (f k t) either)) either)) h kind) ws)
+    every-bool (f kind ws) (every-bool (λ t. all (ofBools (f kind t))) (every-kind (λ k. all (ofBools (λ t. all (ofBools (f k t))))) h kind) ws)
 
 -- ---- the rule agrees with the table on every multiple of 8 below 512: one computation
 abbrev agrees : Kind → Bool → Bool → Bool
-agrees kind ws sp = agree 64 (λ k. nListed kind ws sp (k * 8)) (λ k. nInTable kind ws sp (k * 8))
+agrees kind ws sp = agreeBelow 64 (λ k. nListed kind ws sp (k * 8)) (λ k. nInTable kind ws sp (k * 8))
 
 computed : everyOpcode agrees ≡ true
 computed = refl
@@ -51,7 +56,7 @@ listed kind ws sp n h =
     let eights : n % 8 ≡ 0 = eqb-true (n % 8) 0 (e .1 .1 .0) in
     let whole : n / 8 * 8 ≡ n = omega (arith, eights) in
     subst (λ x. nListed kind ws sp x ≡ nInTable kind ws sp x) whole
-    (agree-is 64 (λ k. nListed kind ws sp (k * 8)) (λ k. nInTable kind ws sp (k * 8)) (every-opcode agrees computed kind ws sp) (n / 8) (omega (arith, most)))
+    (agree-below 64 (λ k. nListed kind ws sp (k * 8)) (λ k. nInTable kind ws sp (k * 8)) (every-opcode agrees computed kind ws sp) (n / 8) (omega (arith, most)))
 
 -- ---- what a descriptor can hold
 fields-hold : (kind : Kind) (ws sp : Bool) (f : Fields) → encodedNumbers kind ws sp (values f) .reason ≡ 0 → nHeld (f .n) ≡ true
@@ -67,6 +72,6 @@ word-holds : (kind : Kind) (ws sp : Bool) (w : ℕ) (d : Instruction) → w < 2 
 word-holds kind ws sp w d b e =
     fields-hold kind ws sp (fields d) (ap (λ (a : InstructionWord). a .reason) (instruction-exact kind ws sp .fields-word w (fields d) b (ap fieldsRead e)))
 
--- THE RULE OF N IS ITS TABLE, under every opcode
-pub n-exact : (kind : Kind) (ws sp : Bool) → NExact kind ws sp
-n-exact kind ws sp = record { listed = listed kind ws sp; fields-hold = fields-hold kind ws sp; word-holds = word-holds kind ws sp }
+-- THE RULE OF N IS ITS TABLE
+pub n-exact : NExact
+n-exact = record { listed = listed; only-held = refl; fields-hold = fields-hold; word-holds = word-holds }

@@ -2,7 +2,7 @@
 -- the fields as numbers; a descriptor with named types is a view of them. Assumes nothing.
 use Prim.Native.Nat.{ℕ, _*_, _%_}
 use mathlib.Core.Bool.{Bool, true, false, _&&_, _||_, not, cond, Bool·beq}
-use mathlib.Core.List.{List, [], _∷_, _++_, map}
+use mathlib.Core.List.{List, [], _∷_, map}
 use mathlib.Core.Option.{Option, none, some}
 use lib.Dec.{eqb, leb}
 use lib.ListN.{getD}
@@ -247,26 +247,7 @@ encoded kind ws sp = wordBy layout numbers (λ d. all (rules kind ws sp d)) made
 unfoldable pub encodedNumbers : Kind → Bool → Bool → List ℕ → InstructionWord
 encodedNumbers kind ws sp l = cond (all (ranges layout l) && keeps kind ws sp (named kind l)) (made (pack layout l)) noWord
 
--- the kinds but i8, i8, and all; a qualifier that does not stand, that stands, and either
-abbrev pub floats : List Kind
-floats = Kind.F16 ∷ Kind.Tf32 ∷ Kind.F8f6f4 ∷ []
-
-abbrev pub integers : List Kind
-integers = Kind.I8 ∷ []
-
-abbrev pub kinds : List Kind
-kinds = floats ++ integers
-
-abbrev pub absent : List Bool
-absent = false ∷ []
-
-abbrev pub present : List Bool
-present = true ∷ []
-
-abbrev pub either : List Bool
-either = absent ++ present
-
--- a number from a least to a most in steps
+-- a multiple of `by`, from `least` to `most`
 abbrev pub steps : ℕ → ℕ → ℕ → ℕ → Bool
 steps least most by n = all (leb least n ∷ leb n most ∷ eqb (n % by) 0 ∷ [])
 
@@ -281,30 +262,50 @@ nListed kind false sp n = cond (isI8 kind) (steps 8 32 8 n || steps 48 256 16 n)
 nListed kind true false n = among n (64 ∷ 128 ∷ 256 ∷ [])
 nListed kind true true n = among n (64 ∷ 128 ∷ [])
 
--- The same written out: kinds, whether `.ws` stands, whether `.sp` stands, and each N that they take. `n-exact` (proofs/ListedN.antt) shows that the two agree.
-abbrev pub NRow : Type 0
-NRow = List Kind × List Bool × List Bool × List ℕ
+-- The same written out: a row is of some kinds, with `.ws` or without it, dense (false), sparse (true) or both, and has every N that they take.
+-- `n-exact` (proofs/ListedN.antt) shows that the two agree.
+pub record NRow : Type 0 where
+  pub kinds : List Kind
+  pub ws : Bool
+  pub sp : List Bool
+  pub numbers : List ℕ
 
 abbrev pub nTable : List NRow
 nTable =
-    -- f16, tf32 and f8f6f4 without `.ws`, dense or sparse
-    (floats, absent, either, 8 ∷ 16 ∷ 24 ∷ 32 ∷ 40 ∷ 48 ∷ 56 ∷ 64 ∷ 72 ∷ 80 ∷ 88 ∷ 96 ∷ 104 ∷ 112 ∷ 120 ∷ 128 ∷ 136 ∷ 144 ∷ 152 ∷ 160 ∷ 168 ∷ 176 ∷ 184 ∷ 192 ∷ 200 ∷ 208 ∷ 216 ∷ 224 ∷ 232 ∷ 240 ∷ 248 ∷ 256 ∷ [])
-    -- i8 without `.ws`, dense or sparse
-    ∷ (integers, absent, either, 8 ∷ 16 ∷ 24 ∷ 32 ∷ 48 ∷ 64 ∷ 80 ∷ 96 ∷ 112 ∷ 128 ∷ 144 ∷ 160 ∷ 176 ∷ 192 ∷ 208 ∷ 224 ∷ 240 ∷ 256 ∷ [])
-    -- every kind with `.ws`, dense
-    ∷ (kinds, present, absent, 64 ∷ 128 ∷ 256 ∷ [])
-    -- every kind with `.ws`, sparse
-    ∷ (kinds, present, present, 64 ∷ 128 ∷ [])
+    record {
+      kinds = Kind.F16 ∷ Kind.Tf32 ∷ Kind.F8f6f4 ∷ [];
+      ws = false;
+      sp = false ∷ true ∷ [];
+      numbers = 8 ∷ 16 ∷ 24 ∷ 32 ∷ 40 ∷ 48 ∷ 56 ∷ 64 ∷ 72 ∷ 80 ∷ 88 ∷ 96 ∷ 104 ∷ 112 ∷ 120 ∷ 128 ∷ 136 ∷ 144 ∷ 152 ∷ 160 ∷ 168 ∷ 176 ∷ 184 ∷ 192 ∷ 200 ∷ 208 ∷ 216 ∷ 224 ∷ 232 ∷ 240 ∷ 248 ∷ 256 ∷ [];
+    }
+    ∷ record {
+      kinds = Kind.I8 ∷ [];
+      ws = false;
+      sp = false ∷ true ∷ [];
+      numbers = 8 ∷ 16 ∷ 24 ∷ 32 ∷ 48 ∷ 64 ∷ 80 ∷ 96 ∷ 112 ∷ 128 ∷ 144 ∷ 160 ∷ 176 ∷ 192 ∷ 208 ∷ 224 ∷ 240 ∷ 256 ∷ [];
+    }
+    ∷ record {
+      kinds = Kind.F16 ∷ Kind.Tf32 ∷ Kind.F8f6f4 ∷ Kind.I8 ∷ [];
+      ws = true;
+      sp = false ∷ [];
+      numbers = 64 ∷ 128 ∷ 256 ∷ [];
+    }
+    ∷ record {
+      kinds = Kind.F16 ∷ Kind.Tf32 ∷ Kind.F8f6f4 ∷ Kind.I8 ∷ [];
+      ws = true;
+      sp = true ∷ [];
+      numbers = 64 ∷ 128 ∷ [];
+    }
     ∷ []
 
 -- a row has an N under an opcode; some row of the table has it
 abbrev pub rowHas : Kind → Bool → Bool → ℕ → NRow → Bool
 rowHas kind ws sp n row =
     all
-    (among (kindNumber kind) (map kindNumber (row .0))
-    ∷ among (bit ws) (map bit (row .1))
-    ∷ among (bit sp) (map bit (row .2))
-    ∷ among n (row .3)
+    (among (kindNumber kind) (map kindNumber (row .kinds))
+    ∷ Bool·beq ws (row .ws)
+    ∷ among (bit sp) (map bit (row .sp))
+    ∷ among n (row .numbers)
     ∷ [])
 
 abbrev pub nInTable : Kind → Bool → Bool → ℕ → Bool

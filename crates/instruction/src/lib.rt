@@ -61,6 +61,7 @@ fn kind_number(kind: Kind) -> u32
     }
 }
 
+// The kind is i8.
 fn is_i8(kind: Kind) -> bool
     ensures { λ r. ⌜ r ≡ isI8 kind ⌝ }
 {
@@ -270,7 +271,7 @@ fn m_listed(ws: bool, m: u32) -> bool
     }
 }
 
-// A number is one of those from a least to a most in steps.
+// A multiple of `by`, from `least` to `most`.
 fn in_steps(least: u32, most: u32, by: u32, n: u32) -> bool
     requires { ⌜ 0 < by ⌝ }
     ensures { λ r. ⌜ r ≡ steps least most by n ⌝ }

@@ -91,8 +91,8 @@ below-is (suc n) f h x g = let p = and-split (f n) (below n f) h in go (decLe n 
     go (no q) h i = i (omega arith)
 
 -- two tests that agree there are the same at each
-abbrev pub agree : ℕ → (ℕ → Bool) → (ℕ → Bool) → Bool
-agree n f g = below n (λ x. Bool·beq (f x) (g x))
+abbrev pub agreeBelow : ℕ → (ℕ → Bool) → (ℕ → Bool) → Bool
+agreeBelow n f g = below n (λ x. Bool·beq (f x) (g x))
 
-pub agree-is : (n : ℕ) (f g : ℕ → Bool) → agree n f g ≡ true → (x : ℕ) → x < n → f x ≡ g x
-agree-is n f g h x l = beq-is (f x) (g x) (below-is n (λ y. Bool·beq (f y) (g y)) h x l)
+pub agree-below : (n : ℕ) (f g : ℕ → Bool) → agreeBelow n f g ≡ true → (x : ℕ) → x < n → f x ≡ g x
+agree-below n f g h x l = beq-is (f x) (g x) (below-is n (λ y. Bool·beq (f y) (g y)) h x l)

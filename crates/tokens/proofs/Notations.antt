@@ -1,16 +1,16 @@
 -- Laws of the table of notations: each is one law over a row, and what it asks of a row is computed once for all four. Assumes nothing.
-use Prim.Native.Nat.{ℕ, zero, suc, _+_, _<_, _≤_}
+use Prim.Native.Nat.{ℕ, suc, _+_, _<_, _≤_}
 use native.Mathlib.Omega.{arith}
 use native.Mathlib.Decide.{decLe}
 use mathlib.Core.Path.{_≡_, refl, sym, _∙_}
 use mathlib.Core.Logic.{_⊎_, inl, inr, ⊎-elim}
 use mathlib.Core.List.{List, [], _∷_}
-use mathlib.Core.Bool.{Bool, true, false, not, _&&_, _||_, cond, and-false}
+use mathlib.Core.Bool.{Bool, true, false, _&&_, _||_, cond, and-false}
 use lib.ListN.{length, drop}
 use lib.Dec.{ltb, leb, eqb}
 use borrow.Author.Tests.{eqb-true, lt-leb, le-ltb, ltb-true, leb-true}
 use Rattle.laws.proofs.BoolLaws.{never, and-l, and-r, and-split}
-use Rattle.laws.proofs.TestLaws.{agree, agree-is}
+use Rattle.laws.proofs.TestLaws.{agreeBelow, agree-below}
 use Rattle.tokens.specs.Text.{bytes}
 use Rattle.tokens.specs.Bytes.{letter, wordByte, runLen, all}
 use Rattle.tokens.specs.Numbers.{digitOf, among, Notation, hexadecimals, binaries, octals, decimals, notations, begins, rowFor, rowOf, body, digitsLen, ending, spells, isNumber}
@@ -35,7 +35,7 @@ not-among f l x h e = go (among l x) refl
 
 -- ---- the digits of a row are the bytes whose value is below its base
 abbrev agrees : Notation → Bool
-agrees r = agree 128 (among (r .digits)) (λ x. ltb (digitOf x) (r .base))
+agrees r = agreeBelow 128 (among (r .digits)) (λ x. ltb (digitOf x) (r .base))
 
 abbrev pub digitsBelow : Notation → Bool
 digitsBelow r = agrees r && (all (λ x. ltb x 128) (r .digits) && leb (r .base) 16)
@@ -52,7 +52,7 @@ digits-below r h x =
   where
     go : Dec (128 ≤ x) → agrees r ≡ true → all (λ x. ltb x 128) (r .digits) ≡ true → r .base ≤ 16 → among (r .digits) x ≡ ltb (digitOf x) (r .base)
     go (yes far) h k b = rw (not-among (λ x. ltb x 128) (r .digits) x k (le-ltb x 128 far), digit-far x far, le-ltb 16 (r .base) b)
-    go (no near) h k b = agree-is 128 (among (r .digits)) (λ y. ltb (digitOf y) (r .base)) h x (omega arith)
+    go (no near) h k b = agree-below 128 (among (r .digits)) (λ y. ltb (digitOf y) (r .base)) h x (omega arith)
 
 -- ---- the row of a token
 -- what is computed of each row
