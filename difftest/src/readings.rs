@@ -609,26 +609,28 @@ fn descriptor_rows(row: Put) {
     row(&[A64, B, "0|mov.b32 i, 0x080C00A0;", "0|@integers [t], b, b, i, p;", D64, EXIT], 0, 0, 64);
 }
 
-/// Under every opcode each N that a descriptor can hold: those that are listed pass, and every other is 20.
+/// N 0, 8, .. 504 under every opcode: those that it takes pass, and every other is 20.
 fn n_rows(row: Put) {
     let floats: Vec<u32> = (8..=256).step_by(8).collect();
     let integers = [8, 16, 24, 32, 48, 64, 80, 96, 112, 128, 144, 160, 176, 192, 208, 224, 240, 256];
     // M 128 and types that the kind lists
     for (kind, base) in [("f16", 0x08000010), ("tf32", 0x08000910), ("f8f6f4", 0x08000010), ("i8", 0x080000A0)] {
         for (ws, sp) in [(false, false), (false, true), (true, false), (true, true)] {
-            let listed: &[u32] = match (ws, sp) {
+            let taken: &[u32] = match (ws, sp) {
                 (true, true) => &[64, 128],
                 (true, false) => &[64, 128, 256],
                 _ if kind == "i8" => &integers,
                 _ => &floats,
             };
-            let (ws, metadata, sparse, bit) = (if ws { ".ws" } else { "" }, if sp { " [t]," } else { "" }, if sp { ".sp" } else { "" }, u32::from(sp) << 2);
+            let ws = if ws { ".ws" } else { "" };
+            let (sparse, metadata, bit) = if sp { (".sp", " [t],", 1 << 2) } else { ("", "", 0) };
             let mma = format!("0|tcgen05.mma{ws}{sparse}.cta_group::1.kind::{kind} [t], b, b,{metadata}");
             for n in (0..=504).step_by(8) {
-                let word = format!("0|mov.b32 i, {:#010X};", base | bit | n / 8 << 17);
-                match listed.contains(&n) {
-                    true => row(&[A512, B, &word, &format!("{mma} i, p;"), D512, EXIT], 0, 0, 512),
-                    false => row(&[A512, B, &word, &format!("{mma} ^i, p;")], 20, 512, 512),
+                let word = format!("0|mov.b32 i, {:#010X};", base | bit | ((n / 8) << 17));
+                if taken.contains(&n) {
+                    row(&[A512, B, &word, &format!("{mma} i, p;"), D512, EXIT], 0, 0, 512);
+                } else {
+                    row(&[A512, B, &word, &format!("{mma} ^i, p;")], 20, 512, 512);
                 }
             }
         }

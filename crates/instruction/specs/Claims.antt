@@ -3,8 +3,8 @@ use Prim.Native.Nat.{ℕ, _^_, _<_}
 use mathlib.Core.Path.{_≡_}
 use mathlib.Core.Bool.{Bool, true}
 use mathlib.Core.List.{map}
-use Rattle.laws.specs.Tests.{all}
-use Rattle.instruction.specs.Instruction.{decoded, encoded, encodedNumbers, found, made, values, numbers, fieldsRead, good, nListed, nHeld, NRow, nTable, nInTable}
+use Rattle.laws.specs.Tests.{all, among}
+use Rattle.instruction.specs.Instruction.{decoded, encoded, encodedNumbers, found, made, values, numbers, fieldsRead, good, nListed, nTable, nFits}
 use Rattle.instruction.specs.declared.Kind.{Kind}
 use Rattle.instruction.specs.Descriptor.{Instruction}
 use Rattle.instruction.specs.declared.Fields.{Fields}
@@ -25,11 +25,11 @@ pub record InstructionExact (kind : Kind) (ws sp : Bool) : Type 0 where
       → encodedNumbers kind ws sp (values f) .reason ≡ 0 → fieldsRead (decoded kind ws sp (encodedNumbers kind ws sp (values f) .word)) ≡ good f
   pub fields-word : (w : ℕ) (f : Fields) → w < 2 ^ 32 → fieldsRead (decoded kind ws sp w) ≡ good f → encodedNumbers kind ws sp (values f) ≡ made w
 
--- Under every opcode, of every N that a descriptor can hold, 0 to 504 in eights, the rule says yes exactly at those that the table lists.
+-- The rule of N and the table of its numbers agree, under every opcode, for each N that a descriptor has room for.
 pub record NExact : Type 0 where
-  pub listed : (kind : Kind) (ws sp : Bool) (n : ℕ) → nHeld n ≡ true → nListed kind ws sp n ≡ nInTable kind ws sp n
-  -- the table lists no other N
-  pub only-held : all (map (λ row. all (map nHeld (row .numbers))) nTable) ≡ true
+  pub listed : (kind : Kind) (ws sp : Bool) (n : ℕ) → nFits n ≡ true → nListed kind ws sp n ≡ among n (nTable kind ws sp)
+  -- the table has no other N
+  pub table-fits : (kind : Kind) (ws sp : Bool) → all (map nFits (nTable kind ws sp)) ≡ true
   -- fields with another N have no word, and no word reads as another
-  pub fields-hold : (kind : Kind) (ws sp : Bool) (f : Fields) → encodedNumbers kind ws sp (values f) .reason ≡ 0 → nHeld (f .n) ≡ true
-  pub word-holds : (kind : Kind) (ws sp : Bool) (w : ℕ) (d : Instruction) → w < 2 ^ 32 → decoded kind ws sp w ≡ found d → nHeld (d .n) ≡ true
+  pub fields-fit : (kind : Kind) (ws sp : Bool) (f : Fields) → encodedNumbers kind ws sp (values f) .reason ≡ 0 → nFits (f .n) ≡ true
+  pub word-fits : (kind : Kind) (ws sp : Bool) (w : ℕ) (d : Instruction) → w < 2 ^ 32 → decoded kind ws sp w ≡ found d → nFits (d .n) ≡ true

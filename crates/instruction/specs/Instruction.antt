@@ -2,11 +2,11 @@
 -- the fields as numbers; a descriptor with named types is a view of them. Assumes nothing.
 use Prim.Native.Nat.{ℕ, _*_, _%_}
 use mathlib.Core.Bool.{Bool, true, false, _&&_, _||_, not, cond, Bool·beq}
-use mathlib.Core.List.{List, [], _∷_, map}
+use mathlib.Core.List.{List, [], _∷_}
 use mathlib.Core.Option.{Option, none, some}
 use lib.Dec.{eqb, leb}
 use lib.ListN.{getD}
-use Rattle.laws.specs.Tests.{all, among, find, bit, isSome}
+use Rattle.laws.specs.Tests.{all, among, find, bit}
 use Rattle.laws.specs.Layout.{Part, plain, scaled, fixed, ranges, pack}
 use Rattle.laws.specs.Format.{readBy, wordBy}
 use Rattle.laws.specs.Rules.{Rule, rule, firstBroken}
@@ -262,58 +262,28 @@ nListed kind false sp n = cond (isI8 kind) (steps 8 32 8 n || steps 48 256 16 n)
 nListed kind true false n = among n (64 ∷ 128 ∷ 256 ∷ [])
 nListed kind true true n = among n (64 ∷ 128 ∷ [])
 
--- The same written out: a row is of some kinds, with `.ws` or without it, dense (false), sparse (true) or both, and has every N that they take.
--- `n-exact` (proofs/ListedN.antt) shows that the two agree.
-pub record NRow : Type 0 where
-  pub kinds : List Kind
-  pub ws : Bool
-  pub sp : List Bool
-  pub numbers : List ℕ
+-- The same number by number; `n-exact` (proofs/ListedN.antt) shows that the two agree. Without `.ws`: f16, tf32 and f8f6f4; i8.
+abbrev pub floatNumbers : List ℕ
+floatNumbers = 8 ∷ 16 ∷ 24 ∷ 32 ∷ 40 ∷ 48 ∷ 56 ∷ 64 ∷ 72 ∷ 80 ∷ 88 ∷ 96 ∷ 104 ∷ 112 ∷ 120 ∷ 128 ∷ 136 ∷ 144 ∷ 152 ∷ 160 ∷ 168 ∷ 176 ∷ 184 ∷ 192 ∷ 200 ∷ 208 ∷ 216 ∷ 224 ∷ 232 ∷ 240 ∷ 248 ∷ 256 ∷ []
 
-abbrev pub nTable : List NRow
-nTable =
-    record {
-      kinds = Kind.F16 ∷ Kind.Tf32 ∷ Kind.F8f6f4 ∷ [];
-      ws = false;
-      sp = false ∷ true ∷ [];
-      numbers = 8 ∷ 16 ∷ 24 ∷ 32 ∷ 40 ∷ 48 ∷ 56 ∷ 64 ∷ 72 ∷ 80 ∷ 88 ∷ 96 ∷ 104 ∷ 112 ∷ 120 ∷ 128 ∷ 136 ∷ 144 ∷ 152 ∷ 160 ∷ 168 ∷ 176 ∷ 184 ∷ 192 ∷ 200 ∷ 208 ∷ 216 ∷ 224 ∷ 232 ∷ 240 ∷ 248 ∷ 256 ∷ [];
-    }
-    ∷ record {
-      kinds = Kind.I8 ∷ [];
-      ws = false;
-      sp = false ∷ true ∷ [];
-      numbers = 8 ∷ 16 ∷ 24 ∷ 32 ∷ 48 ∷ 64 ∷ 80 ∷ 96 ∷ 112 ∷ 128 ∷ 144 ∷ 160 ∷ 176 ∷ 192 ∷ 208 ∷ 224 ∷ 240 ∷ 256 ∷ [];
-    }
-    ∷ record {
-      kinds = Kind.F16 ∷ Kind.Tf32 ∷ Kind.F8f6f4 ∷ Kind.I8 ∷ [];
-      ws = true;
-      sp = false ∷ [];
-      numbers = 64 ∷ 128 ∷ 256 ∷ [];
-    }
-    ∷ record {
-      kinds = Kind.F16 ∷ Kind.Tf32 ∷ Kind.F8f6f4 ∷ Kind.I8 ∷ [];
-      ws = true;
-      sp = true ∷ [];
-      numbers = 64 ∷ 128 ∷ [];
-    }
-    ∷ []
+abbrev pub i8Numbers : List ℕ
+i8Numbers = 8 ∷ 16 ∷ 24 ∷ 32 ∷ 48 ∷ 64 ∷ 80 ∷ 96 ∷ 112 ∷ 128 ∷ 144 ∷ 160 ∷ 176 ∷ 192 ∷ 208 ∷ 224 ∷ 240 ∷ 256 ∷ []
 
--- a row has an N under an opcode; some row of the table has it
-abbrev pub rowHas : Kind → Bool → Bool → ℕ → NRow → Bool
-rowHas kind ws sp n row =
-    all
-    (among (kindNumber kind) (map kindNumber (row .kinds))
-    ∷ Bool·beq ws (row .ws)
-    ∷ among (bit sp) (map bit (row .sp))
-    ∷ among n (row .numbers)
-    ∷ [])
+abbrev pub withoutWs : Kind → List ℕ
+withoutWs Kind.F16 = floatNumbers
+withoutWs Kind.Tf32 = floatNumbers
+withoutWs Kind.F8f6f4 = floatNumbers
+withoutWs Kind.I8 = i8Numbers
 
-abbrev pub nInTable : Kind → Bool → Bool → ℕ → Bool
-nInTable kind ws sp n = isSome (find (rowHas kind ws sp n) nTable)
+-- the table: of a kind, `.ws` and `.sp` every N
+abbrev pub nTable : Kind → Bool → Bool → List ℕ
+nTable kind false sp = withoutWs kind
+nTable kind true false = 64 ∷ 128 ∷ 256 ∷ []
+nTable kind true true = 64 ∷ 128 ∷ []
 
--- every N that a descriptor can hold: 0 to 504 in eights
-abbrev pub nHeld : ℕ → Bool
-nHeld n = steps 0 504 8 n
+-- what bits 17-22 can say: 0 to 504 in eights
+abbrev pub nFits : ℕ → Bool
+nFits n = steps 0 504 8 n
 
 -- By codes, the dtypes of a kind: f16 has f32, and f16 with two f16; both its types agree. tf32 has f32; f8f6f4 f16 or f32; i8 s32.
 abbrev pub typesListed : Kind → ℕ → ℕ → ℕ → Bool

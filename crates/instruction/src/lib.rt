@@ -61,7 +61,7 @@ fn kind_number(kind: Kind) -> u32
     }
 }
 
-// The kind is i8.
+// The kind is i8, whose number is 3.
 fn is_i8(kind: Kind) -> bool
     ensures { λ r. ⌜ r ≡ isI8 kind ⌝ }
 {

@@ -1,5 +1,4 @@
--- What a list of tests says of its parts, a search of what it finds, and a test that is computed of every number below a bound of each of them.
--- Assumes nothing.
+-- Laws of a list of tests, of a search, and of a test that is computed for every number below a bound. Assumes nothing.
 use Prim.Native.Nat.{ℕ, zero, suc, _≤_, _<_}
 use native.Mathlib.Omega.{arith}
 use native.Mathlib.Decide.{decLe}
