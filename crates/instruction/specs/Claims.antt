@@ -25,11 +25,13 @@ pub record InstructionExact (kind : Kind) (ws sp : Bool) : Type 0 where
       → encodedNumbers kind ws sp (values f) .reason ≡ 0 → fieldsRead (decoded kind ws sp (encodedNumbers kind ws sp (values f) .word)) ≡ good f
   pub fields-word : (w : ℕ) (f : Fields) → w < 2 ^ 32 → fieldsRead (decoded kind ws sp w) ≡ good f → encodedNumbers kind ws sp (values f) ≡ made w
 
--- The rule of N and the table of its numbers agree, under every opcode, for each N that a descriptor has room for.
+-- The rule of N and the lists of its numbers agree under every opcode.
 pub record NExact : Type 0 where
+  -- for N 0, 8, .. 504 the rule is true where the opcode's list has N, and false elsewhere
   pub listed : (kind : Kind) (ws sp : Bool) (n : ℕ) → nFits n ≡ true → nListed kind ws sp n ≡ among n (nTable kind ws sp)
-  -- the table has no other N
+  -- no list has another N
   pub table-fits : (kind : Kind) (ws sp : Bool) → all (map nFits (nTable kind ws sp)) ≡ true
-  -- fields with another N have no word, and no word reads as another
+  -- fields with another N have no word
   pub fields-fit : (kind : Kind) (ws sp : Bool) (f : Fields) → encodedNumbers kind ws sp (values f) .reason ≡ 0 → nFits (f .n) ≡ true
+  -- no word reads as a descriptor with another N
   pub word-fits : (kind : Kind) (ws sp : Bool) (w : ℕ) (d : Instruction) → w < 2 ^ 32 → decoded kind ws sp w ≡ found d → nFits (d .n) ≡ true

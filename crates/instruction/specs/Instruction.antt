@@ -262,20 +262,23 @@ nListed kind false sp n = cond (isI8 kind) (steps 8 32 8 n || steps 48 256 16 n)
 nListed kind true false n = among n (64 ∷ 128 ∷ 256 ∷ [])
 nListed kind true true n = among n (64 ∷ 128 ∷ [])
 
--- The same number by number; `n-exact` (proofs/ListedN.antt) shows that the two agree. Without `.ws`: f16, tf32 and f8f6f4; i8.
+-- The listed N themselves; `n-exact` (proofs/ListedN.antt) shows that rule and lists agree for N 0, 8, .. 504.
+-- f16, tf32 and f8f6f4 without `.ws`
 abbrev pub floatNumbers : List ℕ
 floatNumbers = 8 ∷ 16 ∷ 24 ∷ 32 ∷ 40 ∷ 48 ∷ 56 ∷ 64 ∷ 72 ∷ 80 ∷ 88 ∷ 96 ∷ 104 ∷ 112 ∷ 120 ∷ 128 ∷ 136 ∷ 144 ∷ 152 ∷ 160 ∷ 168 ∷ 176 ∷ 184 ∷ 192 ∷ 200 ∷ 208 ∷ 216 ∷ 224 ∷ 232 ∷ 240 ∷ 248 ∷ 256 ∷ []
 
+-- i8 without `.ws`
 abbrev pub i8Numbers : List ℕ
 i8Numbers = 8 ∷ 16 ∷ 24 ∷ 32 ∷ 48 ∷ 64 ∷ 80 ∷ 96 ∷ 112 ∷ 128 ∷ 144 ∷ 160 ∷ 176 ∷ 192 ∷ 208 ∷ 224 ∷ 240 ∷ 256 ∷ []
 
+-- a kind without `.ws`
 abbrev pub withoutWs : Kind → List ℕ
 withoutWs Kind.F16 = floatNumbers
 withoutWs Kind.Tf32 = floatNumbers
 withoutWs Kind.F8f6f4 = floatNumbers
 withoutWs Kind.I8 = i8Numbers
 
--- the table: of a kind, `.ws` and `.sp` every N
+-- an opcode: a kind, then whether `.ws` stands, then whether `.sp` does
 abbrev pub nTable : Kind → Bool → Bool → List ℕ
 nTable kind false sp = withoutWs kind
 nTable kind true false = 64 ∷ 128 ∷ 256 ∷ []

@@ -271,7 +271,7 @@ fn m_listed(ws: bool, m: u32) -> bool
     }
 }
 
-// A multiple of `by`, from `least` to `most`.
+// n is a multiple of `by`, from `least` to `most`.
 fn in_steps(least: u32, most: u32, by: u32, n: u32) -> bool
     requires { ⌜ 0 < by ⌝ }
     ensures { λ r. ⌜ r ≡ steps least most by n ⌝ }
@@ -280,7 +280,7 @@ fn in_steps(least: u32, most: u32, by: u32, n: u32) -> bool
 }
 
 // N is listed. Without `.ws` i8 takes 8 to 32 in eights, then 48 to 256 in sixteens; the other kinds take 8 to 256 in eights. With `.ws` every kind
-// takes 64 and 128, and 256 when dense.
+// takes 64 or 128, or 256 when dense.
 fn n_listed(kind: Kind, ws: bool, sp: bool, n: u32) -> bool
     ensures { λ r. ⌜ r ≡ nListed kind ws sp n ⌝ }
 {
