@@ -46,7 +46,7 @@ listed kind ws sp n h =
 table-fits : (kind : Kind) (ws sp : Bool) → fits kind ws sp ≡ true
 table-fits kind ws sp = and-r (agrees kind ws sp) (fits kind ws sp) (computed ws sp kind)
 
--- ---- what a descriptor has room for
+-- ---- what a descriptor has room for: the tests of N come after those of ten other fields
 fields-fit : (kind : Kind) (ws sp : Bool) (f : Fields) → encodedNumbers kind ws sp (values f) .reason ≡ 0 → nFits (f .n) ≡ true
 unfolding encodedNumbers
 fields-fit kind ws sp f h =

@@ -22,6 +22,7 @@ same-test true b f g = sym (f refl)
 same-test false true f g = g refl
 same-test false false f g = refl
 
+-- and so are tests that are found equal
 pub beq-is : (a b : Bool) → Bool·beq a b ≡ true → a ≡ b
 beq-is true true h = refl
 beq-is true false h = never h
