@@ -40,3 +40,5 @@ pub const ROOM: u32 = 19;
 pub const SHAPE_N: u32 = 20;
 // the types are not listed
 pub const TYPES: u32 = 21;
+// a matrix, thread, element, row or column outside the fragment
+pub const FRAGMENT: u32 = 22;

@@ -1,0 +1,3 @@
+pub mod FragmentLaws
+pub mod Exact
+pub mod WorkedProved
