@@ -58,7 +58,8 @@ enum staplehorn_reason {
     STAPLEHORN_REASON_STARTS = 16,
     STAPLEHORN_REASON_ROOM = 19,
     STAPLEHORN_REASON_SHAPE_N = 20, /* 20 and 21 are asked directly after 13 */
-    STAPLEHORN_REASON_TYPES = 21
+    STAPLEHORN_REASON_TYPES = 21,
+    STAPLEHORN_REASON_FRAGMENT = 22 /* of the functions of fragments alone */
 };
 
 /* A sentence for a reason, without a full stop; never null. */
@@ -86,6 +87,7 @@ static inline const char *staplehorn_reason_text(uint32_t reason) {
         "the lent room is too short",
         "the descriptor's N is not listed",
         "the descriptor's types are not listed",
+        "the matrix, thread, element, row or column is outside the fragment",
     };
     const char *text = reason < sizeof texts / sizeof texts[0] ? texts[reason] : NULL;
     return text != NULL ? text : "a reason that this header does not know";

@@ -43,6 +43,7 @@ class Reason(enum.IntEnum):
     ROOM = 19
     SHAPE_N = 20
     TYPES = 21
+    FRAGMENT = 22
 
 
 TEXTS = {
@@ -65,6 +66,7 @@ TEXTS = {
     19: "the lent room is too short",
     20: "the descriptor's N is not listed",
     21: "the descriptor's types are not listed",
+    22: "the matrix, thread, element, row or column is outside the fragment",
 }
 
 

@@ -44,12 +44,14 @@ pub enum Reason {
     ShapeN,
     /// 21
     Types,
+    /// 22
+    Fragment,
     /// A number that this version of the crate does not know.
     Other(u32),
 }
 
 /// Each reason with its number and a sentence.
-const TABLE: [(Reason, u32, &str); 19] = [
+const TABLE: [(Reason, u32, &str); 20] = [
     (Reason::Size, 1, "the sheet has over 65,536 bytes or 4,096 lines"),
     (Reason::Layout, 2, "line 1 is not the header, or a line's layout is wrong"),
     (Reason::Form, 3, "the statement matches no form"),
@@ -69,6 +71,7 @@ const TABLE: [(Reason, u32, &str); 19] = [
     (Reason::Room, 19, "the lent room is too short"),
     (Reason::ShapeN, 20, "the descriptor's N is not listed"),
     (Reason::Types, 21, "the descriptor's types are not listed"),
+    (Reason::Fragment, 22, "the matrix, thread, element, row or column is outside the fragment"),
 ];
 
 impl Reason {

@@ -177,7 +177,7 @@ fn reasons_have_numbers_and_words() {
     for number in 1..40 {
         let reason = Reason::from_number(number).unwrap();
         assert_eq!(reason.number(), number);
-        let known = matches!(number, 1..=16 | 19..=21);
+        let known = matches!(number, 1..=16 | 19..=22);
         assert_eq!(matches!(reason, Reason::Other(_)), !known);
         assert_eq!(reason.to_string() == format!("reason {number}"), !known);
     }

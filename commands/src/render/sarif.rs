@@ -11,7 +11,7 @@ const SCHEMA: &str = "https://docs.oasis-open.org/sarif/sarif/v2.1.0/errata01/os
 
 /// The log of some sheets, each with the name that was given for it; `whole` if they are all that were given, for none could not be read.
 pub fn log(files: &[(String, &Sheet, &Explanation)], whole: bool) -> Value {
-    let rules: Vec<Reason> = (1..=21).filter_map(Reason::from_number).filter(of_sheets).collect();
+    let rules: Vec<Reason> = (1..=22).filter_map(Reason::from_number).filter(of_sheets).collect();
     // the standard wants each artifact once
     let mut uris: Vec<String> = Vec::new();
     let mut results = Vec::new();
@@ -43,9 +43,9 @@ pub fn log(files: &[(String, &Sheet, &Explanation)], whole: bool) -> Value {
     })
 }
 
-/// The reasons for which a sheet is refused: not those of lent room.
+/// The reasons for which a sheet is refused: not those of lent room, nor that of fragments.
 fn of_sheets(reason: &Reason) -> bool {
-    !matches!(reason, Reason::Starts | Reason::Room | Reason::Other(_))
+    !matches!(reason, Reason::Starts | Reason::Room | Reason::Fragment | Reason::Other(_))
 }
 
 fn id(reason: Reason) -> String {
