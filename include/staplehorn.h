@@ -28,8 +28,8 @@ extern "C" {
 #endif
 
 /* The version of this header, and the same as major * 10,000 + minor * 100 + patch. */
-#define STAPLEHORN_VERSION "0.5.0"
-#define STAPLEHORN_VERSION_NUMBER 500
+#define STAPLEHORN_VERSION "0.6.0"
+#define STAPLEHORN_VERSION_NUMBER 600
 
 /* Bytes of stack that are enough for any call. */
 #define STAPLEHORN_STACK 32768

@@ -13,7 +13,7 @@ import enum
 import os
 from typing import List, NamedTuple
 
-SONAME = "libstaplehorn.so.0.5"
+SONAME = "libstaplehorn.so.0.6"
 REPORT_ROOM = 102391
 STATEMENT_ROOM = 2560
 MOST_ALLOCS = 4095
