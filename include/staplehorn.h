@@ -1,5 +1,6 @@
 /*
- * Staplehorn: tcgen05 sheets judged, statements and descriptor words read and written, by proved functions.
+ * Staplehorn: tcgen05 sheets judged, statements and descriptor words read and written, elements of fragments found, by proved
+ * functions.
  *
  * Every function returns a reason: 0 for good, else one of enum staplehorn_reason; docs/FORMAT.md explains each. Arrays have
  * the sizes written here. A pointer is aligned, and what one call writes overlaps nothing else that it is lent. A pointer to
@@ -183,6 +184,39 @@ uint32_t staplehorn_shared_encode(const uint64_t fields[STAPLEHORN_SHARED_FIELDS
 
 /* 0 if a request for that many columns is legal, else 9. */
 uint32_t staplehorn_request(uint32_t columns);
+
+/* Fragments: which thread of a warp holds which element of a matrix of mma.m16n8k16 on f16. Both places of an out-parameter are
+   always written; on a refusal, which is 22, both hold 0. */
+
+/* The matrices. D lies as C. */
+enum staplehorn_matrix {
+    STAPLEHORN_MATRIX_A, /* 16 rows, 16 columns; 8 elements in each of the 32 threads */
+    STAPLEHORN_MATRIX_B, /* 16 rows, which go along K, and 8 columns; 4 elements in each */
+    STAPLEHORN_MATRIX_C  /* 16 rows, 8 columns; 4 elements in each */
+};
+
+/* Where an element stands. All four numbers count from 0. */
+enum staplehorn_place_field {
+    STAPLEHORN_PLACE_ROW,
+    STAPLEHORN_PLACE_COLUMN,
+    STAPLEHORN_PLACE_FIELDS
+};
+
+/* Who holds it: the thread in its warp, and the element in the thread's registers. */
+enum staplehorn_holder_field {
+    STAPLEHORN_HOLDER_THREAD,
+    STAPLEHORN_HOLDER_ELEMENT,
+    STAPLEHORN_HOLDER_FIELDS
+};
+
+/* Where a thread's element stands, or 22: a matrix over 2, a thread over 31, an element past the thread's last. */
+uint32_t staplehorn_fragment_place(uint32_t matrix, uint32_t thread, uint32_t element,
+                                   uint32_t place[STAPLEHORN_PLACE_FIELDS]);
+
+/* Who holds the element of a row and a column, or 22: a matrix over 2, a row or a column outside the matrix. Each of the two
+   functions undoes the other. */
+uint32_t staplehorn_fragment_holder(uint32_t matrix, uint32_t row, uint32_t column,
+                                    uint32_t holder[STAPLEHORN_HOLDER_FIELDS]);
 
 /* Statements. A number in one is decimal, hexadecimal (0x40), octal (0100: a leading zero) or binary (0b1000000), and one U may
    stand behind it; docs/FORMAT.md has each spelling. */

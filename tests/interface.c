@@ -69,6 +69,70 @@ static void shared(void) {
     is(staplehorn_request(96), 9, "request of 96");
 }
 
+/* Where an element stands, and the way back. */
+static void stands(uint32_t matrix, uint32_t thread, uint32_t element, uint32_t row, uint32_t column) {
+    uint32_t place[STAPLEHORN_PLACE_FIELDS] = {77, 77}, holder[STAPLEHORN_HOLDER_FIELDS] = {77, 77};
+    is(staplehorn_fragment_place(matrix, thread, element, place), 0, "place");
+    is(place[STAPLEHORN_PLACE_ROW], row, "row");
+    is(place[STAPLEHORN_PLACE_COLUMN], column, "column of a place");
+    is(staplehorn_fragment_holder(matrix, row, column, holder), 0, "holder");
+    is(holder[STAPLEHORN_HOLDER_THREAD], thread, "thread");
+    is(holder[STAPLEHORN_HOLDER_ELEMENT], element, "element");
+}
+
+/* A refusal: 22, and both places are 0, whatever they held. */
+static void outside(uint32_t (*function)(uint32_t, uint32_t, uint32_t, uint32_t[2]), uint32_t matrix, uint32_t first, uint32_t second) {
+    uint32_t out[3] = {77, 77, 77};
+    is(function(matrix, first, second, out), STAPLEHORN_REASON_FRAGMENT, "outside");
+    is(out[0], 0, "first place on a refusal");
+    is(out[1], 0, "second place on a refusal");
+    is(out[2], 77, "past the places on a refusal");
+}
+
+static void fragments(void) {
+    /* worked out by hand: an element of each pair of registers, and the last of each matrix */
+    stands(STAPLEHORN_MATRIX_A, 0, 0, 0, 0);
+    stands(STAPLEHORN_MATRIX_A, 5, 1, 1, 3);
+    stands(STAPLEHORN_MATRIX_A, 5, 3, 9, 3);
+    stands(STAPLEHORN_MATRIX_A, 5, 4, 1, 10);
+    stands(STAPLEHORN_MATRIX_A, 6, 6, 9, 12);
+    stands(STAPLEHORN_MATRIX_A, 31, 7, 15, 15);
+    stands(STAPLEHORN_MATRIX_B, 0, 0, 0, 0);
+    stands(STAPLEHORN_MATRIX_B, 7, 1, 7, 1);
+    stands(STAPLEHORN_MATRIX_B, 14, 2, 12, 3);
+    stands(STAPLEHORN_MATRIX_B, 31, 3, 15, 7);
+    stands(STAPLEHORN_MATRIX_C, 0, 0, 0, 0);
+    stands(STAPLEHORN_MATRIX_C, 7, 1, 1, 7);
+    stands(STAPLEHORN_MATRIX_C, 14, 2, 11, 4);
+    stands(STAPLEHORN_MATRIX_C, 31, 3, 15, 7);
+    /* each limit: the last number was good, one more is not */
+    static const uint32_t elements[3] = {8, 4, 4}, columns[3] = {16, 8, 8};
+    for (uint32_t matrix = 0; matrix < 3; ++matrix) {
+        outside(staplehorn_fragment_place, matrix, 32, 0);
+        outside(staplehorn_fragment_place, matrix, 0, elements[matrix]);
+        outside(staplehorn_fragment_place, matrix, UINT32_MAX, UINT32_MAX);
+        outside(staplehorn_fragment_holder, matrix, 16, 0);
+        outside(staplehorn_fragment_holder, matrix, 0, columns[matrix]);
+        outside(staplehorn_fragment_holder, matrix, UINT32_MAX, UINT32_MAX);
+        /* every element is found where it stands, and every place is some element's */
+        uint32_t seen[16][16] = {{0}}, wrong_way = 0, once = 0;
+        for (uint32_t thread = 0; thread < 32; ++thread)
+            for (uint32_t element = 0; element < elements[matrix]; ++element) {
+                uint32_t place[STAPLEHORN_PLACE_FIELDS], holder[STAPLEHORN_HOLDER_FIELDS];
+                wrong_way += staplehorn_fragment_place(matrix, thread, element, place) != 0;
+                wrong_way += staplehorn_fragment_holder(matrix, place[0], place[1], holder) != 0;
+                wrong_way += holder[0] != thread || holder[1] != element;
+                if (place[0] < 16 && place[1] < columns[matrix]) once += seen[place[0]][place[1]]++ == 0;
+            }
+        is(wrong_way, 0, "there and back");
+        is(once, 16 * columns[matrix], "every place once");
+    }
+    outside(staplehorn_fragment_place, 3, 0, 0);
+    outside(staplehorn_fragment_holder, 3, 0, 0);
+    outside(staplehorn_fragment_place, UINT32_MAX, 0, 0);
+    outside(staplehorn_fragment_holder, UINT32_MAX, 0, 0);
+}
+
 /* The reason of a text, and its column. */
 static void alone(const char *text, uint32_t reason, size_t column) {
     size_t at = 7;
@@ -238,11 +302,12 @@ int main(void) {
     passed();
     words();
     shared();
+    fragments();
     statements();
     columns();
     numbers();
     spelled();
     sheets();
     printf("%d answers right, %d wrong\n", right, wrong);
-    return wrong != 0 || right < 196;
+    return wrong != 0 || right < 374;
 }

@@ -40,7 +40,7 @@ static void canonical(void) {
 }
 
 static void words(void) {
-    uint32_t fields[STAPLEHORN_INSTRUCTION_FIELDS], word, k;
+    uint32_t fields[STAPLEHORN_INSTRUCTION_FIELDS], word, k, place[STAPLEHORN_PLACE_FIELDS], holder[STAPLEHORN_HOLDER_FIELDS];
     uint64_t shared[STAPLEHORN_SHARED_FIELDS], wide;
     staplehorn_instruction_decode(0, 0, 0, 0x08100010, fields);
     staplehorn_instruction_encode(0, 0, 0, fields, &word);
@@ -50,6 +50,8 @@ static void words(void) {
     staplehorn_shared_decode(0x0000400800100000, shared);
     staplehorn_shared_encode(shared, &wide);
     staplehorn_request(staplehorn_version());
+    staplehorn_fragment_place(STAPLEHORN_MATRIX_A, 31, 7, place);
+    staplehorn_fragment_holder(STAPLEHORN_MATRIX_A, 15, 15, holder);
 }
 
 /* Runs a function on the painted stack, and keeps the most that any took under its name. */
