@@ -6,6 +6,10 @@ pub const ANSWER_FIELDS: usize = 6;
 pub const INSTRUCTION_FIELDS: usize = 13;
 /// Fields of a shared memory descriptor.
 pub const SHARED_FIELDS: usize = 6;
+/// Numbers of a place in a matrix.
+pub const PLACE_FIELDS: usize = 2;
+/// Numbers of who holds an element.
+pub const HOLDER_FIELDS: usize = 2;
 /// Bytes that are enough for any report.
 pub const REPORT_ROOM: usize = 102_391;
 /// Bytes that are enough for any statement.
@@ -37,4 +41,6 @@ extern "C" {
     pub fn staplehorn_shared_decode(word: u64, fields: *mut [u64; SHARED_FIELDS]) -> u32;
     pub fn staplehorn_shared_encode(fields: *const [u64; SHARED_FIELDS], word: *mut u64) -> u32;
     pub fn staplehorn_request(columns: u32) -> u32;
+    pub fn staplehorn_fragment_place(matrix: u32, thread: u32, element: u32, place: *mut [u32; PLACE_FIELDS]) -> u32;
+    pub fn staplehorn_fragment_holder(matrix: u32, row: u32, column: u32, holder: *mut [u32; HOLDER_FIELDS]) -> u32;
 }

@@ -11,9 +11,11 @@
 #![deny(clippy::undocumented_unsafe_blocks)]
 
 pub mod c;
+mod fragments;
 mod reason;
 mod words;
 
+pub use fragments::{Holder, Matrix, Place};
 pub use reason::Reason;
 pub use words::{request, InstructionFields, Kind, Opcode, SharedFields};
 

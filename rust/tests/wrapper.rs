@@ -1,7 +1,8 @@
 //! The wrapper gives the library's answers, and leaves lent places alone where it must.
 
 use staplehorn::{canonical, judge, judge_into, report, request, statement, version};
-use staplehorn::{Answer, InstructionFields, Kind, Opcode, Passed, Reason, Refused, RefusedStatement, SharedFields, MOST_ALLOCS};
+use staplehorn::{Answer, Holder, InstructionFields, Kind, Matrix, Opcode, Passed, Place, Reason, Refused, RefusedStatement};
+use staplehorn::{SharedFields, MOST_ALLOCS};
 
 const PASSED: &[u8] = include_bytes!("../../crates/foot/stdin");
 const PRINTED: &[u8] = include_bytes!("../../crates/foot/stdout");
@@ -170,6 +171,54 @@ fn every_field_has_its_place() {
         assert_eq!(SharedFields::decode(1 << 46 | 1u64 << bit), Ok(fields));
     }
     assert_eq!(SharedFields { base: 1, swizzle: 2, ..Default::default() }.encode(), Ok(1 << 46 | 1 << 49 | 2 << 61));
+}
+
+/// An element of each pair of registers, worked out by hand, and the way back.
+#[test]
+fn where_an_element_stands() {
+    for (matrix, thread, element, row, column) in [
+        (Matrix::A, 0, 0, 0, 0),
+        (Matrix::A, 5, 1, 1, 3),
+        (Matrix::A, 5, 3, 9, 3),
+        (Matrix::A, 5, 4, 1, 10),
+        (Matrix::A, 6, 6, 9, 12),
+        (Matrix::A, 31, 7, 15, 15),
+        (Matrix::B, 0, 0, 0, 0),
+        (Matrix::B, 7, 1, 7, 1),
+        (Matrix::B, 14, 2, 12, 3),
+        (Matrix::B, 31, 3, 15, 7),
+        (Matrix::C, 0, 0, 0, 0),
+        (Matrix::C, 7, 1, 1, 7),
+        (Matrix::C, 14, 2, 11, 4),
+        (Matrix::C, 31, 3, 15, 7),
+    ] {
+        assert_eq!(matrix.place(thread, element), Ok(Place { row, column }), "{matrix:?} {thread} {element}");
+        assert_eq!(matrix.holder(row, column), Ok(Holder { thread, element }), "{matrix:?} {row} {column}");
+    }
+}
+
+/// Every element is found where it stands, every place is some element's, and one past each limit is refused.
+#[test]
+fn fragments_have_every_place_once() {
+    for (matrix, elements, columns) in [(Matrix::A, 8, 16), (Matrix::B, 4, 8), (Matrix::C, 4, 8)] {
+        let mut places = Vec::new();
+        for (thread, element) in (0..40).flat_map(|t| (0..20).map(move |e| (t, e))) {
+            let place = matrix.place(thread, element);
+            assert_eq!(place.err(), (thread >= 32 || element >= elements).then_some(Reason::Fragment), "{matrix:?} {thread} {element}");
+            if let Ok(Place { row, column }) = place {
+                assert_eq!(matrix.holder(row, column), Ok(Holder { thread, element }), "{matrix:?} {row} {column}");
+                places.push((row, column));
+            }
+        }
+        places.sort_unstable();
+        assert_eq!(places, (0..16).flat_map(|r| (0..columns).map(move |c| (r, c))).collect::<Vec<_>>(), "{matrix:?}");
+        for (row, column) in (0..20).flat_map(|r| (0..20).map(move |c| (r, c))) {
+            let refused = (row >= 16 || column >= columns).then_some(Reason::Fragment);
+            assert_eq!(matrix.holder(row, column).err(), refused, "{matrix:?} {row} {column}");
+        }
+        assert_eq!(matrix.place(u32::MAX, u32::MAX), Err(Reason::Fragment));
+        assert_eq!(matrix.holder(u32::MAX, u32::MAX), Err(Reason::Fragment));
+    }
 }
 
 #[test]
