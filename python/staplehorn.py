@@ -1,4 +1,5 @@
-"""Staplehorn from Python: tcgen05 sheets judged, statements and descriptor words read and written, by the proved library.
+"""Staplehorn from Python: tcgen05 sheets judged, statements and descriptor words read and written, elements of fragments found, by the
+proved library.
 
     >>> import staplehorn
     >>> staplehorn.judge(b"sheet\\t1\\tsm_100a\\n0\\texit;\\n")
@@ -118,7 +119,22 @@ class Shared(NamedTuple):
     swizzle: int = 0
 
 
+class Place(NamedTuple):
+    """Where an element of a matrix stands."""
+
+    row: int
+    column: int
+
+
+class Holder(NamedTuple):
+    """Who holds an element: the thread in its warp, and the element in the thread's registers."""
+
+    thread: int
+    element: int
+
+
 KINDS = {"f16": 0, "tf32": 1, "f8f6f4": 2, "i8": 3}
+MATRICES = {"A": 0, "B": 1, "C": 2}
 
 
 def _load():
@@ -143,6 +159,8 @@ def _load():
         "shared_decode": [u64, pointer(u64)],
         "shared_encode": [pointer(u64), pointer(u64)],
         "request": [u32],
+        "fragment_place": [u32, u32, u32, pointer(u32)],
+        "fragment_holder": [u32, u32, u32, pointer(u32)],
     }.items():
         function = getattr(library, "staplehorn_" + name)
         function.argtypes, function.restype = arguments, u32
@@ -162,12 +180,12 @@ def _check(reason):
         raise Refused(reason)
 
 
-def _number(value, bits, name):
-    """ctypes would cut a number that is too wide; no word has such a field."""
+def _number(value, bits, name, reason=Reason.DESCRIPTOR):
+    """ctypes would cut a number that is too wide; no word has such a field, and no fragment such a number."""
     if not isinstance(value, int):
         raise TypeError(f"{name}: not an integer")
     if not 0 <= value < 1 << bits:
-        raise Refused(Reason.DESCRIPTOR)
+        raise Refused(reason)
     return value
 
 
@@ -261,3 +279,22 @@ def request(columns):
     if not 0 <= columns < 1 << 32:
         raise Refused(Reason.COLUMNS)
     _check(_c.staplehorn_request(columns))
+
+
+def _fragment(function, matrix, **numbers):
+    """The two numbers that a function of fragments gives for two."""
+    if matrix not in MATRICES:
+        raise Refused(Reason.FRAGMENT)
+    out = (ctypes.c_uint32 * 2)()
+    _check(function(MATRICES[matrix], *[_number(v, 32, n, Reason.FRAGMENT) for n, v in numbers.items()], out))
+    return out
+
+
+def fragment_place(matrix, thread, element):
+    """Where a thread's element of a matrix ('A', 'B' or 'C') of mma.m16n8k16 on f16 stands; D lies as C. Raises Refused (22)."""
+    return Place(*_fragment(_c.staplehorn_fragment_place, matrix, thread=thread, element=element))
+
+
+def fragment_holder(matrix, row, column):
+    """Who holds the element of a row and a column of a matrix: the reverse of fragment_place. Raises Refused (22)."""
+    return Holder(*_fragment(_c.staplehorn_fragment_holder, matrix, row=row, column=column))

@@ -134,6 +134,33 @@ class Module(unittest.TestCase):
         dense = sheet.replace("0x08400014", "0x08400010").replace(".sp", "").replace("[t], i", "i")
         self.assertEqual(s.judge(dense.encode()), s.Passed(7, 512, [0]))
 
+    def test_fragments(self):
+        """An element of each pair of registers, worked out by hand; every place once, there and back; one past each limit is refused."""
+        for matrix, holder, place in (
+            ("A", (0, 0), (0, 0)), ("A", (5, 1), (1, 3)), ("A", (5, 3), (9, 3)), ("A", (5, 4), (1, 10)), ("A", (6, 6), (9, 12)),
+            ("A", (31, 7), (15, 15)), ("B", (0, 0), (0, 0)), ("B", (7, 1), (7, 1)), ("B", (14, 2), (12, 3)), ("B", (31, 3), (15, 7)),
+            ("C", (0, 0), (0, 0)), ("C", (7, 1), (1, 7)), ("C", (14, 2), (11, 4)), ("C", (31, 3), (15, 7)),
+        ):
+            self.assertEqual(s.fragment_place(matrix, *holder), s.Place(*place))
+            self.assertEqual(s.fragment_holder(matrix, *place), s.Holder(*holder))
+        for matrix, elements, columns in (("A", 8, 16), ("B", 4, 8), ("C", 4, 8)):
+            places = {s.fragment_place(matrix, t, e): (t, e) for t in range(32) for e in range(elements)}
+            self.assertEqual(sorted(places), [(row, column) for row in range(16) for column in range(columns)])
+            for place, holder in places.items():
+                self.assertEqual(s.fragment_holder(matrix, *place), holder)
+            for thread, element in ((32, 0), (0, elements), (32, elements), (-1, 0), (0, -1), (1 << 32, 0), (0, 1 << 32), (2**32 - 1, 0)):
+                self.refused(s.Reason.FRAGMENT, s.fragment_place, matrix, thread, element)
+            for row, column in ((16, 0), (0, columns), (16, columns), (-1, 0), (0, -1), (1 << 32, 0), (0, 1 << 32), (0, 2**32 - 1)):
+                self.refused(s.Reason.FRAGMENT, s.fragment_holder, matrix, row, column)
+        for matrix in ("D", "a", "", 0, None):
+            self.refused(s.Reason.FRAGMENT, s.fragment_place, matrix, 0, 0)
+            self.refused(s.Reason.FRAGMENT, s.fragment_holder, matrix, 0, 0)
+        self.assertEqual(s.fragment_place(element=3, thread=5, matrix="A"), s.Place(row=9, column=3))
+        self.assertEqual(s.fragment_holder(column=3, row=5, matrix="A"), s.Holder(thread=21, element=1))
+        with self.assertRaises(TypeError):
+            s.fragment_place("A", 1.0, 0)
+        self.assertEqual(str(self.refused(22, s.fragment_holder, "B", 5, 9)), s.TEXTS[22])
+
     def test_threads(self):
         given, wanted, wrong = contents("crates/foot/stdin"), contents("crates/foot/stdout"), []
 
