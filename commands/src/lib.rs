@@ -1,8 +1,9 @@
-//! What stands behind the commands `foot` and `describe`: explanations of what the proved library answers. All judging is the library's.
+//! What stands behind the commands `foot`, `describe` and `fragment`: explanations of what the proved library answers. All judging is the library's.
 #![deny(clippy::undocumented_unsafe_blocks)]
 
 pub mod command;
 pub mod explain;
+pub mod fragment;
 pub mod history;
 pub mod number;
 pub mod pages;
