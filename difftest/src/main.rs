@@ -1,11 +1,12 @@
-//! Compares the proved library with the reference: `words`, `statements` (`numbers` among them) and `sheets` with made
-//! inputs, `entries` with sheets whose answers were worked out by hand, `data` with the cases of a
+//! Compares the proved library with the reference: `words`, `fragments`, `statements` (`numbers` among them) and `sheets` with
+//! made inputs, `entries` with sheets whose answers were worked out by hand, `data` with the cases of a
 //! folder, of which `cases` writes most.
 
 mod cases;
 mod entries;
 mod faults;
 mod forms;
+mod fragments;
 mod maker;
 mod numbers;
 mod readings;
@@ -20,6 +21,7 @@ fn main() {
     let args: Vec<&str> = args.iter().map(String::as_str).collect();
     let good = match args[..] {
         ["words"] => words::run(),
+        ["fragments"] => fragments::run(),
         ["statements"] => statements::run(),
         ["numbers"] => numbers::run(),
         ["sheets"] => sheets::run(),
@@ -27,7 +29,7 @@ fn main() {
         ["cases", folder] => cases::write(folder.as_ref()),
         ["data", folder] => cases::compare(folder.as_ref()),
         _ => {
-            eprintln!("usage: difftest words|statements|numbers|sheets|entries, or difftest cases|data FOLDER");
+            eprintln!("usage: difftest words|fragments|statements|numbers|sheets|entries, or difftest cases|data FOLDER");
             std::process::exit(2);
         }
     };

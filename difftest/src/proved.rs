@@ -77,6 +77,22 @@ pub fn request(columns: u32) -> u32 {
     unsafe { c::staplehorn_request(columns) }
 }
 
+/// The reason, and the row and column.
+pub fn fragment_place(matrix: u32, thread: u32, element: u32) -> (u32, [u32; 2]) {
+    let mut place = [UNTOUCHED; 2];
+    // SAFETY: numbers, locals and slices alone; each array has the header's size.
+    let reason = unsafe { c::staplehorn_fragment_place(matrix, thread, element, &mut place) };
+    (reason, place)
+}
+
+/// The reason, and the thread and element.
+pub fn fragment_holder(matrix: u32, row: u32, column: u32) -> (u32, [u32; 2]) {
+    let mut holder = [UNTOUCHED; 2];
+    // SAFETY: numbers, locals and slices alone; each array has the header's size.
+    let reason = unsafe { c::staplehorn_fragment_holder(matrix, row, column, &mut holder) };
+    (reason, holder)
+}
+
 /// The reason, and the column.
 pub fn statement_reason(text: &[u8]) -> (u32, usize) {
     let mut column = usize::MAX;

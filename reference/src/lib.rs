@@ -7,6 +7,7 @@
 
 pub mod descriptor;
 pub mod entries;
+pub mod fragment;
 pub mod judge;
 pub mod name;
 pub mod report;

@@ -6,7 +6,7 @@
 use staplehorn_difftest::proved::c;
 use staplehorn_difftest::random::Random;
 use staplehorn_reference::descriptor::{self as reference, Instruction, Kind, Shared};
-use staplehorn_reference::{judge, statement};
+use staplehorn_reference::{fragment, judge, statement};
 
 const CALLS: usize = 2_000;
 /// How many bytes of sheets are judged in one run.
@@ -49,6 +49,16 @@ fn shared_words() -> Vec<u64> {
             }
         })
         .collect()
+}
+
+/// Matrices with two numbers each: of a thread and an element, or a row and a column; some are one too large.
+fn fragments(first: u64, second: [u64; 3]) -> Vec<[u32; 3]> {
+    let mut r = Random::new(11);
+    let one = |_| {
+        let matrix = r.below(3);
+        [matrix, r.below(first + 1), r.below(second[matrix as usize] + 1)].map(|n| n as u32)
+    };
+    (0..CALLS).map(one).collect()
 }
 
 fn instruction_fields() -> Vec<[u32; 13]> {
@@ -267,6 +277,20 @@ mod behind {
         *word = w;
         reason
     }
+
+    #[inline(never)]
+    pub unsafe extern "C" fn fragment_place(matrix: u32, thread: u32, element: u32, place: *mut [u32; 2]) -> u32 {
+        let (reason, row, column) = fragment::place(matrix, thread, element);
+        *place = [row, column];
+        reason
+    }
+
+    #[inline(never)]
+    pub unsafe extern "C" fn fragment_holder(matrix: u32, row: u32, column: u32, holder: *mut [u32; 2]) -> u32 {
+        let (reason, thread, element) = fragment::holder(matrix, row, column);
+        *holder = [thread, element];
+        reason
+    }
 }
 
 #[no_mangle]
@@ -341,6 +365,24 @@ fn main() {
                 })
             })
         }
+        "fragment_place" | "fragment_holder" => {
+            let place = function == "fragment_place";
+            let f = match (place, proved) {
+                (true, true) => c::staplehorn_fragment_place,
+                (true, false) => behind::fragment_place,
+                (false, true) => c::staplehorn_fragment_holder,
+                (false, false) => behind::fragment_holder,
+            };
+            let asked = if place { fragments(32, [8, 4, 4]) } else { fragments(16, [16, 8, 8]) };
+            Box::new(move || {
+                asked.iter().fold(0, |s, &[matrix, first, second]| {
+                    let mut out = [0; 2];
+                    // SAFETY: numbers, locals and slices alone; each array has the header's size.
+                    let reason = unsafe { f(matrix, first, second, &mut out) };
+                    mixed(s, reason, out[0].into(), out[1].into())
+                })
+            })
+        }
         _ => match function.split_once(':') {
             Some(("reason", name)) => {
                 let t = text(name).unwrap_or_else(|| usage());
@@ -406,6 +448,6 @@ fn time(work: &mut dyn FnMut() -> u64, calls: usize) -> f64 {
 }
 
 fn usage() -> ! {
-    eprintln!("usage: bench FUNCTION proved|reference [TURNS]; FUNCTION is instruction_decode, instruction_encode, instruction_judge, shared_decode, shared_encode, reason:NAME, canonical:NAME or sheet:KIND:BYTES");
+    eprintln!("usage: bench FUNCTION proved|reference [TURNS]; FUNCTION is instruction_decode, instruction_encode, instruction_judge, shared_decode, shared_encode, fragment_place, fragment_holder, reason:NAME, canonical:NAME or sheet:KIND:BYTES");
     std::process::exit(2);
 }
