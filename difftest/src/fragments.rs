@@ -1,8 +1,10 @@
-//! Fragments: each matrix with every thread and element, and every row and column, up to 40, and with numbers far outside.
+//! Fragments: each matrix with every thread and element, and every row and column, up to 40, and with numbers far outside; and what the
+//! command draws.
 
 use staplehorn_difftest::counts::Counts;
 use staplehorn_difftest::proved;
 use staplehorn_reference::fragment as reference;
+use std::process::Command;
 
 /// A way of asking: a matrix and two numbers; the reason and two numbers.
 type Way = fn(u32, u32, u32) -> (u32, [u32; 2]);
@@ -77,13 +79,30 @@ fn known(counts: &mut Counts, place: Way, holder: Way) {
     }
 }
 
-pub fn run() -> bool {
+/// What the command draws: a line of column numbers, then a line for each row, its number and then the reference's.
+fn drawings(counts: &mut Counts, command: &str) {
+    for (matrix, name) in [(reference::A, "A"), (reference::B, "B"), (reference::C, "C"), (reference::C, "D")] {
+        let drawn = Command::new(command).arg(name).output().expect("the command runs");
+        let drawn = String::from_utf8(drawn.stdout).expect("a drawing is text");
+        let theirs: String = reference::drawing(matrix).expect("a matrix is drawn");
+        let theirs: Vec<String> = theirs.lines().enumerate().map(|(row, cells)| format!("{row:>2}  {cells}")).collect();
+        let ours: Vec<String> = drawn.lines().skip(1).map(String::from).collect();
+        counts.compare("drawing", 0, ours, theirs, || name.into());
+    }
+}
+
+/// `command` is the built command `fragment`.
+pub fn run(command: &str) -> bool {
     let mut counts = Counts::new();
+    drawings(&mut counts, command);
     known(&mut counts, reference_place, reference_holder);
     known(&mut counts, proved::fragment_place, proved::fragment_holder);
     compare(&mut counts, proved::fragment_place, proved::fragment_holder);
     // 256, 128 and 128 elements, and as many places
-    counts.finish("fragments", &[("fragment place", 0, 512), ("fragment place", 22, 1_000_000), ("fragment holder", 0, 512), ("fragment holder", 22, 1_000_000)])
+    counts.finish(
+        "fragments",
+        &[("fragment place", 0, 512), ("fragment place", 22, 1_000_000), ("fragment holder", 0, 512), ("fragment holder", 22, 1_000_000)],
+    )
 }
 
 #[cfg(test)]
@@ -107,10 +126,12 @@ mod tests {
     #[test]
     fn faults_are_found() {
         let places: [Way; 4] = [
-            |m, t, i| proved::fragment_place(m, t, if (m, t) == (0, 9) && i / 2 == 1 { i ^ 6 } else { i }),
+            |m, t, i| proved::fragment_place(m, t, if (m, t) == (0, 9) && matches!(i / 2, 1 | 2) { i ^ 6 } else { i }),
             |m, t, i| proved::fragment_place(m, if t == 32 { 0 } else { t }, i),
             |m, t, i| proved::fragment_place(m, t, if m == 1 && i == 4 { 3 } else { i }),
-            |m, t, i| (proved::fragment_place(m, t, i).0, [proved::fragment_place(m, t % 32, i % 4).1[0], proved::fragment_place(m, t, i).1[1]]),
+            |m, t, i| {
+                (proved::fragment_place(m, t, i).0, [proved::fragment_place(m, t % 32, i % 4).1[0], proved::fragment_place(m, t, i).1[1]])
+            },
         ];
         for place in places {
             assert_ne!(differences(place, proved::fragment_holder), 0);

@@ -21,7 +21,7 @@ fn main() {
     let args: Vec<&str> = args.iter().map(String::as_str).collect();
     let good = match args[..] {
         ["words"] => words::run(),
-        ["fragments"] => fragments::run(),
+        ["fragments", command] => fragments::run(command),
         ["statements"] => statements::run(),
         ["numbers"] => numbers::run(),
         ["sheets"] => sheets::run(),
@@ -29,7 +29,7 @@ fn main() {
         ["cases", folder] => cases::write(folder.as_ref()),
         ["data", folder] => cases::compare(folder.as_ref()),
         _ => {
-            eprintln!("usage: difftest words|fragments|statements|numbers|sheets|entries, or difftest cases|data FOLDER");
+            eprintln!("usage: difftest words|statements|numbers|sheets|entries, difftest fragments COMMAND, or difftest cases|data FOLDER");
             std::process::exit(2);
         }
     };

@@ -21,19 +21,17 @@ use Rattle.fragment.specs.declared.Matrix.{Matrix}
 use Rattle.fragment.specs.declared.Place.{Place}
 use Rattle.fragment.specs.declared.Holder.{Holder}
 
--- ---- who holds a place, as the code computes it: a side that goes by groups, one that goes along a group, and which of a thread's pairs
+-- ---- who holds a place, as the code computes it: by the side that goes by groups, the side along a group, and which of a thread's pairs it is
 abbrev pub held : ℕ → ℕ → ℕ → Holder
 held across along pair = holder (across % 8 * 4 + along % 8 / 2) (pair * 2 + along % 2)
 
-abbrev pub pairOf : Matrix → Place → ℕ
-pairOf Matrix.A p = p .row / 8 + p .column / 8 * 2
-pairOf Matrix.B p = p .row / 8
-pairOf Matrix.C p = p .row / 8
+abbrev pub pairOf : Place → ℕ
+pairOf p = p .row / 8 + p .column / 8 * 2
 
 abbrev pub holderAt : Matrix → Place → Holder
-holderAt Matrix.A p = held (p .row) (p .column) (pairOf Matrix.A p)
-holderAt Matrix.B p = held (p .column) (p .row) (pairOf Matrix.B p)
-holderAt Matrix.C p = held (p .row) (p .column) (pairOf Matrix.C p)
+holderAt Matrix.A p = held (p .row) (p .column) (pairOf p)
+holderAt Matrix.B p = held (p .column) (p .row) (pairOf p)
+holderAt Matrix.C p = held (p .row) (p .column) (pairOf p)
 
 -- ---- computed: an element's place lies in the matrix and leads back to it, a place's holder is in the warp and has its place there
 abbrev sameHolder : Holder → Holder → Bool
@@ -78,7 +76,7 @@ warp-is m h e =
     let s = and-split (ltb (h .thread) threads) (ltb (h .element) (elements m)) e in
     (ltb-true (h .thread) threads (s .0), ltb-true (h .element) (elements m) (s .1))
 
-pub matrix-is : (m : Matrix) (p : Place) → inMatrix m p ≡ true → (p .row < rows) × (p .column < columns m)
+matrix-is : (m : Matrix) (p : Place) → inMatrix m p ≡ true → (p .row < rows) × (p .column < columns m)
 matrix-is m p e =
     let s = and-split (ltb (p .row) rows) (ltb (p .column) (columns m)) e in
     (ltb-true (p .row) rows (s .0), ltb-true (p .column) (columns m) (s .1))
@@ -100,12 +98,6 @@ is-held m p e =
     let w = matrix-is m p e in
     let s = and-split (inWarp m (holderAt m p)) (samePlace (placeOf m (holderAt m p)) p) (below-both rows (columns m) (λ r c. isHeld m (place r c)) all (p .row) (p .column) (w .0) (w .1)) in
     (s .0, place-is (placeOf m (holderAt m p)) p (s .1))
-
--- a thread has four pairs at the most
-pub pair-below : (m : Matrix) (p : Place) → inMatrix m p ≡ true → pairOf m p < 4
-pair-below Matrix.A p e = let w = matrix-is Matrix.A p e in omega (arith, w .0, w .1)
-pair-below Matrix.B p e = let w = matrix-is Matrix.B p e in omega (arith, w .0)
-pair-below Matrix.C p e = let w = matrix-is Matrix.C p e in omega (arith, w .0)
 
 -- ---- the entry of a thread's element, and the element of an entry
 abbrev pub indexOf : Matrix → Holder → ℕ
@@ -140,6 +132,10 @@ column-small m p e = le-trans (matrix-is m p e .1) (wide m)
     wide Matrix.A = omega arith
     wide Matrix.B = omega arith
     wide Matrix.C = omega arith
+
+-- so a thread has four pairs at the most
+pub pair-below : (m : Matrix) (p : Place) → inMatrix m p ≡ true → pairOf p < 4
+pair-below m p e = omega (arith, matrix-is m p e .0, column-small m p e)
 
 pub entry-in : (m : Matrix) (k : ℕ) → k < threads * elements m → inWarp m (entryOf m k) ≡ true
 entry-in m k l =

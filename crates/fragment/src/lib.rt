@@ -107,7 +107,7 @@ fn place_at(m: Matrix, thread: u32, element: u32) -> Place
     }
 }
 
-// A thread's group goes by one side of a matrix, its number in the group by the other, and its element by which of its pairs it is in.
+// One side of a matrix goes by the thread's group, the other by its number in the group; `pair` is which of its pairs of elements.
 fn held(across: u32, along: u32, pair: u32) -> Holder
     requires { ⌜ pair < 4 ⌝ }
     ensures { λ r. ⌜ r ≡ F.holder (across % 8 * 4 + along % 8 / 2) (pair * 2 + along % 2) ⌝ }
@@ -118,15 +118,16 @@ fn held(across: u32, along: u32, pair: u32) -> Holder
     }
 }
 
-// Who holds a place.
+// Who holds a place. A thread has one pair in each block of 8 by 8, counted down and then to the right.
 fn holder_at(m: Matrix, row: u32, column: u32) -> Holder
     requires { ⌜ F.inMatrix m (F.place row column) ≡ true ⌝ }
     ensures { λ r. ⌜ F.holderOf m (F.place row column) ≡ some r ⌝ }
 {
+    let pair = row / 8 + column / 8 * 2;
     match m {
-        Matrix::A => held(row, column, row / 8 + column / 8 * 2),
-        Matrix::B => held(column, row, row / 8),
-        Matrix::C => held(row, column, row / 8),
+        Matrix::A => held(row, column, pair),
+        Matrix::B => held(column, row, pair),
+        Matrix::C => held(row, column, pair),
     }
 }
 
