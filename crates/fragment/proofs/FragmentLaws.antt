@@ -1,22 +1,20 @@
 -- The rule of each matrix and its reverse undo each other: computed for every thread and element, and every row and column, of the three, and lifted
 -- to each of them by one law. The rest follows from that alone. Assumes nothing.
-use Prim.Native.Nat.{ℕ, zero, suc, _+_, _*_, _/_, _%_, _≤_, _<_}
+use Prim.Native.Nat.{ℕ, _+_, _*_, _/_, _%_, _≤_, _<_}
 use native.Mathlib.Omega.{arith}
 use mathlib.Core.Path.{_≡_, refl, sym, ap, subst, _∙_}
-use mathlib.Core.Bool.{Bool, true, false, _&&_, cond}
-use mathlib.Core.List.{List, [], _∷_, map}
-use mathlib.Core.Option.{Option, none, some}
-use mathlib.Core.Logic.{_⊎_, inl, inr}
+use mathlib.Core.Bool.{Bool, true, _&&_}
+use mathlib.Core.List.{List, map}
+use mathlib.Core.Option.{some}
 use native.Mathlib.Nat.{le-trans, zero-add, mod-lt, div-add-mod', div-lt-iff-lt-mul}
-use native.Mathlib.Decide.{decLe}
 use lib.Arith.{digits-lt, digits-div, digits-mod}
 use lib.Dec.{eqb, ltb}
 use lib.ListN.{getD, length, length-map}
 use borrow.Author.Tests.{eqb-true, ltb-true, lt-ltb, eq-eqb}
-use Rattle.laws.specs.Tests.{find}
-use Rattle.laws.proofs.BoolLaws.{clash, bool, and-split, and-join}
+use Rattle.laws.proofs.BoolLaws.{and-split, and-join}
 use Rattle.laws.proofs.TestLaws.{below, below-is}
 use Rattle.fragment.specs.Fragment.{rows, columns, threads, elements, place, holder, placeOf, numbers, entryOf, holders, tableOf, samePlace, holderOf, origin, packed, inWarp, inMatrix}
+use Rattle.fragment.proofs.ListLaws.{at-map, at-number, count-numbers, find-only}
 use Rattle.fragment.specs.declared.Matrix.{Matrix}
 use Rattle.fragment.specs.declared.Place.{Place}
 use Rattle.fragment.specs.declared.Holder.{Holder}
@@ -58,28 +56,31 @@ computed Matrix.C = refl
 below-both : (n k : ℕ) (f : ℕ → ℕ → Bool) → below n (λ x. below k (f x)) ≡ true → (x y : ℕ) → x < n → y < k → f x y ≡ true
 below-both n k f h x y g l = below-is k (f x) (below-is n (λ z. below k (f z)) h x g) y l
 
-place-is : (p q : Place) → samePlace p q ≡ true → p ≡ q
-place-is p q h =
-    let e = and-split (eqb (p .row) (q .row)) (eqb (p .column) (q .column)) h in
-    ap (λ r. place r (p .column)) (eqb-true (p .row) (q .row) (e .0)) ∙ ap (place (q .row)) (eqb-true (p .column) (q .column) (e .1))
+-- two equalities at once, and two limits
+both-equal : (a b c d : ℕ) → eqb a c && eqb b d ≡ true → (a ≡ c) × (b ≡ d)
+both-equal a b c d h = let s = and-split (eqb a c) (eqb b d) h in (eqb-true a c (s .0), eqb-true b d (s .1))
 
-pub is-place : (p : Place) → samePlace p p ≡ true
-is-place p = and-join (eqb (p .row) (p .row)) (eqb (p .column) (p .column)) (eq-eqb (p .row) (p .row) refl) (eq-eqb (p .column) (p .column) refl)
+both-below : (a b c d : ℕ) → ltb a c && ltb b d ≡ true → (a < c) × (b < d)
+both-below a b c d h = let s = and-split (ltb a c) (ltb b d) h in (ltb-true a c (s .0), ltb-true b d (s .1))
 
-holder-is : (g h : Holder) → sameHolder g h ≡ true → g ≡ h
-holder-is g h e =
-    let s = and-split (eqb (g .thread) (h .thread)) (eqb (g .element) (h .element)) e in
-    ap (λ t. holder t (g .element)) (eqb-true (g .thread) (h .thread) (s .0)) ∙ ap (holder (h .thread)) (eqb-true (g .element) (h .element) (s .1))
+same-place : (p q : Place) → samePlace p q ≡ true → p ≡ q
+same-place p q h =
+    let e = both-equal (p .row) (p .column) (q .row) (q .column) h in
+    ap (λ r. place r (p .column)) (e .0) ∙ ap (place (q .row)) (e .1)
 
-pub warp-is : (m : Matrix) (h : Holder) → inWarp m h ≡ true → (h .thread < threads) × (h .element < elements m)
-warp-is m h e =
-    let s = and-split (ltb (h .thread) threads) (ltb (h .element) (elements m)) e in
-    (ltb-true (h .thread) threads (s .0), ltb-true (h .element) (elements m) (s .1))
+same-holder : (g h : Holder) → sameHolder g h ≡ true → g ≡ h
+same-holder g h s =
+    let e = both-equal (g .thread) (g .element) (h .thread) (h .element) s in
+    ap (λ t. holder t (g .element)) (e .0) ∙ ap (holder (h .thread)) (e .1)
+
+itself : (p : Place) → samePlace p p ≡ true
+itself p = and-join (eqb (p .row) (p .row)) (eqb (p .column) (p .column)) (eq-eqb (p .row) (p .row) refl) (eq-eqb (p .column) (p .column) refl)
+
+warp-is : (m : Matrix) (h : Holder) → inWarp m h ≡ true → (h .thread < threads) × (h .element < elements m)
+warp-is m h = both-below (h .thread) (h .element) threads (elements m)
 
 matrix-is : (m : Matrix) (p : Place) → inMatrix m p ≡ true → (p .row < rows) × (p .column < columns m)
-matrix-is m p e =
-    let s = and-split (ltb (p .row) rows) (ltb (p .column) (columns m)) e in
-    (ltb-true (p .row) rows (s .0), ltb-true (p .column) (columns m) (s .1))
+matrix-is m p = both-below (p .row) (p .column) rows (columns m)
 
 -- the two tests at once, once the code's count is the matrix's own
 pub counted : (most x y n k : ℕ) (b : Bool) → n ≡ k → ltb x most && ltb y n ≡ b → ltb x most && ltb y k ≡ b
@@ -90,23 +91,24 @@ leads-back m h e =
     let all = and-split (allLeadBack m) (allHeld m) (computed m) .0 in
     let w = warp-is m h e in
     let s = and-split (inMatrix m (placeOf m h)) (sameHolder (holderAt m (placeOf m h)) h) (below-both threads (elements m) (λ t i. leadsBack m (holder t i)) all (h .thread) (h .element) (w .0) (w .1)) in
-    (s .0, holder-is (holderAt m (placeOf m h)) h (s .1))
+    (s .0, same-holder (holderAt m (placeOf m h)) h (s .1))
 
 pub is-held : (m : Matrix) (p : Place) → inMatrix m p ≡ true → (inWarp m (holderAt m p) ≡ true) × (placeOf m (holderAt m p) ≡ p)
 is-held m p e =
     let all = and-split (allLeadBack m) (allHeld m) (computed m) .1 in
     let w = matrix-is m p e in
     let s = and-split (inWarp m (holderAt m p)) (samePlace (placeOf m (holderAt m p)) p) (below-both rows (columns m) (λ r c. isHeld m (place r c)) all (p .row) (p .column) (w .0) (w .1)) in
-    (s .0, place-is (placeOf m (holderAt m p)) p (s .1))
+    (s .0, same-place (placeOf m (holderAt m p)) p (s .1))
 
 -- ---- the entry of a thread's element, and the element of an entry
 abbrev pub indexOf : Matrix → Holder → ℕ
 indexOf m h = h .thread * elements m + h .element
 
-some-element : (m : Matrix) → 0 < elements m
-some-element Matrix.A = omega arith
-some-element Matrix.B = omega arith
-some-element Matrix.C = omega arith
+-- the figures of the three: a thread has an element, no table has more than 256 entries, and no matrix more than 16 columns
+figures : (m : Matrix) → (0 < elements m) × (threads * elements m ≤ 256) × (columns m ≤ 16)
+figures Matrix.A = (omega arith, omega arith, omega arith)
+figures Matrix.B = (omega arith, omega arith, omega arith)
+figures Matrix.C = (omega arith, omega arith, omega arith)
 
 pub entry-of-index : (m : Matrix) (h : Holder) → inWarp m h ≡ true → entryOf m (indexOf m h) ≡ h
 entry-of-index m h e =
@@ -116,22 +118,11 @@ entry-of-index m h e =
 pub index-below : (m : Matrix) (h : Holder) → inWarp m h ≡ true → indexOf m h < threads * elements m
 index-below m h e = let w = warp-is m h e in digits-lt (w .0) (w .1)
 
--- no table has more than 256 entries, and no matrix more than 16 columns
 pub index-small : (m : Matrix) (h : Holder) → inWarp m h ≡ true → indexOf m h < 256
-index-small m h e = le-trans (index-below m h e) (entries m)
-  where
-    entries : (n : Matrix) → threads * elements n ≤ 256
-    entries Matrix.A = omega arith
-    entries Matrix.B = omega arith
-    entries Matrix.C = omega arith
+index-small m h e = le-trans (index-below m h e) (figures m .1)
 
 column-small : (m : Matrix) (p : Place) → inMatrix m p ≡ true → p .column < 16
-column-small m p e = le-trans (matrix-is m p e .1) (wide m)
-  where
-    wide : (n : Matrix) → columns n ≤ 16
-    wide Matrix.A = omega arith
-    wide Matrix.B = omega arith
-    wide Matrix.C = omega arith
+column-small m p e = le-trans (matrix-is m p e .1) (figures m .2)
 
 -- so a thread has four pairs at the most
 pub pair-below : (m : Matrix) (p : Place) → inMatrix m p ≡ true → pairOf p < 4
@@ -140,24 +131,10 @@ pair-below m p e = omega (arith, matrix-is m p e .0, column-small m p e)
 pub entry-in : (m : Matrix) (k : ℕ) → k < threads * elements m → inWarp m (entryOf m k) ≡ true
 entry-in m k l =
     and-join (ltb (k / elements m) threads) (ltb (k % elements m) (elements m))
-    (lt-ltb (k / elements m) threads (div-lt-iff-lt-mul (some-element m) .1 l))
-    (lt-ltb (k % elements m) (elements m) (mod-lt k (some-element m)))
+    (lt-ltb (k / elements m) threads (div-lt-iff-lt-mul (figures m .0) .1 l))
+    (lt-ltb (k % elements m) (elements m) (mod-lt k (figures m .0)))
 
 -- ---- an entry of a table
-at-map : {A B : Type 0} (f : A → B) (xs : List A) (k : ℕ) (a : A) (b : B) → k < length xs → getD (map f xs) k b ≡ f (getD xs k a)
-at-map f [] k a b l = absurd (omega arith)
-at-map f (x ∷ xs) zero a b l = refl
-at-map f (x ∷ xs) (suc k) a b l = at-map f xs k a b (omega arith)
-
-at-number : (n a k : ℕ) → k < n → getD (numbers a n) k 0 ≡ a + k
-at-number zero a k l = absurd (omega arith)
-at-number (suc n) a zero l = omega arith
-at-number (suc n) a (suc k) l = at-number n (suc a) k (omega arith) ∙ omega arith
-
-count-numbers : (n a : ℕ) → length (numbers a n) ≡ n
-count-numbers zero a = refl
-count-numbers (suc n) a = ap suc (count-numbers n (suc a))
-
 count-holders : (m : Matrix) → length (holders m) ≡ threads * elements m
 count-holders m = length-map (numbers 0 (threads * elements m)) (entryOf m) ∙ count-numbers (threads * elements m) 0
 
@@ -185,33 +162,11 @@ entry-place m h n e is =
     let same : n ≡ packed p = is ∙ ap packed (table-at m (indexOf m h) (index-below m h e) ∙ ap (placeOf m) (entry-of-index m h e)) in
     ap (λ x. place (x / 16) (x % 16)) same ∙ ap (λ r. place r (packed p % 16)) (digits-div (p .row) l) ∙ ap (place (p .row)) (digits-mod (p .row) l)
 
--- ---- a search finds the only one
-find-from : {A : Type 0} (test : A → Bool) (f : ℕ → A) (n a k : ℕ) → a ≤ k → k < a + n → test (f k) ≡ true
-    → ((j : ℕ) → j < a + n → test (f j) ≡ true → j ≡ k) → find test (map f (numbers a n)) ≡ some (f k)
-find-from test f zero a k g l t only = absurd (omega (arith, g, l))
-find-from {A = A} test f (suc n) a k g l t only =
-    here (bool (test (f a))) (λ later. find-from test f n (suc a) k later (omega (arith, l)) t (λ j b. only j (omega (arith, b))))
-  where
-    rest : Option A
-    rest = find test (map f (numbers (suc a) n))
-
-    later : test (f a) ≡ false → Dec (k ≤ a) → suc a ≤ k
-    later y (yes q) = let e : k ≡ a = omega (arith, g, q) in absurd (clash t (ap (λ x. test (f x)) e ∙ y))
-    later y (no q) = omega arith
-
-    here : (test (f a) ≡ true) ⊎ (test (f a) ≡ false) → (suc a ≤ k → rest ≡ some (f k)) → cond (test (f a)) (some (f a)) rest ≡ some (f k)
-    here (inl y) i = rw y (ap (λ x. some (f x)) (only a (omega arith) y))
-    here (inr y) i = rw y (i (later y (decLe k a)))
-
-find-only : {A : Type 0} (test : A → Bool) (f : ℕ → A) (n k : ℕ) → k < n → test (f k) ≡ true
-    → ((j : ℕ) → j < n → test (f j) ≡ true → j ≡ k) → find test (map f (numbers 0 n)) ≡ some (f k)
-find-only test f n k l t only = find-from test f n 0 k (omega arith) (omega (arith, l)) t (λ j b. only j (omega (arith, b)))
-
+-- ---- who holds a place
 -- an entry that has a place is that of the place's holder
 pub only-entry : (m : Matrix) (p : Place) (k : ℕ) → k < threads * elements m → placeOf m (entryOf m k) ≡ p → k ≡ indexOf m (holderAt m p)
 only-entry m p k l e = sym (div-add-mod' k (elements m)) ∙ ap (indexOf m) (sym (leads-back m (entryOf m k) (entry-in m k l) .1) ∙ ap (holderAt m) e)
 
--- who holds a place of a matrix
 pub holder-of : (m : Matrix) (p : Place) → inMatrix m p ≡ true → holderOf m p ≡ some (holderAt m p)
 unfolding holderOf
 holder-of m p e =
@@ -220,5 +175,5 @@ holder-of m p e =
     let same : entryOf m k ≡ holderAt m p = entry-of-index m (holderAt m p) (held .0) in
     let there : placeOf m (entryOf m k) ≡ p = ap (placeOf m) same ∙ held .1 in
     find-only (λ g. samePlace (placeOf m g) p) (entryOf m) (threads * elements m) k (index-below m (holderAt m p) (held .0))
-    (ap (λ q. samePlace q p) there ∙ is-place p) (λ j l t. only-entry m p j l (place-is (placeOf m (entryOf m j)) p t))
+    (ap (λ q. samePlace q p) there ∙ itself p) (λ j l t. only-entry m p j l (same-place (placeOf m (entryOf m j)) p t))
     ∙ ap some same

@@ -1,3 +1,4 @@
+pub mod ListLaws
 pub mod FragmentLaws
 pub mod Exact
 pub mod WorkedProved

@@ -2,7 +2,6 @@
 use Prim.Native.Nat.{ℕ, _*_, _<_}
 use mathlib.Core.Path.{_≡_, refl, subst}
 use borrow.Author.Needs.{needs}
-use native.Mathlib.Omega.{arith}
 use Rattle.fragment.specs.Fragment.{threads, elements, tableOf}
 use Rattle.fragment.specs.declared.Matrix.{Matrix}
 use Rattle.fragment.proofs.FragmentLaws.{entry-is}
