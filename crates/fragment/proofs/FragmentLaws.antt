@@ -3,33 +3,32 @@
 use Prim.Native.Nat.{ℕ, _+_, _*_, _/_, _%_, _≤_, _<_}
 use native.Mathlib.Omega.{arith}
 use mathlib.Core.Path.{_≡_, refl, sym, ap, subst, _∙_}
-use mathlib.Core.Bool.{Bool, true, _&&_}
+use mathlib.Core.Bool.{Bool, true, _&&_, cond}
 use mathlib.Core.List.{List, map}
 use mathlib.Core.Option.{some}
 use native.Mathlib.Nat.{le-trans, zero-add, mod-lt, div-add-mod', div-lt-iff-lt-mul}
 use lib.Arith.{digits-lt, digits-div, digits-mod}
 use lib.Dec.{eqb, ltb}
-use lib.ListN.{getD, length, length-map}
+use lib.ListN.{getD, length, length-map, List·getD-map}
 use borrow.Author.Tests.{eqb-true, ltb-true, lt-ltb, eq-eqb}
 use Rattle.laws.proofs.BoolLaws.{and-split, and-join}
 use Rattle.laws.proofs.TestLaws.{below, below-is}
-use Rattle.fragment.specs.Fragment.{rows, columns, threads, elements, place, holder, placeOf, numbers, entryOf, holders, tableOf, samePlace, holderOf, origin, packed, inWarp, inMatrix}
-use Rattle.fragment.proofs.ListLaws.{at-map, at-number, count-numbers, find-only}
+use Rattle.fragment.specs.Fragment.{rows, columns, threads, elements, place, holder, placeOf, countFrom, entryOf, holders, tableOf, samePlace, holderOf, origin, packed, inWarp, inMatrix, placeFound, noPlace, placeIn, heldBy, noHolder, holderIn, sidesOf}
+use Rattle.fragment.proofs.ListLaws.{at-map, at-from, count-from, find-only}
 use Rattle.fragment.specs.declared.Matrix.{Matrix}
 use Rattle.fragment.specs.declared.Place.{Place}
 use Rattle.fragment.specs.declared.Holder.{Holder}
+use Rattle.fragment.specs.declared.Sides.{Sides}
 
--- ---- who holds a place, as the code computes it: by the side that goes by groups, the side along a group, and which of a thread's pairs it is
-abbrev pub held : ℕ → ℕ → ℕ → Holder
-held across along pair = holder (across % 8 * 4 + along % 8 / 2) (pair * 2 + along % 2)
+-- ---- who holds a place, as the code computes it, from its two sides and which of a thread's pairs it is in
+abbrev pub heldAt : Sides → ℕ → Holder
+heldAt s pair = holder (s .across % 8 * 4 + s .along % 8 / 2) (pair * 2 + s .along % 2)
 
 abbrev pub pairOf : Place → ℕ
 pairOf p = p .row / 8 + p .column / 8 * 2
 
 abbrev pub holderAt : Matrix → Place → Holder
-holderAt Matrix.A p = held (p .row) (p .column) (pairOf p)
-holderAt Matrix.B p = held (p .column) (p .row) (pairOf p)
-holderAt Matrix.C p = held (p .row) (p .column) (pairOf p)
+holderAt m p = heldAt (sidesOf m p) (pairOf p)
 
 -- ---- computed: an element's place lies in the matrix and leads back to it, a place's holder is in the warp and has its place there
 abbrev sameHolder : Holder → Holder → Bool
@@ -53,6 +52,7 @@ computed Matrix.B = refl
 computed Matrix.C = refl
 
 -- ---- lifted to each of them
+-- a test of two numbers, each below a bound
 below-both : (n k : ℕ) (f : ℕ → ℕ → Bool) → below n (λ x. below k (f x)) ≡ true → (x y : ℕ) → x < n → y < k → f x y ≡ true
 below-both n k f h x y g l = below-is k (f x) (below-is n (λ z. below k (f z)) h x g) y l
 
@@ -73,6 +73,7 @@ same-holder g h s =
     let e = both-equal (g .thread) (g .element) (h .thread) (h .element) s in
     ap (λ t. holder t (g .element)) (e .0) ∙ ap (holder (h .thread)) (e .1)
 
+-- a place is itself
 itself : (p : Place) → samePlace p p ≡ true
 itself p = and-join (eqb (p .row) (p .row)) (eqb (p .column) (p .column)) (eq-eqb (p .row) (p .row) refl) (eq-eqb (p .column) (p .column) refl)
 
@@ -124,10 +125,6 @@ index-small m h e = le-trans (index-below m h e) (figures m .1)
 column-small : (m : Matrix) (p : Place) → inMatrix m p ≡ true → p .column < 16
 column-small m p e = le-trans (matrix-is m p e .1) (figures m .2)
 
--- so a thread has four pairs at the most
-pub pair-below : (m : Matrix) (p : Place) → inMatrix m p ≡ true → pairOf p < 4
-pair-below m p e = omega (arith, matrix-is m p e .0, column-small m p e)
-
 pub entry-in : (m : Matrix) (k : ℕ) → k < threads * elements m → inWarp m (entryOf m k) ≡ true
 entry-in m k l =
     and-join (ltb (k / elements m) threads) (ltb (k % elements m) (elements m))
@@ -136,7 +133,7 @@ entry-in m k l =
 
 -- ---- an entry of a table
 count-holders : (m : Matrix) → length (holders m) ≡ threads * elements m
-count-holders m = length-map (numbers 0 (threads * elements m)) (entryOf m) ∙ count-numbers (threads * elements m) 0
+count-holders m = length-map (countFrom 0 (threads * elements m)) (entryOf m) ∙ count-from (threads * elements m) 0
 
 pub table-size : (m : Matrix) → length (tableOf m) ≡ threads * elements m
 unfolding tableOf
@@ -147,20 +144,25 @@ unfolding tableOf
 table-at m k l =
     at-map (placeOf m) (holders m) k (holder 0 0) origin (subst (λ n. k < n) (sym (count-holders m)) l)
     ∙ ap (placeOf m)
-    (at-map (entryOf m) (numbers 0 (threads * elements m)) k 0 (holder 0 0) (subst (λ n. k < n) (sym (count-numbers (threads * elements m) 0)) l)
-    ∙ ap (entryOf m) (at-number (threads * elements m) 0 k l ∙ zero-add k))
+    (at-map (entryOf m) (countFrom 0 (threads * elements m)) k 0 (holder 0 0) (subst (λ n. k < n) (sym (count-from (threads * elements m) 0)) l)
+    ∙ ap (entryOf m) (at-from (threads * elements m) 0 k l ∙ zero-add k))
+
+-- by thread, then by element, each entry is the rule's
+pub table-rule : (m : Matrix) (h : Holder) → inWarp m h ≡ true → getD (tableOf m) (indexOf m h) origin ≡ placeOf m h
+table-rule m h e = table-at m (indexOf m h) (index-below m h e) ∙ ap (placeOf m) (entry-of-index m h e)
 
 -- a list of numbers that is the table has at each entry the number of the place there
-pub entry-is : (m : Matrix) (xs : List ℕ) (k : ℕ) → xs ≡ map packed (tableOf m) → k < threads * elements m → getD xs k 0 ≡ packed (getD (tableOf m) k origin)
-entry-is m xs k e l = ap (λ (ys : List ℕ). getD ys k 0) e ∙ at-map packed (tableOf m) k origin 0 (subst (λ n. k < n) (sym (table-size m)) l)
+pub entry-is : (m : Matrix) (xs : List ℕ) (k : ℕ) → xs ≡ map packed (tableOf m) → getD xs k 0 ≡ packed (getD (tableOf m) k origin)
+entry-is m xs k e = ap (λ (ys : List ℕ). getD ys k 0) e ∙ List·getD-map packed (tableOf m) k origin
 
 -- the number at the entry of a thread's element has the two digits of its place
 pub entry-place : (m : Matrix) (h : Holder) (n : ℕ) → inWarp m h ≡ true → n ≡ packed (getD (tableOf m) (indexOf m h) origin) → place (n / 16) (n % 16) ≡ placeOf m h
 entry-place m h n e is =
     let p : Place = placeOf m h in
     let l : p .column < 16 = column-small m p (leads-back m h e .0) in
-    let same : n ≡ packed p = is ∙ ap packed (table-at m (indexOf m h) (index-below m h e) ∙ ap (placeOf m) (entry-of-index m h e)) in
-    ap (λ x. place (x / 16) (x % 16)) same ∙ ap (λ r. place r (packed p % 16)) (digits-div (p .row) l) ∙ ap (place (p .row)) (digits-mod (p .row) l)
+    ap (λ x. place (x / 16) (x % 16)) (is ∙ ap packed (table-rule m h e))
+    ∙ ap (λ r. place r (packed p % 16)) (digits-div (p .row) l)
+    ∙ ap (place (p .row)) (digits-mod (p .row) l)
 
 -- ---- who holds a place
 -- an entry that has a place is that of the place's holder
@@ -177,3 +179,10 @@ holder-of m p e =
     find-only (λ g. samePlace (placeOf m g) p) (entryOf m) (threads * elements m) k (index-below m (holderAt m p) (held .0))
     (ap (λ q. samePlace q p) there ∙ itself p) (λ j l t. only-entry m p j l (same-place (placeOf m (entryOf m j)) p t))
     ∙ ap some same
+
+-- ---- the answers, as the test of each goes
+pub place-in : (m : Matrix) (h : Holder) (b : Bool) → inWarp m h ≡ b → placeIn (some m) h ≡ cond b (placeFound (placeOf m h)) noPlace
+place-in m h b e = ap (λ x. cond x (placeFound (placeOf m h)) noPlace) e
+
+pub holder-in : (m : Matrix) (p : Place) (b : Bool) → inMatrix m p ≡ b → holderIn (some m) p ≡ cond b (heldBy (holderOf m p)) noHolder
+holder-in m p b e = ap (λ x. cond x (heldBy (holderOf m p)) noHolder) e

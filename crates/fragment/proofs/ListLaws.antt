@@ -10,7 +10,7 @@ use mathlib.Core.Logic.{_⊎_, inl, inr}
 use lib.ListN.{getD, length}
 use Rattle.laws.specs.Tests.{find}
 use Rattle.laws.proofs.BoolLaws.{clash, bool}
-use Rattle.fragment.specs.Fragment.{numbers}
+use Rattle.fragment.specs.Fragment.{countFrom}
 
 -- ---- an entry
 pub at-map : {A B : Type 0} (f : A → B) (xs : List A) (k : ℕ) (a : A) (b : B) → k < length xs → getD (map f xs) k b ≡ f (getD xs k a)
@@ -18,24 +18,24 @@ at-map f [] k a b l = absurd (omega arith)
 at-map f (x ∷ xs) zero a b l = refl
 at-map f (x ∷ xs) (suc k) a b l = at-map f xs k a b (omega arith)
 
-pub at-number : (n a k : ℕ) → k < n → getD (numbers a n) k 0 ≡ a + k
-at-number zero a k l = absurd (omega arith)
-at-number (suc n) a zero l = omega arith
-at-number (suc n) a (suc k) l = at-number n (suc a) k (omega arith) ∙ omega arith
+pub at-from : (n a k : ℕ) → k < n → getD (countFrom a n) k 0 ≡ a + k
+at-from zero a k l = absurd (omega arith)
+at-from (suc n) a zero l = omega arith
+at-from (suc n) a (suc k) l = at-from n (suc a) k (omega arith) ∙ omega arith
 
-pub count-numbers : (n a : ℕ) → length (numbers a n) ≡ n
-count-numbers zero a = refl
-count-numbers (suc n) a = ap suc (count-numbers n (suc a))
+pub count-from : (n a : ℕ) → length (countFrom a n) ≡ n
+count-from zero a = refl
+count-from (suc n) a = ap suc (count-from n (suc a))
 
 -- ---- a search finds the only one
 find-from : {A : Type 0} (test : A → Bool) (f : ℕ → A) (n a k : ℕ) → a ≤ k → k < a + n → test (f k) ≡ true
-    → ((j : ℕ) → j < a + n → test (f j) ≡ true → j ≡ k) → find test (map f (numbers a n)) ≡ some (f k)
+    → ((j : ℕ) → j < a + n → test (f j) ≡ true → j ≡ k) → find test (map f (countFrom a n)) ≡ some (f k)
 find-from test f zero a k g l t only = absurd (omega (arith, g, l))
 find-from {A = A} test f (suc n) a k g l t only =
     here (bool (test (f a))) (λ later. find-from test f n (suc a) k later (omega (arith, l)) t (λ j b. only j (omega (arith, b))))
   where
     rest : Option A
-    rest = find test (map f (numbers (suc a) n))
+    rest = find test (map f (countFrom (suc a) n))
 
     later : test (f a) ≡ false → Dec (k ≤ a) → suc a ≤ k
     later y (yes q) = let e : k ≡ a = omega (arith, g, q) in absurd (clash t (ap (λ x. test (f x)) e ∙ y))
@@ -46,5 +46,5 @@ find-from {A = A} test f (suc n) a k g l t only =
     here (inr y) i = rw y (i (later y (decLe k a)))
 
 pub find-only : {A : Type 0} (test : A → Bool) (f : ℕ → A) (n k : ℕ) → k < n → test (f k) ≡ true
-    → ((j : ℕ) → j < n → test (f j) ≡ true → j ≡ k) → find test (map f (numbers 0 n)) ≡ some (f k)
+    → ((j : ℕ) → j < n → test (f j) ≡ true → j ≡ k) → find test (map f (countFrom 0 n)) ≡ some (f k)
 find-only test f n k l t only = find-from test f n 0 k (omega arith) (omega (arith, l)) t (λ j b. only j (omega (arith, b)))

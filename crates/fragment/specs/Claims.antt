@@ -17,7 +17,7 @@ pub record Once (table : List Place) (p : Place) : Type 0 where
   pub stands : getD table entry origin ≡ p
   pub only : (k : ℕ) → k < length table → getD table k origin ≡ p → k ≡ entry
 
--- The table of a matrix.
+-- The table of a matrix. The code's constant is this table, each place as a number (`packed`, the contract of `entry`).
 pub record TableExact (m : Matrix) : Type 0 where
   -- so many entries, one for each element of each thread
   pub size : length (tableOf m) ≡ threads * elements m
@@ -34,5 +34,11 @@ pub record BothWays (n : ℕ) : Type 0 where
   pub back : (t i : ℕ) (p : Place) → placeRead n t i ≡ placeFound p → holderRead n (p .row) (p .column) ≡ holderFound (holder t i)
   -- the holder of a row and column has its place there
   pub out : (r c : ℕ) (h : Holder) → holderRead n r c ≡ holderFound h → placeRead n (h .thread) (h .element) ≡ placeFound (place r c)
-  -- and no place of the matrix is without a holder
-  pub held : (m : Matrix) (r c : ℕ) → matrixOf n ≡ some m → inMatrix m (place r c) ≡ true → holderRead n r c .reason ≡ 0
+  -- every element of the warp has a place, and every place of the matrix a holder
+  pub all-placed : (m : Matrix) (t i : ℕ) → matrixOf n ≡ some m → inWarp m (holder t i) ≡ true → placeRead n t i .reason ≡ 0
+  pub all-held : (m : Matrix) (r c : ℕ) → matrixOf n ≡ some m → inMatrix m (place r c) ≡ true → holderRead n r c .reason ≡ 0
+
+-- For each of the three matrices, and for every number.
+pub record FragmentsExact : Type 0 where
+  pub tables : (m : Matrix) → TableExact m
+  pub ways : (n : ℕ) → BothWays n

@@ -10,6 +10,7 @@ use Rattle.fragment.specs.declared.Matrix.{Matrix}
 use Rattle.fragment.specs.declared.MatrixRead.{MatrixRead}
 use Rattle.fragment.specs.declared.Place.{Place}
 use Rattle.fragment.specs.declared.Holder.{Holder}
+use Rattle.fragment.specs.declared.Sides.{Sides}
 use Rattle.fragment.specs.declared.PlaceRead.{PlaceRead}
 use Rattle.fragment.specs.declared.HolderRead.{HolderRead}
 
@@ -50,45 +51,44 @@ place r c = record { row = r; column = c }
 abbrev pub holder : ℕ → ℕ → Holder
 holder t i = record { thread = t; element = i }
 
--- the quotient and the remainder of a thread by 4: its group, and its number in the group
+-- g and p, the quotient and the remainder of a thread by 4: its group, and its number in the group
 abbrev pub group : ℕ → ℕ
 group t = t / 4
 
 abbrev pub inGroup : ℕ → ℕ
 inGroup t = t % 4
 
--- where the threads of a group stand side by side, two elements each
-abbrev pub beside : ℕ → ℕ → ℕ
-beside t i = 2 * inGroup t + i % 2
+-- 2p + (i mod 2): the place along a group, two elements to a thread
+abbrev pub along : ℕ → ℕ → ℕ
+along t i = 2 * inGroup t + i % 2
 
--- A: row g for elements 0, 1, 4 and 5 and g + 8 for the others; 8 columns more from element 4 on.
--- B: 8 rows more from element 2 on; column g.
--- C: row g for elements 0 and 1, and g + 8 for 2 and 3.
+-- the row. A: g for elements 0, 1, 4 and 5, else g + 8. B: along the group, 8 more from element 2 on. C: g for elements 0 and 1, else g + 8.
 abbrev pub rowOf : Matrix → ℕ → ℕ → ℕ
 rowOf Matrix.A t i = cond (among i (0 ∷ 1 ∷ 4 ∷ 5 ∷ [])) (group t) (group t + 8)
-rowOf Matrix.B t i = cond (leb 2 i) (beside t i + 8) (beside t i)
+rowOf Matrix.B t i = cond (leb 2 i) (along t i + 8) (along t i)
 rowOf Matrix.C t i = cond (among i (0 ∷ 1 ∷ [])) (group t) (group t + 8)
 
+-- the column. A: along the group, 8 more from element 4 on. B: g. C: along the group.
 abbrev pub columnOf : Matrix → ℕ → ℕ → ℕ
-columnOf Matrix.A t i = cond (leb 4 i) (beside t i + 8) (beside t i)
+columnOf Matrix.A t i = cond (leb 4 i) (along t i + 8) (along t i)
 columnOf Matrix.B t i = group t
-columnOf Matrix.C t i = beside t i
+columnOf Matrix.C t i = along t i
 
 -- the rule: where a thread's element stands
 abbrev pub placeOf : Matrix → Holder → Place
 placeOf m h = place (rowOf m (h .thread) (h .element)) (columnOf m (h .thread) (h .element))
 
 -- n numbers from a on
-abbrev pub numbers : ℕ → ℕ → List ℕ
-numbers a zero = []
-numbers a (suc n) = a ∷ numbers (suc a) n
+abbrev pub countFrom : ℕ → ℕ → List ℕ
+countFrom a zero = []
+countFrom a (suc n) = a ∷ countFrom (suc a) n
 
 -- the entries of a table go by thread, then by element
 abbrev pub entryOf : Matrix → ℕ → Holder
 entryOf m k = holder (k / elements m) (k % elements m)
 
 abbrev pub holders : Matrix → List Holder
-holders m = map (entryOf m) (numbers 0 (threads * elements m))
+holders m = map (entryOf m) (countFrom 0 (threads * elements m))
 
 -- the table of a matrix: the place of each
 unfoldable pub tableOf : Matrix → List Place
@@ -101,10 +101,11 @@ origin = place 0 0
 abbrev pub packed : Place → ℕ
 packed p = p .row * 16 + p .column
 
--- the reverse: the one whose place it is
+-- two places are one
 abbrev pub samePlace : Place → Place → Bool
 samePlace p q = eqb (p .row) (q .row) && eqb (p .column) (q .column)
 
+-- the reverse: the one whose place it is
 unfoldable pub holderOf : Matrix → Place → Option Holder
 holderOf m p = find (λ h. samePlace (placeOf m h) p) (holders m)
 
@@ -136,7 +137,7 @@ placeIn (some m) h = cond (inWarp m h) (placeFound (placeOf m h)) noPlace
 unfoldable pub placeRead : ℕ → ℕ → ℕ → PlaceRead
 placeRead n t i = placeIn (matrixOf n) (holder t i)
 
--- who holds a row and column of the matrix of a number
+-- who holds a row and column of the matrix of a number; a place of the matrix is never without a holder (`all-held` in Claims.antt)
 abbrev pub heldBy : Option Holder → HolderRead
 heldBy none = noHolder
 heldBy (some h) = holderFound h
@@ -154,3 +155,9 @@ placeNumbers p = p .row ∷ p .column ∷ []
 
 abbrev pub holderNumbers : Holder → List ℕ
 holderNumbers h = h .thread ∷ h .element ∷ []
+
+-- for the code: which side of a matrix goes by groups, and which along a group
+abbrev pub sidesOf : Matrix → Place → Sides
+sidesOf Matrix.A p = record { across = p .row; along = p .column }
+sidesOf Matrix.B p = record { across = p .column; along = p .row }
+sidesOf Matrix.C p = record { across = p .row; along = p .column }

@@ -1,18 +1,20 @@
--- Worked examples: elements of each matrix by hand, and both sides of each limit, so that a wrong figure in a definition is seen here. Assumes nothing.
+-- Worked examples: the sizes of the tables, elements of each matrix by hand, and both sides of each limit, so that a wrong figure in a definition is seen here. Assumes nothing.
 use Prim.Native.Nat.{ℕ}
 use mathlib.Core.List.{List, [], _∷_}
 use Rattle.laws.specs.Worked.{Gives}
-use Rattle.fragment.specs.Fragment.{placeRead, holderRead}
+use lib.ListN.{length}
+use Rattle.fragment.specs.Fragment.{tableOf, placeRead, holderRead}
+use Rattle.fragment.specs.declared.Matrix.{Matrix}
 
 abbrev pub Three : Type 0
 Three = ℕ × ℕ × ℕ
 
 -- a matrix, a thread and an element; the reason, the row and the column
-abbrev pub placed : Three → Three
-placed x = let a = placeRead (x .0) (x .1) (x .2) in (a .reason, a .place .row, a .place .column)
+abbrev pub place : Three → Three
+place x = let a = placeRead (x .0) (x .1) (x .2) in (a .reason, a .place .row, a .place .column)
 
-abbrev pub places : List (Three × Three)
-places =
+abbrev pub byThread : List (Three × Three)
+byThread =
     ((0, 0, 0), (0, 0, 0))
     ∷ ((0, 0, 7), (0, 8, 9))
     ∷ ((0, 3, 2), (0, 8, 6))
@@ -43,11 +45,11 @@ places =
     ∷ []
 
 -- a matrix, a row and a column; the reason, the thread and the element
-abbrev pub held : Three → Three
-held x = let a = holderRead (x .0) (x .1) (x .2) in (a .reason, a .holder .thread, a .holder .element)
+abbrev pub holder : Three → Three
+holder x = let a = holderRead (x .0) (x .1) (x .2) in (a .reason, a .holder .thread, a .holder .element)
 
-abbrev pub holders : List (Three × Three)
-holders =
+abbrev pub byPlace : List (Three × Three)
+byPlace =
     ((0, 0, 0), (0, 0, 0))
     ∷ ((0, 8, 9), (0, 0, 7))
     ∷ ((0, 5, 3), (0, 21, 1))
@@ -68,5 +70,6 @@ holders =
     ∷ []
 
 pub record Worked : Type 0 where
-  pub by-thread : Gives placed places
-  pub by-place : Gives held holders
+  pub sizes : Gives (λ m. length (tableOf m)) ((Matrix.A, 256) ∷ (Matrix.B, 128) ∷ (Matrix.C, 128) ∷ [])
+  pub by-thread : Gives place byThread
+  pub by-place : Gives holder byPlace

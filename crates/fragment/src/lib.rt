@@ -1,12 +1,12 @@
 // The fragments of the warp-level `mma.m16n8k16` on f16: which thread of a warp holds which element of the matrices A, B and C.
-ghost use Prim.Native.Nat.{_+_, _*_, _/_, _%_, _<_};
+ghost use Prim.Native.Nat.{_*_, _<_};
 ghost use mathlib.Core.Path.{_≡_};
 ghost use mathlib.Core.Bool.{true};
 ghost use mathlib.Core.Option.{some};
 ghost use lib.ListN.{getD};
 ghost use Rattle.fragment.specs.Fragment as F;
 
-pub mod tables;
+mod tables;
 
 pub enum Matrix {
     A,
@@ -30,6 +30,12 @@ pub struct Place {
 pub struct Holder {
     pub thread: u32,
     pub element: u32,
+}
+
+// A row and a column by what they count: the groups, and what lies along a group.
+pub struct Sides {
+    pub across: u32,
+    pub along: u32,
 }
 
 // 0 and the place, or 22 and zeros.
@@ -107,27 +113,36 @@ fn place_at(m: Matrix, thread: u32, element: u32) -> Place
     }
 }
 
-// One side of a matrix goes by the thread's group, the other by its number in the group; `pair` is which of its pairs of elements.
-fn held(across: u32, along: u32, pair: u32) -> Holder
-    requires { ⌜ pair < 4 ⌝ }
-    ensures { λ r. ⌜ r ≡ F.holder (across % 8 * 4 + along % 8 / 2) (pair * 2 + along % 2) ⌝ }
+// The two sides of a place.
+fn sides_of(m: Matrix, row: u32, column: u32) -> Sides
+    ensures { λ r. ⌜ r ≡ F.sidesOf m (F.place row column) ⌝ }
 {
-    Holder {
-        thread: across % 8 * 4 + along % 8 / 2,
-        element: pair * 2 + along % 2,
+    match m {
+        Matrix::A => Sides {
+            across: row,
+            along: column,
+        },
+        Matrix::B => Sides {
+            across: column,
+            along: row,
+        },
+        Matrix::C => Sides {
+            across: row,
+            along: column,
+        },
     }
 }
 
-// Who holds a place. A thread has one pair in each block of 8 by 8, counted down and then to the right.
+// Who holds a place. A thread has one pair of elements in each block of 8 by 8; the blocks are counted down, then to the right.
 fn holder_at(m: Matrix, row: u32, column: u32) -> Holder
     requires { ⌜ F.inMatrix m (F.place row column) ≡ true ⌝ }
     ensures { λ r. ⌜ F.holderOf m (F.place row column) ≡ some r ⌝ }
 {
     let pair = row / 8 + column / 8 * 2;
-    match m {
-        Matrix::A => held(row, column, pair),
-        Matrix::B => held(column, row, pair),
-        Matrix::C => held(row, column, pair),
+    let s = sides_of(m, row, column);
+    Holder {
+        thread: s.across % 8 * 4 + s.along % 8 / 2,
+        element: pair * 2 + s.along % 2,
     }
 }
 

@@ -1,4 +1,4 @@
--- `fragment::entry` meets its contract: each table is computed to be the matrix's, entry by entry. Assumes nothing.
+-- `fragment::entry` meets its contract: each table is computed to be the matrix's, as a whole. Assumes nothing.
 use Prim.Native.Nat.{ℕ, _*_, _<_}
 use mathlib.Core.Path.{_≡_, refl, subst}
 use borrow.Author.Needs.{needs}
@@ -31,15 +31,15 @@ array-read-result-3 c = within (c .enum-told3 .given .1) (c .before .before .pre
 
 returns : tie.Need-returns
 unfolding tableOf
-returns c = rw (c .enum-told .given .1) (entry-is Matrix.A _ (c .before .before .args .k) refl (within (c .enum-told .given .1) (c .before .before .pre)))
+returns c = rw (c .enum-told .given .1) (entry-is Matrix.A _ (c .before .before .args .k) refl)
 
 returns-2 : tie.Need-returns-2
 unfolding tableOf
-returns-2 c = rw (c .enum-told2 .given .1) (entry-is Matrix.B _ (c .before .before .args .k) refl (within (c .enum-told2 .given .1) (c .before .before .pre)))
+returns-2 c = rw (c .enum-told2 .given .1) (entry-is Matrix.B _ (c .before .before .args .k) refl)
 
 returns-3 : tie.Need-returns-3
 unfolding tableOf
-returns-3 c = rw (c .enum-told3 .given .1) (entry-is Matrix.C _ (c .before .before .args .k) refl (within (c .enum-told3 .given .1) (c .before .before .pre)))
+returns-3 c = rw (c .enum-told3 .given .1) (entry-is Matrix.C _ (c .before .before .args .k) refl)
 
 pub entry-spec : {M : Type 1} → statement M
 entry-spec =

@@ -1,9 +1,9 @@
 -- `fragment::holder_in` meets its contract: the code's test is that of the definition. Assumes nothing.
 use mathlib.Core.Path.{sym, ap, _∙_}
-use mathlib.Core.Bool.{Bool, true, false, cond}
+use mathlib.Core.Bool.{true, false}
 use borrow.Author.Needs.{needs}
-use Rattle.fragment.specs.Fragment.{rows, columns, place, holderOf, heldBy, noHolder}
-use Rattle.fragment.proofs.FragmentLaws.{counted}
+use Rattle.fragment.specs.Fragment.{rows, columns, place, heldBy}
+use Rattle.fragment.proofs.FragmentLaws.{counted, holder-in}
 use Rattle.fragment.proofs.holder_in.Statement.{statement}
 use Rattle.fragment.proofs.holder_in.Tie as tie
 
@@ -23,7 +23,7 @@ returns c =
     let a = c .before .before .before .args in
     let n = c .before .before .columns in
     sym (ap heldBy (c .holder-at .ensures))
-    ∙ sym (ap (λ (b : Bool). cond b (heldBy (holderOf (a .m) (place (a .row) (a .column)))) noHolder)
+    ∙ sym (holder-in (a .m) (place (a .row) (a .column)) true
     (counted rows (a .row) (a .column) (n .result) (columns (a .m)) true (n .ensures) (c .before .if1 .taken)))
 
 returns-2 : tie.Need-returns-2
@@ -31,7 +31,7 @@ returns-2 c =
     let a = c .before .before .before .args in
     let n = c .before .before .columns in
     c .no-holder .ensures
-    ∙ sym (ap (λ (b : Bool). cond b (heldBy (holderOf (a .m) (place (a .row) (a .column)))) noHolder)
+    ∙ sym (holder-in (a .m) (place (a .row) (a .column)) false
     (counted rows (a .row) (a .column) (n .result) (columns (a .m)) false (n .ensures) (c .before .if1 .left)))
 
 pub holder-in-spec : {M : Type 1} → statement M

@@ -1,9 +1,9 @@
 -- `fragment::place_in` meets its contract: the code's test is that of the definition. Assumes nothing.
 use mathlib.Core.Path.{sym, ap, _∙_}
-use mathlib.Core.Bool.{Bool, true, false, cond}
+use mathlib.Core.Bool.{true, false}
 use borrow.Author.Needs.{needs}
-use Rattle.fragment.specs.Fragment.{threads, elements, holder, placeOf, placeFound, noPlace}
-use Rattle.fragment.proofs.FragmentLaws.{counted}
+use Rattle.fragment.specs.Fragment.{threads, elements, holder, placeFound}
+use Rattle.fragment.proofs.FragmentLaws.{counted, place-in}
 use Rattle.fragment.proofs.place_in.Statement.{statement}
 use Rattle.fragment.proofs.place_in.Tie as tie
 
@@ -23,7 +23,7 @@ returns c =
     let a = c .before .before .before .args in
     let n = c .before .before .elements in
     ap placeFound (c .place-at .ensures)
-    ∙ sym (ap (λ (b : Bool). cond b (placeFound (placeOf (a .m) (holder (a .thread) (a .element)))) noPlace)
+    ∙ sym (place-in (a .m) (holder (a .thread) (a .element)) true
     (counted threads (a .thread) (a .element) (n .result) (elements (a .m)) true (n .ensures) (c .before .if1 .taken)))
 
 returns-2 : tie.Need-returns-2
@@ -31,7 +31,7 @@ returns-2 c =
     let a = c .before .before .before .args in
     let n = c .before .before .elements in
     c .no-place .ensures
-    ∙ sym (ap (λ (b : Bool). cond b (placeFound (placeOf (a .m) (holder (a .thread) (a .element)))) noPlace)
+    ∙ sym (place-in (a .m) (holder (a .thread) (a .element)) false
     (counted threads (a .thread) (a .element) (n .result) (elements (a .m)) false (n .ensures) (c .before .if1 .left)))
 
 pub place-in-spec : {M : Type 1} → statement M
