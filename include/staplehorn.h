@@ -29,8 +29,8 @@ extern "C" {
 #endif
 
 /* The version of this header, and the same as major * 10,000 + minor * 100 + patch. */
-#define STAPLEHORN_VERSION "0.6.0"
-#define STAPLEHORN_VERSION_NUMBER 600
+#define STAPLEHORN_VERSION "0.5.1"
+#define STAPLEHORN_VERSION_NUMBER 501
 
 /* Bytes of stack that are enough for any call. */
 #define STAPLEHORN_STACK 32768
@@ -185,24 +185,26 @@ uint32_t staplehorn_shared_encode(const uint64_t fields[STAPLEHORN_SHARED_FIELDS
 /* 0 if a request for that many columns is legal, else 9. */
 uint32_t staplehorn_request(uint32_t columns);
 
-/* Fragments: which thread of a warp holds which element of a matrix of mma.m16n8k16 on f16. Both places of an out-parameter are
-   always written; on a refusal, which is 22, both hold 0. */
+/* Fragments: which thread of a warp holds which element of a matrix of mma.m16n8k16. A and B are f16, C and D f16 or f32. Threads
+   (%laneid), elements, rows and columns count from 0. Both numbers of an answer are always written; a refusal is 22, and both are
+   then 0. */
 
-/* The matrices. D lies as C. */
+/* The matrices. D has the layout of C: ask for C. */
 enum staplehorn_matrix {
     STAPLEHORN_MATRIX_A, /* 16 rows, 16 columns; 8 elements in each of the 32 threads */
     STAPLEHORN_MATRIX_B, /* 16 rows, which go along K, and 8 columns; 4 elements in each */
     STAPLEHORN_MATRIX_C  /* 16 rows, 8 columns; 4 elements in each */
 };
 
-/* Where an element stands. All four numbers count from 0. */
+/* Where an element stands. */
 enum staplehorn_place_field {
     STAPLEHORN_PLACE_ROW,
     STAPLEHORN_PLACE_COLUMN,
     STAPLEHORN_PLACE_FIELDS
 };
 
-/* Who holds it: the thread in its warp, and the element in the thread's registers. */
+/* Who holds it: the thread, and which of its elements, as the PTX ISA numbers them (a0, a1, ..). Two elements of f16 share a
+   register: element i is in register i / 2, the even one in the lower half. */
 enum staplehorn_holder_field {
     STAPLEHORN_HOLDER_THREAD,
     STAPLEHORN_HOLDER_ELEMENT,

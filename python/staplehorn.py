@@ -14,7 +14,7 @@ import enum
 import os
 from typing import List, NamedTuple
 
-SONAME = "libstaplehorn.so.0.6"
+SONAME = "libstaplehorn.so.0.5"
 REPORT_ROOM = 102391
 STATEMENT_ROOM = 2560
 MOST_ALLOCS = 4095
@@ -127,7 +127,7 @@ class Place(NamedTuple):
 
 
 class Holder(NamedTuple):
-    """Who holds an element: the thread in its warp, and the element in the thread's registers."""
+    """Who holds an element: the thread in its warp (%laneid), and which of its elements, as the PTX ISA numbers them (a0, a1, ..)."""
 
     thread: int
     element: int
@@ -291,10 +291,12 @@ def _fragment(function, matrix, **numbers):
 
 
 def fragment_place(matrix, thread, element):
-    """Where a thread's element of a matrix ('A', 'B' or 'C') of mma.m16n8k16 on f16 stands; D lies as C. Raises Refused (22)."""
+    """Where a thread's element of a matrix of mma.m16n8k16 stands: 'A' or 'B' of f16, 'C' of f16 or f32; D has the layout of C. All
+    numbers count from 0. Raises Refused (22) for another matrix, a thread over 31, or an element over 7 ('A') or 3."""
     return Place(*_fragment(_c.staplehorn_fragment_place, matrix, thread=thread, element=element))
 
 
 def fragment_holder(matrix, row, column):
-    """Who holds the element of a row and a column of a matrix: the reverse of fragment_place. Raises Refused (22)."""
+    """Who holds the element of a row and a column of a matrix: the reverse of fragment_place. Raises Refused (22) for another matrix, a
+    row over 15, or a column over 15 ('A') or 7."""
     return Holder(*_fragment(_c.staplehorn_fragment_holder, matrix, row=row, column=column))

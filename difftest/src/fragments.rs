@@ -62,7 +62,7 @@ const KNOWN: [[u32; 5]; 18] = [
     [2, 31, 3, 15, 7],
 ];
 
-/// A matrix, a thread and an element, or a row and a column, of which one is outside: the column 8 is one of A and none of C.
+/// Numbers of which one is outside. Column 8 is inside A, and outside B and C.
 const NO_PLACE: [[u32; 3]; 7] = [[0, 32, 0], [0, 0, 8], [1, 32, 0], [1, 0, 4], [2, 32, 0], [2, 0, 4], [3, 0, 0]];
 const NO_HOLDER: [[u32; 3]; 7] = [[0, 16, 0], [0, 0, 16], [1, 16, 0], [1, 0, 8], [2, 16, 0], [2, 0, 8], [3, 0, 0]];
 
@@ -79,15 +79,17 @@ fn known(counts: &mut Counts, place: Way, holder: Way) {
     }
 }
 
-/// What the command draws: a line of column numbers, then a line for each row, its number and then the reference's.
+/// What the command draws: a line of column numbers, then for each row its number and the reference's line.
 fn drawings(counts: &mut Counts, command: &str) {
     for (matrix, name) in [(reference::A, "A"), (reference::B, "B"), (reference::C, "C"), (reference::C, "D")] {
         let drawn = Command::new(command).arg(name).output().expect("the command runs");
         let drawn = String::from_utf8(drawn.stdout).expect("a drawing is text");
-        let theirs: String = reference::drawing(matrix).expect("a matrix is drawn");
-        let theirs: Vec<String> = theirs.lines().enumerate().map(|(row, cells)| format!("{row:>2}  {cells}")).collect();
-        let ours: Vec<String> = drawn.lines().skip(1).map(String::from).collect();
-        counts.compare("drawing", 0, ours, theirs, || name.into());
+        let theirs = reference::drawing(matrix).expect("a matrix is drawn");
+        let columns = theirs.lines().next().map_or(0, |line| line.split_whitespace().count());
+        let mut wanted: String = "   ".into();
+        wanted.extend((0..columns).map(|column| format!(" {column:>4}")));
+        wanted.extend(theirs.lines().enumerate().map(|(row, cells)| format!("\n{row:>2}  {cells}")));
+        counts.compare("drawing", 0, drawn, wanted + "\n", || name.into());
     }
 }
 
@@ -99,10 +101,18 @@ pub fn run(command: &str) -> bool {
     known(&mut counts, proved::fragment_place, proved::fragment_holder);
     compare(&mut counts, proved::fragment_place, proved::fragment_holder);
     // 256, 128 and 128 elements, and as many places
-    counts.finish(
-        "fragments",
-        &[("fragment place", 0, 512), ("fragment place", 22, 1_000_000), ("fragment holder", 0, 512), ("fragment holder", 22, 1_000_000)],
-    )
+    let wanted = [
+        ("drawing", 0, 4),
+        ("known place", 0, 36),
+        ("known place", 22, 14),
+        ("known holder", 0, 36),
+        ("known holder", 22, 14),
+        ("fragment place", 0, 512),
+        ("fragment place", 22, 1_000_000),
+        ("fragment holder", 0, 512),
+        ("fragment holder", 22, 1_000_000),
+    ];
+    counts.finish("fragments", &wanted)
 }
 
 #[cfg(test)]
@@ -138,7 +148,7 @@ mod tests {
         }
         let holders: [Way; 3] = [
             |m, r, c| match proved::fragment_holder(m, r, c) {
-                (0, [t, i]) if (m, r, c) == (2, 15, 7) => (0, [t, i - 1]),
+                (0, [t, i]) if (m, r, c) == (2, 9, 3) => (0, [t, i - 1]),
                 answer => answer,
             },
             |m, r, c| proved::fragment_holder(m, r, if m == 2 && c == 8 { 0 } else { c }),

@@ -1,9 +1,9 @@
-//! Fragments: which thread of a warp holds which element of a matrix of `mma.m16n8k16` on f16.
+//! Fragments: which thread of a warp holds which element of a matrix of `mma.m16n8k16`. A and B are f16, C and D f16 or f32.
 
 use crate::c;
 use crate::Reason;
 
-/// The matrices of the mma. D lies as C.
+/// The matrices of the mma. D has the layout of C: ask for C.
 #[derive(Clone, Copy, PartialEq, Eq, Hash, Debug)]
 pub enum Matrix {
     /// 16 rows, 16 columns; 8 elements in each of the 32 threads.
@@ -21,7 +21,8 @@ pub struct Place {
     pub column: u32,
 }
 
-/// Who holds an element: the thread in its warp, and the element in the thread's registers, both from 0.
+/// Who holds an element: the thread in its warp (`%laneid`), and which of its elements, as the PTX ISA numbers them (a0, a1, ..).
+/// Two elements of f16 share a register: element i is in register i / 2, the even one in the lower half.
 #[derive(Clone, Copy, PartialEq, Eq, Hash, Debug)]
 pub struct Holder {
     pub thread: u32,

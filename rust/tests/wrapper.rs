@@ -216,8 +216,11 @@ fn fragments_have_every_place_once() {
             let refused = (row >= 16 || column >= columns).then_some(Reason::Fragment);
             assert_eq!(matrix.holder(row, column).err(), refused, "{matrix:?} {row} {column}");
         }
-        assert_eq!(matrix.place(u32::MAX, u32::MAX), Err(Reason::Fragment));
-        assert_eq!(matrix.holder(u32::MAX, u32::MAX), Err(Reason::Fragment));
+        // no number is cut to 8 or 16 bits
+        for (first, second) in [(u32::MAX, u32::MAX), (256, 0), (0, 256), (65_536, 0), (0, 65_536)] {
+            assert_eq!(matrix.place(first, second), Err(Reason::Fragment));
+            assert_eq!(matrix.holder(first, second), Err(Reason::Fragment));
+        }
     }
 }
 
