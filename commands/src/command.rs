@@ -36,9 +36,10 @@ pub fn standard(number: c_int) -> ManuallyDrop<File> {
     ManuallyDrop::new(unsafe { File::from_raw_fd(number) })
 }
 
-/// One line on standard error. Where it cannot be written there is nowhere to say so.
+/// One line on standard error, a byte that does not print as \x and two digits. Where it cannot be written there is nowhere to say so.
 pub fn complain(program: &str, text: &str) {
-    let _ = standard(2).write_all(format!("{program}: {text}\n").as_bytes());
+    let line: String = text.chars().map(|c| if c.is_control() { format!("\\x{:02x}", c as u32) } else { c.into() }).collect();
+    let _ = standard(2).write_all(format!("{program}: {line}\n").as_bytes());
 }
 
 /// Writes to standard output.

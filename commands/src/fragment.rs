@@ -37,23 +37,34 @@ impl Named {
         ]
     }
 
-    /// The whole matrix: in each place the thread and its element, under the numbers of the columns and behind those of the rows.
+    /// The whole matrix: in each place thread:element, under the numbers of the columns and behind those of the rows.
     pub fn drawn(self) -> String {
-        let [rows, columns, ..] = self.sizes();
-        let cell = |row, column| match self.matrix.holder(row, column) {
-            Ok(Holder { thread, element }) => format!("{thread}:{element}"),
-            Err(_) => "-".into(),
-        };
-        let mut table: Vec<Vec<String>> = vec![(0..columns).map(|column| column.to_string()).collect()];
-        table.extend((0..rows).map(|row| (0..columns).map(|column| cell(row, column)).collect()));
-        let width = table.iter().flatten().map(String::len).max().unwrap_or(0);
-        let before = rows.saturating_sub(1).to_string().len();
-        let names = std::iter::once(String::new()).chain((0..rows).map(|row| row.to_string()));
-        let line = |(name, cells): (String, &Vec<String>)| {
+        let held = |row, column| self.matrix.holder(row, column).ok().map(|h: Holder| format!("{}:{}", h.thread, h.element));
+        let rows = (0..).map_while(|row| {
+            let cells: Vec<String> = (0..).map_while(|column| held(row, column)).collect();
+            (!cells.is_empty()).then(|| (row.to_string(), cells))
+        });
+        let mut table: Vec<(String, Vec<String>)> = rows.collect();
+        let columns = table.first().map_or(0, |(_, cells)| cells.len());
+        table.insert(0, (String::new(), (0..columns).map(|column| column.to_string()).collect()));
+        let width = table.iter().flat_map(|(_, cells)| cells).map(String::len).max().unwrap_or(0);
+        let before = table.iter().map(|(name, _)| name.len()).max().unwrap_or(0);
+        let line = |(name, cells): &(String, Vec<String>)| {
             let cells: Vec<String> = cells.iter().map(|cell| format!("{cell:>width$}")).collect();
             format!("{name:>before$}  {}\n", cells.join(" "))
         };
-        names.zip(&table).map(line).collect()
+        table.iter().map(line).collect()
+    }
+
+    /// All elements of a thread, a line for each; and whether the thread is inside.
+    pub fn thread(self, thread: &Number) -> (String, bool) {
+        let lines: String =
+            (0..).map(|i| self.place(thread, &Number::Small(i))).map_while(|(line, inside)| inside.then_some(line)).collect();
+        if lines.is_empty() {
+            let [.., threads, _] = self.sizes();
+            return self.line(format!("thread {thread}"), Err(Reason::Fragment), &format!("threads {}", range(threads)));
+        }
+        (lines, true)
     }
 
     /// Where a thread's element stands, in a line; and whether it is inside.
@@ -105,7 +116,7 @@ pub enum Number {
 }
 
 impl Number {
-    /// The number that a text spells as in a sheet.
+    /// The number that a text spells as in a sheet; one over 32 bits is taken as it is spelled.
     pub fn parse(text: &str) -> Result<Number, Fault> {
         match number::b32(text) {
             Err(Fault::Large(_)) => Ok(Number::Large(text.into())),

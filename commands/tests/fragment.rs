@@ -2,7 +2,7 @@
 
 use commands::fragment::{Named, Number};
 use commands::number::{Fault, MOST};
-use staplehorn::{Holder, Matrix, Reason};
+use staplehorn::{Holder, Matrix};
 
 fn named(name: &str) -> Named {
     Named::parse(name).unwrap_or_else(|| panic!("{name}"))
@@ -24,7 +24,7 @@ fn the_names_of_matrices() {
     }
 }
 
-/// The drawing is read again: each cell is what the library says of its place, each line ends in its last cell, and nothing is left out.
+/// Each cell is what the library says of its place, each line ends in its last cell, and nothing is left out.
 #[test]
 fn a_drawing_has_every_place() {
     for (name, matrix, columns) in [("A", Matrix::A, 16), ("B", Matrix::B, 8), ("C", Matrix::C, 8), ("d", Matrix::C, 8)] {
@@ -73,6 +73,22 @@ fn lines_agree_with_the_library() {
     assert_eq!((found, refused), (1_280, 4 * 2 * 41 * 41 - 1_280));
 }
 
+/// A thread is its elements, one line each; or it is outside.
+#[test]
+fn a_thread_is_its_elements() {
+    for (name, elements) in [("A", 8), ("B", 4), ("C", 4), ("D", 4)] {
+        for thread in 0..32 {
+            let thread = Number::Small(thread);
+            let each: String = (0..elements).map(|i| named(name).place(&thread, &Number::Small(i)).0).collect();
+            assert_eq!(named(name).thread(&thread), (each, true), "{name} {thread}");
+        }
+        for outside in ["32", "4294967295", "4294967296"] {
+            let line = format!("thread {outside}: outside, reason 22: {name} has threads 0 to 31\n");
+            assert_eq!(named(name).thread(&number(outside)), (line, false));
+        }
+    }
+}
+
 /// A number is read as in a sheet; one of over 32 bits is outside, and is said as it is spelled.
 #[test]
 fn numbers_of_any_size() {
@@ -91,7 +107,6 @@ fn numbers_of_any_size() {
     assert_eq!(b.place(&zero, &large), (format!("thread 0, element 0x100000000: {place}"), false));
     assert_eq!(b.holder(&large, &zero), (format!("row 0x100000000, column 0: {holder}"), false));
     assert_eq!(b.holder(&zero, &large), (format!("row 0, column 0x100000000: {holder}"), false));
-    assert_eq!(Reason::Fragment.number(), 22);
     for (text, fault) in [("", Fault::Spelling), ("-1", Fault::Spelling), ("08", Fault::Octal), (&"0".repeat(MOST + 1), Fault::Long)] {
         assert_eq!(Number::parse(text), Err(fault), "{text}");
     }

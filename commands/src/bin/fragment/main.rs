@@ -8,20 +8,27 @@ use std::ffi::c_int;
 
 const HELP: &str = "\
 usage: fragment MATRIX
+       fragment MATRIX THREAD
+       fragment MATRIX THREAD:ELEMENT
+       fragment MATRIX ROW,COLUMN
        fragment MATRIX NUMBER NUMBER
 
-Says which thread of a warp holds which element of a matrix of mma.m16n8k16 on f16. Of a matrix alone it draws the whole: a
-line for each row, and in each place thread:element. Of two numbers it says both that they can mean: where a thread's element
-stands (NUMBER is the thread, then the element), and who holds a place (NUMBER is the row, then the column).
+Says which thread of a warp holds which element of a matrix of mma.m16n8k16. A and B are f16; C and D are f16 or f32.
+A matrix alone is printed whole, a line for each row, with thread:element in each place. A thread: where each of its elements
+stands. THREAD:ELEMENT: where it stands. ROW,COLUMN: who holds it. Two numbers are read both ways, and both lines are printed.
 
-MATRIX  A, B or C, large or small; D is taken as C, for the manual gives both one layout
-NUMBER  from 0; as in a sheet: decimal, 0x and hex digits, 0b and binary digits, or 0 and octal digits; a U may follow
+MATRIX  A, B, C or D, in either case; D has the layout of C
+THREAD  %laneid, 0 to 31
+ELEMENT its number in the PTX ISA, from 0: 3 is a3, b3, c3 or d3. Two elements of f16 share a register: i is in register i / 2
+NUMBER  as in a sheet: decimal, 0x and hex digits, 0b and binary digits, or 0 and octal digits; a U may follow
 
   fragment C
-  fragment A 5 3
+  fragment B 7
+  fragment A 5:3
+  fragment A 9,3
 
-Exit status: 0 answered, 1 both meanings are outside the matrix, 2 the command line is wrong, or the answer could not be
-written.
+Exit status: 0 answered, 1 nothing that was asked for is inside the matrix, 2 the command line is wrong, or the answer could
+not be written.
 ";
 
 /// An answer: what is printed, and whether something was found.
@@ -30,21 +37,42 @@ struct Said {
     good: bool,
 }
 
+impl From<(String, bool)> for Said {
+    fn from((text, good): (String, bool)) -> Said {
+        Said { text, good }
+    }
+}
+
+fn number(text: &str) -> Result<Number, String> {
+    Number::parse(text).map_err(|fault| format!("{fault}: '{text}'"))
+}
+
 fn both(matrix: Named, first: &Number, second: &Number) -> Said {
     let (place, stands) = matrix.place(first, second);
     let (holder, held) = matrix.holder(first, second);
     Said { text: place + &holder, good: stands || held }
 }
 
+/// Of a matrix one thing: an element, a place, or a thread.
+fn one(matrix: Named, text: &str) -> Result<Said, String> {
+    if let Some((thread, element)) = text.split_once(':') {
+        return Ok(matrix.place(&number(thread)?, &number(element)?).into());
+    }
+    if let Some((row, column)) = text.split_once(',') {
+        return Ok(matrix.holder(&number(row)?, &number(column)?).into());
+    }
+    Ok(matrix.thread(&number(text)?).into())
+}
+
 fn answer(args: &[&str]) -> Result<Said, String> {
-    let matrix = |text: &str| Named::parse(text).ok_or_else(|| format!("no matrix: {text}"));
-    let number = |text: &str| Number::parse(text).map_err(|fault| format!("{fault}: {text}"));
+    let matrix = |text: &str| Named::parse(text).ok_or_else(|| format!("no matrix: '{text}'"));
     match args {
         ["--help" | "-h"] => Ok(Said { text: HELP.into(), good: true }),
         ["--version"] => Ok(Said { text: command::version("fragment"), good: true }),
         [name] => Ok(Said { text: matrix(name)?.drawn(), good: true }),
+        [name, text] => one(matrix(name)?, text),
         [name, first, second] => Ok(both(matrix(name)?, &number(first)?, &number(second)?)),
-        _ => Err("a matrix, or a matrix and two numbers".into()),
+        _ => Err("a matrix, and what is asked of it".into()),
     }
 }
 
