@@ -13,22 +13,20 @@ use lib.ListN.{getD, length, length-map, List·getD-map}
 use borrow.Author.Tests.{eqb-true, ltb-true, lt-ltb, eq-eqb}
 use Rattle.laws.proofs.BoolLaws.{and-split, and-join}
 use Rattle.laws.proofs.TestLaws.{below, below-is}
-use Rattle.fragment.specs.Fragment.{rows, columns, threads, elements, place, holder, placeOf, countFrom, entryOf, holders, tableOf, samePlace, holderOf, origin, packed, inWarp, inMatrix, placeFound, noPlace, placeIn, heldBy, noHolder, holderIn, sidesOf}
+use Rattle.fragment.specs.Fragment.{rows, columns, threads, elements, place, holder, placeOf, countFrom, entryOf, holders, tableOf, samePlace, holderOf, origin, packed, inWarp, inMatrix, placeFound, noPlace, placeIn, heldBy, noHolder, holderIn, heldAt}
 use Rattle.fragment.proofs.ListLaws.{at-map, at-from, count-from, find-only}
 use Rattle.fragment.specs.declared.Matrix.{Matrix}
 use Rattle.fragment.specs.declared.Place.{Place}
 use Rattle.fragment.specs.declared.Holder.{Holder}
-use Rattle.fragment.specs.declared.Sides.{Sides}
 
--- ---- who holds a place, as the code computes it, from its two sides and which of a thread's pairs it is in
-abbrev pub heldAt : Sides → ℕ → Holder
-heldAt s pair = holder (s .across % 8 * 4 + s .along % 8 / 2) (pair * 2 + s .along % 2)
-
+-- ---- who holds a place, as the code computes it
 abbrev pub pairOf : Place → ℕ
 pairOf p = p .row / 8 + p .column / 8 * 2
 
 abbrev pub holderAt : Matrix → Place → Holder
-holderAt m p = heldAt (sidesOf m p) (pairOf p)
+holderAt Matrix.A p = heldAt (p .row) (p .column) (pairOf p)
+holderAt Matrix.B p = heldAt (p .column) (p .row) (pairOf p)
+holderAt Matrix.C p = heldAt (p .row) (p .column) (pairOf p)
 
 -- ---- computed: an element's place lies in the matrix and leads back to it, a place's holder is in the warp and has its place there
 abbrev sameHolder : Holder → Holder → Bool
@@ -124,6 +122,10 @@ index-small m h e = le-trans (index-below m h e) (figures m .1)
 
 column-small : (m : Matrix) (p : Place) → inMatrix m p ≡ true → p .column < 16
 column-small m p e = le-trans (matrix-is m p e .1) (figures m .2)
+
+-- so a thread has four pairs at the most
+pub pair-below : (m : Matrix) (p : Place) → inMatrix m p ≡ true → pairOf p < 4
+pair-below m p e = omega (arith, matrix-is m p e .0, column-small m p e)
 
 pub entry-in : (m : Matrix) (k : ℕ) → k < threads * elements m → inWarp m (entryOf m k) ≡ true
 entry-in m k l =

@@ -10,7 +10,6 @@ use Rattle.fragment.specs.declared.Matrix.{Matrix}
 use Rattle.fragment.specs.declared.MatrixRead.{MatrixRead}
 use Rattle.fragment.specs.declared.Place.{Place}
 use Rattle.fragment.specs.declared.Holder.{Holder}
-use Rattle.fragment.specs.declared.Sides.{Sides}
 use Rattle.fragment.specs.declared.PlaceRead.{PlaceRead}
 use Rattle.fragment.specs.declared.HolderRead.{HolderRead}
 
@@ -156,8 +155,6 @@ placeNumbers p = p .row ∷ p .column ∷ []
 abbrev pub holderNumbers : Holder → List ℕ
 holderNumbers h = h .thread ∷ h .element ∷ []
 
--- for the code: which side of a matrix goes by groups, and which along a group
-abbrev pub sidesOf : Matrix → Place → Sides
-sidesOf Matrix.A p = record { across = p .row; along = p .column }
-sidesOf Matrix.B p = record { across = p .column; along = p .row }
-sidesOf Matrix.C p = record { across = p .row; along = p .column }
+-- for the code: the holder by the side that goes by groups, the side along a group, and which of a thread's pairs it is
+abbrev pub heldAt : ℕ → ℕ → ℕ → Holder
+heldAt across along pair = holder (across % 8 * 4 + along % 8 / 2) (pair * 2 + along % 2)

@@ -32,12 +32,6 @@ pub struct Holder {
     pub element: u32,
 }
 
-// A row and a column by what they count: the groups, and what lies along a group.
-pub struct Sides {
-    pub across: u32,
-    pub along: u32,
-}
-
 // 0 and the place, or 22 and zeros.
 pub struct PlaceRead {
     pub reason: u32,
@@ -113,36 +107,27 @@ fn place_at(m: Matrix, thread: u32, element: u32) -> Place
     }
 }
 
-// The two sides of a place.
-fn sides_of(m: Matrix, row: u32, column: u32) -> Sides
-    ensures { λ r. ⌜ r ≡ F.sidesOf m (F.place row column) ⌝ }
+// The holder by the two sides of its place, and which of a thread's pairs of elements it is in.
+fn held(across: u32, along: u32, pair: u32) -> Holder
+    requires { ⌜ pair < 4 ⌝ }
+    ensures { λ r. ⌜ r ≡ F.heldAt across along pair ⌝ }
 {
-    match m {
-        Matrix::A => Sides {
-            across: row,
-            along: column,
-        },
-        Matrix::B => Sides {
-            across: column,
-            along: row,
-        },
-        Matrix::C => Sides {
-            across: row,
-            along: column,
-        },
+    Holder {
+        thread: across % 8 * 4 + along % 8 / 2,
+        element: pair * 2 + along % 2,
     }
 }
 
-// Who holds a place. A thread has one pair of elements in each block of 8 by 8; the blocks are counted down, then to the right.
+// Who holds a place. A thread has one pair in each block of 8 by 8; the blocks are counted down, then to the right.
 fn holder_at(m: Matrix, row: u32, column: u32) -> Holder
     requires { ⌜ F.inMatrix m (F.place row column) ≡ true ⌝ }
     ensures { λ r. ⌜ F.holderOf m (F.place row column) ≡ some r ⌝ }
 {
     let pair = row / 8 + column / 8 * 2;
-    let s = sides_of(m, row, column);
-    Holder {
-        thread: s.across % 8 * 4 + s.along % 8 / 2,
-        element: pair * 2 + s.along % 2,
+    match m {
+        Matrix::A => held(row, column, pair),
+        Matrix::B => held(column, row, pair),
+        Matrix::C => held(row, column, pair),
     }
 }
 
