@@ -155,6 +155,6 @@ placeNumbers p = p .row ∷ p .column ∷ []
 abbrev pub holderNumbers : Holder → List ℕ
 holderNumbers h = h .thread ∷ h .element ∷ []
 
--- for the code: the holder by the side that goes by groups, the side along a group, and which of a thread's pairs it is
+-- for the code: the holder by the side that goes by groups, the side along a group, and which of a thread's pairs it is in
 abbrev pub heldAt : ℕ → ℕ → ℕ → Holder
 heldAt across along pair = holder (across % 8 * 4 + along % 8 / 2) (pair * 2 + along % 2)

@@ -131,6 +131,7 @@ fn holder_at(m: Matrix, row: u32, column: u32) -> Holder
     }
 }
 
+// The refusals.
 fn no_place() -> PlaceRead
     ensures { λ r. ⌜ r ≡ F.noPlace ⌝ }
 {
