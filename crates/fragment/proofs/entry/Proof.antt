@@ -8,6 +8,7 @@ use Rattle.fragment.proofs.FragmentLaws.{entry-is}
 use Rattle.fragment.proofs.entry.Statement.{statement}
 use Rattle.fragment.proofs.entry.Tie as tie
 
+-- in an arm the matrix is known, and so the length of its table
 within : {m n : Matrix} {k : ℕ} → m ≡ n → k < threads * elements m → k < threads * elements n
 within {k = k} e l = subst (λ (m : Matrix). k < threads * elements m) e l
 

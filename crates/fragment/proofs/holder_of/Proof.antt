@@ -21,14 +21,20 @@ no-holder-requires c κs = search needs
 
 returns : tie.Need-returns
 unfolding holderRead
-returns c = c .no-holder .ensures ∙ ap (λ (o : Option Matrix). holderIn o (place (c .before .before .before .before .args .row) (c .before .before .before .before .args .column))) (sym (ap matrixSeen (c .before .enum-told .given .1)) ∙ c .before .before .before .matrix-of .ensures)
+returns c =
+    let a = c .before .before .before .before .args in
+    c .no-holder .ensures
+    ∙ ap (λ (o : Option Matrix). holderIn o (place (a .row) (a .column))) (sym (ap matrixSeen (c .before .enum-told .given .1)) ∙ c .before .before .before .matrix-of .ensures)
 
 holder-in-requires : tie.Need-holder-in-requires
 holder-in-requires c κs = search needs
 
 returns-2 : tie.Need-returns-2
 unfolding holderRead
-returns-2 c = c .holder-in .ensures ∙ ap (λ (o : Option Matrix). holderIn o (place (c .before .before .before .before .before .args .row) (c .before .before .before .before .before .args .column))) (sym (ap matrixSeen (c .before .before .m .given .1)) ∙ c .before .before .before .before .matrix-of .ensures)
+returns-2 c =
+    let a = c .before .before .before .before .before .args in
+    c .holder-in .ensures
+    ∙ ap (λ (o : Option Matrix). holderIn o (place (a .row) (a .column))) (sym (ap matrixSeen (c .before .before .m .given .1)) ∙ c .before .before .before .before .matrix-of .ensures)
 
 pub holder-of-spec : {M : Type 1} → statement M
 holder-of-spec = tie.close (tie.spec matrix-of-requires enum-known-m enum-told no-holder-requires returns holder-in-requires returns-2)

@@ -21,14 +21,20 @@ no-place-requires c κs = search needs
 
 returns : tie.Need-returns
 unfolding placeRead
-returns c = c .no-place .ensures ∙ ap (λ (o : Option Matrix). placeIn o (holder (c .before .before .before .before .args .thread) (c .before .before .before .before .args .element))) (sym (ap matrixSeen (c .before .enum-told .given .1)) ∙ c .before .before .before .matrix-of .ensures)
+returns c =
+    let a = c .before .before .before .before .args in
+    c .no-place .ensures
+    ∙ ap (λ (o : Option Matrix). placeIn o (holder (a .thread) (a .element))) (sym (ap matrixSeen (c .before .enum-told .given .1)) ∙ c .before .before .before .matrix-of .ensures)
 
 place-in-requires : tie.Need-place-in-requires
 place-in-requires c κs = search needs
 
 returns-2 : tie.Need-returns-2
 unfolding placeRead
-returns-2 c = c .place-in .ensures ∙ ap (λ (o : Option Matrix). placeIn o (holder (c .before .before .before .before .before .args .thread) (c .before .before .before .before .before .args .element))) (sym (ap matrixSeen (c .before .before .m .given .1)) ∙ c .before .before .before .before .matrix-of .ensures)
+returns-2 c =
+    let a = c .before .before .before .before .before .args in
+    c .place-in .ensures
+    ∙ ap (λ (o : Option Matrix). placeIn o (holder (a .thread) (a .element))) (sym (ap matrixSeen (c .before .before .m .given .1)) ∙ c .before .before .before .before .matrix-of .ensures)
 
 pub place-of-spec : {M : Type 1} → statement M
 place-of-spec = tie.close (tie.spec matrix-of-requires enum-known-m enum-told no-place-requires returns place-in-requires returns-2)
