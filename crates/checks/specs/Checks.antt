@@ -1,7 +1,7 @@
 -- What the checks answer, by the rules themselves, for every state that the tables lent hold. Assumes nothing.
 use Prim.Native.Nat.{ℕ, _^_, _<_}
 use mathlib.Core.Path.{_≡_}
-use mathlib.Core.Bool.{Bool, true, not}
+use mathlib.Core.Bool.{Bool, true, not, cond}
 use mathlib.Core.List.{List}
 use lib.Dec.{eqb}
 use Rattle.laws.specs.Rules.{firstBroken}
@@ -14,6 +14,7 @@ use Rattle.statement.specs.declared.Operand.{Operand}
 use Rattle.statement.specs.declared.Statement.the-variants.{Load, Store, Multiply}
 use Rattle.rules.specs.State.{State, lowest, isLive, columnsOf, widthOf, numberOf}
 use Rattle.rules.specs.Reasons.{openRules, operandNamed, metadataNamed, sharedReads, operandReads, mmaEnds, operandEnds, metadataEnds}
+use Rattle.ledger.specs.Booking.{findIn}
 use Rattle.ledger.specs.Shows.{Slots}
 use Rattle.bindings.specs.declared.Value.{Value}
 use Rattle.bindings.specs.Shows as bindings
@@ -24,6 +25,10 @@ use Rattle.checks.specs.Tables.{Tables, table}
 abbrev pub AccessJudged : (hi lo columns : List ℕ) → ℕ → Access → ℕ → Type 0
 AccessJudged hi lo columns w a r =
     (s : State) (held : ℕ) → Slots hi lo columns (s .live) → (r ≡ firstBroken (openRules lowest s held w (Load a))) × (r ≡ firstBroken (openRules lowest s held w (Store a)))
+
+-- where the allocation of an accepted one starts; 0 where it is refused
+unfoldable pub startIf : (reason : ℕ) → (hi lo columns : List ℕ) → Access → ℕ
+startIf reason hi lo columns a = cond (eqb reason 0) (findIn hi lo columns (a .address .base) .start) 0
 
 -- the tests of reasons 6, 12 and 14
 abbrev pub tested : Bool → Bool → Bool → Tested

@@ -7,7 +7,7 @@ ghost use Rattle.laws.specs.Rules.{firstBroken};
 ghost use Rattle.statement.specs.Canonical.{sparse};
 ghost use Rattle.statement.specs.Cells.{columnsFor};
 ghost use Rattle.rules.specs.Reasons.{perLane, closedRules};
-ghost use Rattle.checks.specs.Checks.{AccessJudged, AddressTested, DescriptorTested, OperandTested, MetadataTested, OperandsJudged, MmaJudged};
+ghost use Rattle.checks.specs.Checks.{AccessJudged, startIf, AddressTested, DescriptorTested, OperandTested, MetadataTested, OperandsJudged, MmaJudged};
 use bindings::Value;
 use statement::Access;
 use statement::Address;
@@ -24,6 +24,12 @@ pub struct Tested {
     pub named: bool,
     pub reads: bool,
     pub ends: bool,
+}
+
+// The reason of a ld or st, or 0; the first column of its allocation, 0 where it is refused.
+pub struct Accessed {
+    pub reason: u32,
+    pub start: u32,
 }
 
 // The offset from a lane to the next.
@@ -60,34 +66,50 @@ fn columns_needed(shape: Shape, num: Num) -> u32
     cells::columns(shape, num) as u32
 }
 
-// The reason of a ld or st: 5, 6, 8 or 14, else 0.
-pub fn access_reason<'a>(
+// What a ld or st is refused for: 5, 6, 8 or 14. One that is accepted has 0, and where its allocation starts.
+pub fn access_judged<'a>(
     hi: &'a [u64; 16],
     lo: &'a [u64; 16],
     columns: &'a [u16; 16],
     warp: u8,
     a: Access,
-) -> u32
-    ensures { λ r. ⌜ AccessJudged (now (hi .entry)) (now (lo .entry)) (now (columns .entry)) warp a r ⌝ }
+) -> Accessed
+    ensures reason { λ r. ⌜ AccessJudged (now (hi .entry)) (now (lo .entry)) (now (columns .entry)) warp a (r .reason) ⌝ }
+    ensures start { λ r. ⌜ r .start ≡ startIf (r .reason) (now (hi .entry)) (now (lo .entry)) (now (columns .entry)) a ⌝ }
 {
     if cells::is_miscounted(a) {
-        return reasons::REGISTERS;
+        return Accessed {
+            reason: reasons::REGISTERS,
+            start: 0,
+        };
     }
     let address = a.address;
     let base = address.base;
     let span = ledger::find_in(hi, lo, columns, base);
     if span.columns == 0 {
-        return reasons::NAME;
+        return Accessed {
+            reason: reasons::NAME,
+            start: 0,
+        };
     }
     let shape = a.shape;
     let num = a.num;
     if !is_lane(warp, cells::lanes(shape), address.offset) {
-        return reasons::WARP;
+        return Accessed {
+            reason: reasons::WARP,
+            start: 0,
+        };
     }
     if ends_within(address.offset, columns_needed(shape, num), span.columns) {
-        reasons::PASSED
+        Accessed {
+            reason: reasons::PASSED,
+            start: span.start,
+        }
     } else {
-        reasons::CELLS
+        Accessed {
+            reason: reasons::CELLS,
+            start: 0,
+        }
     }
 }
 

@@ -24,6 +24,8 @@ use Rattle.ledger.specs.declared.Ledger.{Ledger}
 use Rattle.ledger.specs.Booking as ledger
 use Rattle.bindings.specs.declared.Bindings.{Bindings}
 use Rattle.bindings.specs.Table as bindings
+use Rattle.outstanding.specs.declared.Outstanding.{Outstanding}
+use Rattle.outstanding.specs.Words.{none}
 use Rattle.steps.specs.Steps.{Arrays, arrays}
 use Rattle.progress.specs.declared.Progress.{Progress}
 use Rattle.progress.specs.declared.Advanced.{Advanced}
@@ -34,11 +36,11 @@ use Rattle.judge.specs.Judged.{linesOf, byteColumns, sheetOf}
 use Rattle.judge.specs.Standing.{Standing}
 
 -- after the header
-pub begins : (s first : List ℕ) (l : Ledger) (t : Bindings) (p : Progress) → l ≡ ledger.empty → t ≡ bindings.empty → p ≡ opening → headed s ≡ true
-    → Standing s first first (arrays (l .hi) (l .lo) (l .columns) (t .hi) (t .lo) (t .numbers) (t .widths)) p bodyAt
-begins s first l t p e f g h = record {
+pub begins : (s first : List ℕ) (l : Ledger) (t : Bindings) (o : Outstanding) (p : Progress) → l ≡ ledger.empty → t ≡ bindings.empty → o ≡ none → p ≡ opening → headed s ≡ true
+    → Standing s first first (arrays (l .hi) (l .lo) (l .columns) (t .hi) (t .lo) (t .numbers) (t .widths) (o .words)) p bodyAt
+begins s first l t o p e f i g h = record {
   done = 0;
-  going = going.begins (linesOf s) first l t p e f g;
+  going = going.begins (linesOf s) first l t o p e f i g;
   here = subst (λ (x : Progress). After s (x .line) bodyAt) (sym g) (after-header s h);
 }
 

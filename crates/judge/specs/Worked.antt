@@ -2,12 +2,14 @@
 -- proofs/WorkedProved.antt computes them. Assumes nothing.
 use Prim.Native.Nat.{ℕ}
 use Prim.Native.String.{String}
+use mathlib.Core.Path.{_≡_}
 use mathlib.Core.List.{List, [], _∷_, _++_}
 use Rattle.laws.specs.Worked.{Gives}
 use Rattle.tokens.specs.Text.{bytes, lf}
 use Rattle.lines.specs.Sheet.{header}
 use Rattle.rules.specs.declared.Answer.{Answer}
-use Rattle.judge.specs.Judged.{judgedOf}
+use Rattle.rules.specs.Sheet.{answer}
+use Rattle.judge.specs.Judged.{judgedOf, startsAfter}
 
 -- ---- sheets
 -- reason, line and column of an answer
@@ -23,13 +25,17 @@ abbrev pub lined : List String → List ℕ
 lined [] = []
 lined (l ∷ ls) = bytes l ++ (lf ∷ lined ls)
 
--- of the lines after line 1
+-- the sheet of the lines after line 1
+abbrev pub sheetOf : List String → List ℕ
+sheetOf lines = header ++ (lf ∷ lined lines)
+
+-- its reason, line and column
 abbrev pub below : List String → ℕ × ℕ × ℕ
-below lines = answered (judgedOf (header ++ (lf ∷ lined lines)) 0)
+below lines = answered (judgedOf (sheetOf lines) 0)
 
 -- the same, with a place lent for one start
 abbrev pub lent : List String → ℕ × ℕ × ℕ
-lent lines = answered (judgedOf (header ++ (lf ∷ lined lines)) 1)
+lent lines = answered (judgedOf (sheetOf lines) 1)
 
 -- ---- lines that come before
 abbrev pub alloc32 : String
@@ -107,6 +113,9 @@ passes =
     (alloc32 ∷ dealloc32 ∷ exit ∷ [], (0, 4, 0)) ∷
     ("0\ttcgen05.alloc.cta_group::1.sync.aligned.b32 [t], 040U;" ∷ dealloc32 ∷ exit ∷ [], (0, 4, 0)) ∷
     (alloc32 ∷ "0\ttcgen05.dealloc.cta_group::1.sync.aligned.b32 t, 0b100000;" ∷ exit ∷ [], (0, 4, 0)) ∷
+    -- a star is warp 0, in a load and in its wait
+    (alloc32 ∷ "*\ttcgen05.ld.sync.aligned.32x32b.x1.b32 {r}, [t];" ∷ "0\ttcgen05.wait::ld.sync.aligned;" ∷ dealloc32 ∷ exit ∷ [], (0, 6, 0)) ∷
+    (alloc32 ∷ "0\ttcgen05.st.sync.aligned.32x32b.x1.b32 [t], {r};" ∷ "*\ttcgen05.wait::st.sync.aligned;" ∷ dealloc32 ∷ exit ∷ [], (0, 6, 0)) ∷
     (alloc512 ∷ shared ∷ (sparse128 ++ (dense256 ++ (dealloc512 ∷ exit ∷ []))), (0, 19, 0)) ∷
     []
 
@@ -190,6 +199,32 @@ mmas =
     (alloc512 ∷ "0\tmov.b32 i, 0x08400024;" ∷ shared ∷ "0\ttcgen05.mma.ws.sp.cta_group::1.kind::i8 [t], a, a, [t], i, p;" ∷ [], (20, 5, 59)) ∷
     []
 
+-- The sheet of docs/FORMAT.md, 'A sheet and its report': the whole answer with the wait of warp 1 after its load, and without it. 18 is at the opcode, and held is
+-- that before the line.
+abbrev pub upper : List String
+upper =
+    "0\ttcgen05.alloc.cta_group::1.sync.aligned.b32 [t0], 64;"
+    ∷ "0\ttcgen05.alloc.cta_group::1.sync.aligned.b32 [t1], 32;"
+    ∷ "0\ttcgen05.dealloc.cta_group::1.sync.aligned.b32 t0, 64;"
+    ∷ "0\ttcgen05.alloc.cta_group::1.sync.aligned.b32 [t2], 32;"
+    ∷ "1\ttcgen05.ld.sync.aligned.32x32b.x2.b32 {r0, r1}, [t1+2097152];"
+    ∷ []
+
+abbrev pub lower : List String
+lower = "0\ttcgen05.dealloc.cta_group::1.sync.aligned.b32 t1, 32;" ∷ "0\ttcgen05.dealloc.cta_group::1.sync.aligned.b32 t2, 32;" ∷ exit ∷ []
+
+abbrev pub wholes : List (List String × Answer)
+wholes =
+    (upper ++ ("1\ttcgen05.wait::ld.sync.aligned;" ∷ lower), answer 0 10 0 0 96) ∷
+    (upper ++ lower, answer 18 7 3 64 96) ∷
+    (upper ++ ("0\ttcgen05.wait::ld.sync.aligned;" ∷ lower), answer 18 8 3 64 96) ∷
+    (upper ++ ("1\ttcgen05.wait::st.sync.aligned;" ∷ lower), answer 18 8 3 64 96) ∷
+    []
+
+-- the starts of the first, which are written on a pass
+abbrev pub starts : List ℕ
+starts = 0 ∷ 64 ∷ 0 ∷ []
+
 -- ---- the claim: each sheet of each table has what stands beside it
 pub record Worked : Type 0 where
   pub headers-are : Gives pointed headers
@@ -200,3 +235,5 @@ pub record Worked : Type 0 where
   pub requests-are : Gives below requests
   pub accesses-are : Gives below accesses
   pub mmas-are : Gives below mmas
+  pub wholes-are : Gives (λ lines. judgedOf (sheetOf lines) 3) wholes
+  pub starts-are : startsAfter (sheetOf (upper ++ ("1\ttcgen05.wait::ld.sync.aligned;" ∷ lower))) (9 ∷ 9 ∷ 9 ∷ 9 ∷ []) ≡ starts ++ (9 ∷ [])

@@ -1,6 +1,7 @@
 // Judges a sheet: each line is read, judged and booked in turn, up to the first that is refused.
 use bindings::Bindings;
 use ledger::Ledger;
+use outstanding::Outstanding;
 use progress::Progress;
 use rules::Answer;
 ghost use mathlib.Core.Path.{_≡_};
@@ -75,6 +76,8 @@ fn judge_lines(sheet: &[u8], room: usize, given: &mut [u16; lines::LINES]) -> Ju
     let mut value_lo = table.lo;
     let mut numbers = table.numbers;
     let mut widths = table.widths;
+    let outstanding = Outstanding::new();
+    let mut words = outstanding.words;
     let mut p = progress::opening();
     let mut at = lines::HEADER;
     while at < sheet.len() {
@@ -88,6 +91,7 @@ fn judge_lines(sheet: &[u8], room: usize, given: &mut [u16; lines::LINES]) -> Ju
             &mut value_lo,
             &mut numbers,
             &mut widths,
+            &mut words,
             given,
             p,
         );

@@ -25,9 +25,9 @@ use Rattle.ledger.specs.declared.Ledger.{Ledger}
 use Rattle.ledger.specs.declared.Booked.{Booked}
 use Rattle.ledger.specs.Slots.{fitsAt, placeOf, total}
 use Rattle.ledger.specs.Booking.{empty, slot, place, isLive, mayBook, columnsOf, allocRules, releaseRules, relinquishRules, withAllocation, withoutAllocation, afterRelinquish, booked, allocOf, releaseOf, relinquishOf}
-use Rattle.ledger.specs.Shows.{Slots, Shows, Tells}
+use Rattle.ledger.specs.Shows.{slotAt, Slots, Shows, orBusy, Stays, Tells}
 use Rattle.ledger.proofs.BookingLaws.{legal-range}
-use Rattle.ledger.proofs.SlotLaws.{live-slot, columns-slot, place-slot, place-empty, slots-none, slots-alloc, slots-release}
+use Rattle.ledger.proofs.SlotLaws.{slot-own, live-slot, columns-slot, place-slot, place-empty, slot-other, slot-emptied, slots-none, slots-alloc, slots-release}
 
 -- ---- what is booked, by its reason
 cond-reason : (l next : Ledger) (reason start : ℕ) (t : Bool) → eqb reason 0 ≡ t
@@ -55,6 +55,13 @@ alloc-order true false warp size permit here there e = refl
 alloc-order false true warp size permit here there e = refl
 alloc-order false false warp true permit here there e = rw (e refl)
 alloc-order false false warp false permit here there e = refl
+
+release-order : (live warp size busy : Bool) → _≡_ {A = ℕ} (cond live (cond warp (cond size (cond (not busy) 0 18) 9) 8) 6) (orBusy (cond live (cond warp (cond size 0 9) 8) 6) busy)
+release-order true true true true = refl
+release-order true true true false = refl
+release-order true true false busy = refl
+release-order true false size busy = refl
+release-order false warp size busy = refl
 
 -- ---- the warp
 same-warp : (b : Bool) (v w : ℕ) → not b || eqb v w ≡ isWarp (cond b (some v) none) w
@@ -116,11 +123,15 @@ module _ (l : Ledger) (s : State) (h : Shows l s) where
       booked-reason l (withAllocation l (place l k) n w k) (firstBroken (allocRules l n w k)) (place l k * 32)
       ∙ rw (live-test n, warp-test w, h .relinquished)))
 
-  release-reason : (n : Name) (held w k : ℕ) → firstBroken (openRules lowest s held w (Dealloc n k)) ≡ releaseOf l n w k .reason
+  release-reason : (n : Name) (held w k : ℕ) → firstBroken (openRules lowest s held w (Dealloc n k)) ≡ orBusy (releaseOf l n w k .reason) (rules.isBusy n (s .outstanding))
   unfolding releaseOf
   release-reason n held w k =
       first-broken lowest s held w (Dealloc n k)
-      ∙ sym (booked-reason l (withoutAllocation l (slot l n)) (firstBroken (releaseRules l n w k)) 0 ∙ rw (live-test n, warp-test w, columns-test n))
+      ∙ release-order (rules.isLive n (s .live)) (isWarp (s .warp) w) (eqb (rules.columnsOf n (s .live)) k) (rules.isBusy n (s .outstanding))
+      ∙ ap (λ r. orBusy r (rules.isBusy n (s .outstanding))) (sym same)
+    where
+      same : releaseOf l n w k .reason ≡ cond (rules.isLive n (s .live)) (cond (isWarp (s .warp) w) (cond (eqb (rules.columnsOf n (s .live)) k) 0 9) 8) 6
+      same = booked-reason l (withoutAllocation l (slot l n)) (firstBroken (releaseRules l n w k)) 0 ∙ rw (live-test n, warp-test w, columns-test n)
 
   relinquish-reason : (held w : ℕ) → firstBroken (openRules lowest s held w Relinquish) ≡ relinquishOf l w .reason
   unfolding relinquishOf
@@ -187,6 +198,10 @@ module _ (l : Ledger) (s : State) (h : Shows l s) where
         relinquished = h .relinquished;
       })
 
+  release-live : (n : Name) (w k : ℕ) → releaseOf l n w k .reason ≡ 0 → rules.isLive n (s .live) ≡ true
+  unfolding releaseOf
+  release-live n w k e = sym (live-test n) ∙ kept (isLive l n) _ 6 (omega arith) (sym (booked-reason l (withoutAllocation l (slot l n)) (firstBroken (releaseRules l n w k)) 0) ∙ e) .0
+
   relinquished : (w : ℕ) → relinquishOf l w .reason ≡ 0 → Shows (relinquishOf l w .next) (effect lowest s w act.relinquishes)
   unfolding relinquishOf effect
   relinquished w e =
@@ -195,6 +210,32 @@ module _ (l : Ledger) (s : State) (h : Shows l s) where
       subst (λ (b : Booked). Shows (b .next) (effect lowest s w act.relinquishes))
       (sym (booked-next l (afterRelinquish l w) (firstBroken (relinquishRules l w)) 0 z))
       (record { slots = h .slots; warp = fixes (l .fixed) (l .warp) w (a .0) ∙ ap (λ (o : Option ℕ). fixed o w) (h .warp); relinquished = refl })
+
+  -- the slots that are not booked
+  alloc-stays : (n : Name) (w k i : ℕ) → allocOf l n w k .reason ≡ 0 → 0 < getD (l .columns) i 0 → Stays l (allocOf l n w k .next) i
+  unfolding allocOf
+  alloc-stays n w k i e p =
+      let a = alloc-kept n w k e in
+      let z : getD (l .columns) (place l k) 0 ≡ 0 = free k (a .2) (a .3) in
+      subst (λ (b : Booked). Stays l (b .next) i)
+      (sym (booked-next l (withAllocation l (place l k) n w k) (firstBroken (allocRules l n w k)) (place l k * 32) (a .4)))
+      (slot-other (l .hi) (l .lo) (l .columns) n k (place l k) i (λ q. absurd (omega (arith, p, z, ap (λ (j : ℕ). getD (l .columns) j 0) q))))
+
+  release-stays : (n : Name) (w k i : ℕ) → releaseOf l n w k .reason ≡ 0 → (slotAt (l .hi) (l .lo) (l .columns) i .name ≡ n → ⊥) → Stays l (releaseOf l n w k .next) i
+  unfolding releaseOf
+  release-stays n w k i e o =
+      let z : firstBroken (releaseRules l n w k) ≡ 0 = sym (booked-reason l (withoutAllocation l (slot l n)) (firstBroken (releaseRules l n w k)) 0) ∙ e in
+      let a = kept (isLive l n) _ 6 (omega arith) z in
+      let own = slot-own (l .hi) (l .lo) (l .columns) (s .live) (h .slots) n (ltb-true (slot l n) 16 (a .0)) .0 in
+      subst (λ (b : Booked). Stays l (b .next) i)
+      (sym (booked-next l (withoutAllocation l (slot l n)) (firstBroken (releaseRules l n w k)) 0 z))
+      (slot-emptied (l .hi) (l .lo) (l .columns) (slot l n) i (λ q. o (ap (λ (j : ℕ). slotAt (l .hi) (l .lo) (l .columns) j .name) q ∙ own)))
+
+  relinquish-stays : (w i : ℕ) → relinquishOf l w .reason ≡ 0 → Stays l (relinquishOf l w .next) i
+  unfolding relinquishOf
+  relinquish-stays w i e =
+      let z : firstBroken (relinquishRules l w) ≡ 0 = sym (booked-reason l (afterRelinquish l w) (firstBroken (relinquishRules l w)) 0) ∙ e in
+      subst (λ (b : Booked). Stays l (b .next) i) (sym (booked-next l (afterRelinquish l w) (firstBroken (relinquishRules l w)) 0 z)) refl
 
   -- THE CLAIM
   pub tells : Tells l s
@@ -205,5 +246,9 @@ module _ (l : Ledger) (s : State) (h : Shows l s) where
     allocated = allocated;
     started = started;
     released = released;
+    release-live = release-live;
     relinquished = relinquished;
+    alloc-stays = alloc-stays;
+    release-stays = release-stays;
+    relinquish-stays = relinquish-stays;
   }

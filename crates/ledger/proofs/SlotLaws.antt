@@ -1,7 +1,7 @@
 -- The slots and the list of live allocations say the same of a name, of free columns and of the columns held, and keep doing so when an allocation is
 -- put into an empty slot or taken out of its own. Assumes nothing.
-use Prim.Native.Nat.{ℕ, zero, suc, _+_, _*_, _-_, _≤_, _<_, max}
-use mathlib.Core.Path.{_≡_, refl, sym, ap, _∙_}
+use Prim.Native.Nat.{ℕ, zero, suc, _+_, _*_, _/_, _-_, _≤_, _<_, max}
+use mathlib.Core.Path.{_≡_, refl, sym, ap, _∙_, subst}
 use mathlib.Core.Bool.{Bool, true, false, not, _&&_, cond}
 use mathlib.Core.List.{List, [], _∷_}
 use mathlib.Core.Logic.{_⊎_, inl, inr}
@@ -18,13 +18,15 @@ use Rattle.rules.specs.Counting.{least, every}
 use Rattle.rules.specs.State as rules
 use Rattle.rules.specs.State.{Allocation, covers, isFree, freeFrom}
 use Rattle.rules.proofs.CountingLaws.{least-le, least-hit, least-below, every-at, every-all}
+use Rattle.rules.specs.Claims.{Unique}
 use Rattle.rules.proofs.StateLaws.{total-without}
+use Rattle.rules.proofs.OrderlyProved.{unique-without}
 use Rattle.tokens.proofs.Names.{same-true, same-name, other-name}
 use Rattle.search.proofs.SearchLaws.{least-at-most, least-agree}
 use Rattle.ledger.specs.declared.Span.{Span}
 use Rattle.ledger.specs.Slots.{ownsAt, slotOf, meetsAt, fitsAt, placeOf, total}
 use Rattle.ledger.specs.Booking.{findIn}
-use Rattle.ledger.specs.Shows.{Unique, slotAt, Slots, Finds}
+use Rattle.ledger.specs.Shows.{slotAt, Slots, Holds, Finds}
 use Rattle.ledger.proofs.PlaceLaws.{meets-in}
 
 -- ---- lists of allocations
@@ -106,10 +108,21 @@ meets-out columns s k j e =
     let u : (b ≡ true) × (c ≡ true) = and-split b c (t .1) in
     (omega (arith, eqb-false (getD columns j 0) 0 (not-true (eqb (getD columns j 0) 0) (t .0))), ltb-true (j * 32) (s + k) (u .0), ltb-true s (j * 32 + getD columns j 0) (u .1))
 
+-- ---- what is found of a name
+-- starts at a slot
+pub found-start : (hi lo columns : List ℕ) (n : Name) → findIn hi lo columns n .start / 32 < 16
+unfolding findIn
+found-start hi lo columns n = at (ltb (slotOf hi lo columns n) 16) refl
+  where
+    at : (t : Bool) → ltb (slotOf hi lo columns n) 16 ≡ t
+        → cond {A = Span} t (record { start = slotOf hi lo columns n * 32; columns = getD columns (slotOf hi lo columns n) 0 }) (record { start = 0; columns = 0 }) .start / 32 < 16
+    at true e = let h = ltb-true (slotOf hi lo columns n) 16 e in omega arith
+    at false e = omega arith
+
 -- ---- the slots show the list
 module _ (hi lo columns : List ℕ) (live : List Allocation) (m : Slots hi lo columns live) where
   -- a name's slot, if it has one
-  slot-own : (n : Name) → slotOf hi lo columns n < 16
+  pub slot-own : (n : Name) → slotOf hi lo columns n < 16
       → (slotAt hi lo columns (slotOf hi lo columns n) .name ≡ n) × (0 < getD columns (slotOf hi lo columns n) 0)
   unfolding slotOf
   slot-own n h = owns-out hi lo columns n (slotOf hi lo columns n) (least-hit (ownsAt hi lo columns n) 16 h)
@@ -166,9 +179,6 @@ module _ (hi lo columns : List ℕ) (live : List Allocation) (m : Slots hi lo co
       at : (t : Bool) → rules.isLive n live ≡ t → not (eqb (rules.columnsOf n live) 0) ≡ t
       at true e = ap not (ne-eqb (rules.columnsOf n live) 0 (omega (arith, live-columns n e)))
       at false e = ap not (eq-eqb (rules.columnsOf n live) 0 (columns-none live n e))
-
-  pub finds : Finds hi lo columns live
-  finds = record { live = found-live; size = found-size }
 
   -- columns are free in the list exactly if they are in the slots
   clash-at : (k i : ℕ) → 0 < k → freeFrom live k (i * 32) ≡ true → least (meetsAt columns (i * 32) k) 16 < 16 → ⊥
@@ -282,22 +292,6 @@ stays n a (b ∷ l) m e = at (sameName (b .name) n) refl m (stays n a l)
     at false f (inl q) ih = inl q
     at false f (inr m) ih = inr (ih m e)
 
-still-none : (n x : Name) (l : List Allocation) → rules.isLive x l ≡ false → rules.isLive x (rules.without n l) ≡ false
-still-none n x l e = at (bool (rules.isLive x (rules.without n l)))
-  where
-    at : (rules.isLive x (rules.without n l) ≡ true) ⊎ (rules.isLive x (rules.without n l) ≡ false) → rules.isLive x (rules.without n l) ≡ false
-    at (inl f) = let h = live-among (rules.without n l) x f in absurd (clash (among-live (h .0) l x (among-without n (h .0) l (h .1)) (h .2)) e)
-    at (inr f) = f
-
-unique-without : (n : Name) (l : List Allocation) → Unique l → Unique (rules.without n l)
-unfolding rules.without
-unique-without n [] u = tt
-unique-without n (b ∷ l) u =
-    elim (sameName (b .name) n) as (λ t. Unique (cond t l (b ∷ rules.without n l))) [
-      | true ↦ u .1
-      | false ↦ (still-none n (b .name) l (u .0), unique-without n l (u .1))
-    ]
-
 unique-same : (a b : Allocation) (l : List Allocation) → Unique l → Among a l → Among b l → a .name ≡ b .name → a ≡ b
 unique-same a b [] u m k e = absurd m
 unique-same a b (x ∷ l) u (inl m) (inl k) e = m ∙ sym k
@@ -310,6 +304,16 @@ slot-path : (a b c d e f i : ℕ) → a ≡ b → c ≡ d → e ≡ f
     → _≡_ {A = Allocation} (record { name = record { hi = a; lo = c }; start = i * 32; columns = e }) (record { name = record { hi = b; lo = d }; start = i * 32; columns = f })
 slot-path a b c d e f i p q r = cc
 
+-- the other slots where one is filled, or emptied
+pub slot-other : (hi lo columns : List ℕ) (n : Name) (k p i : ℕ) → (i ≡ p → ⊥) → slotAt (set hi p (n .hi)) (set lo p (n .lo)) (set columns p k) i ≡ slotAt hi lo columns i
+slot-other hi lo columns n k p i x =
+    slot-path (getD (set hi p (n .hi)) i 0) (getD hi i 0) (getD (set lo p (n .lo)) i 0) (getD lo i 0) (getD (set columns p k) i 0) (getD columns i 0) i
+    (getD-set-other hi p i (n .hi) 0 x) (getD-set-other lo p i (n .lo) 0 x) (getD-set-other columns p i k 0 x)
+
+pub slot-emptied : (hi lo columns : List ℕ) (p i : ℕ) → (i ≡ p → ⊥) → slotAt hi lo (set columns p 0) i ≡ slotAt hi lo columns i
+slot-emptied hi lo columns p i x =
+    slot-path (getD hi i 0) (getD hi i 0) (getD lo i 0) (getD lo i 0) (getD (set columns p 0) i 0) (getD columns i 0) i refl refl (getD-set-other columns p i 0 0 x)
+
 -- nothing
 pub slots-none : (hi lo columns : List ℕ) → length hi ≡ 16 → length lo ≡ 16 → length columns ≡ 16
     → ((i : ℕ) → i < 16 → getD columns i 0 ≡ 0) → total columns 16 ≡ 0 → Slots hi lo columns []
@@ -318,6 +322,36 @@ slots-none hi lo columns a b c z t =
     record { hi-16 = a; lo-16 = b; columns-16 = c; down = λ x q. absurd q; up = λ i p q. absurd (omega (arith, z i p)); unique = tt; sum = t }
 
 module _ (hi lo columns : List ℕ) (live : List Allocation) (m : Slots hi lo columns live) where
+  -- a live slot of a name is the one that is found
+  sole-slot : (n : Name) (i : ℕ) → i < 16 → 0 < getD columns i 0 → slotAt hi lo columns i .name ≡ n → i ≡ slotOf hi lo columns n
+  unfolding slotOf
+  sole-slot n i h p e =
+      let q = least-at-most (ownsAt hi lo columns n) 16 i (owns-in hi lo columns n i e p) in
+      let b : slotOf hi lo columns n < 16 = omega (arith, q, h) in
+      let s = unique-same (slotAt hi lo columns i) (slotAt hi lo columns (slotOf hi lo columns n)) live (m .unique) (m .up i h p) (slot-among hi lo columns live m n b) (e ∙ sym (slot-own hi lo columns live m n b .0)) in
+      same i (slotOf hi lo columns n) (ap (λ (z : Allocation). z .start) s)
+    where
+      same : (i j : ℕ) → i * 32 ≡ j * 32 → i ≡ j
+      same i j e = omega arith
+
+  start-slot : (n : Name) → slotOf hi lo columns n < 16 → findIn hi lo columns n .start / 32 ≡ slotOf hi lo columns n
+  unfolding findIn
+  start-slot n h = rw (lt-ltb (slotOf hi lo columns n) 16 h) (omega arith)
+
+  found-own : (n : Name) → rules.isLive n live ≡ true → Holds hi lo columns (findIn hi lo columns n .start / 32) n
+  found-own n e =
+      let h : slotOf hi lo columns n < 16 = ltb-true (slotOf hi lo columns n) 16 (live-slot hi lo columns live m n ∙ e) in
+      let o = slot-own hi lo columns live m n h in
+      subst (λ i. Holds hi lo columns i n) (sym (start-slot n h)) (record { name = o .0; live = o .1 })
+
+  found-sole : (n : Name) (i : ℕ) → i < 16 → Holds hi lo columns i n → i ≡ findIn hi lo columns n .start / 32
+  found-sole n i h o =
+      let e = sole-slot n i h (o .live) (o .name) in
+      e ∙ sym (start-slot n (omega (arith, e, h)))
+
+  pub finds : Finds hi lo columns live
+  finds = record { live = found-live hi lo columns live m; size = found-size hi lo columns live m; own = found-own; sole = found-sole }
+
   -- an allocation in an empty slot
   pub slots-alloc : (n : Name) (k p : ℕ) → p < 16 → 0 < k → getD columns p 0 ≡ 0 → rules.isLive n live ≡ false
       → Slots (set hi p (n .hi)) (set lo p (n .lo)) (set columns p k) (record { name = n; start = p * 32; columns = k } ∷ live)
@@ -339,9 +373,7 @@ module _ (hi lo columns : List ℕ) (live : List Allocation) (m : Slots hi lo co
           (getD-set-same columns p k 0 (omega (arith, m .columns-16)))
 
       old : (i : ℕ) → (i ≡ p → ⊥) → slotAt (set hi p (n .hi)) (set lo p (n .lo)) (set columns p k) i ≡ slotAt hi lo columns i
-      old i x =
-          slot-path (getD (set hi p (n .hi)) i 0) (getD hi i 0) (getD (set lo p (n .lo)) i 0) (getD lo i 0) (getD (set columns p k) i 0) (getD columns i 0) i
-          (getD-set-other hi p i (n .hi) 0 x) (getD-set-other lo p i (n .lo) 0 x) (getD-set-other columns p i k 0 x)
+      old i x = slot-other hi lo columns n k p i x
 
       down : (a : Allocation) → Among a (record { name = n; start = p * 32; columns = k } ∷ live)
           → (i : ℕ) × (i < 16) × (a ≡ slotAt (set hi p (n .hi)) (set lo p (n .lo)) (set columns p k) i) × (0 < a .columns)
@@ -384,7 +416,7 @@ module _ (hi lo columns : List ℕ) (live : List Allocation) (m : Slots hi lo co
       own = slot-own hi lo columns live m n b .0
 
       old : (i : ℕ) → (i ≡ s → ⊥) → slotAt hi lo (set columns s 0) i ≡ slotAt hi lo columns i
-      old i x = slot-path (getD hi i 0) (getD hi i 0) (getD lo i 0) (getD lo i 0) (getD (set columns s 0) i 0) (getD columns i 0) i refl refl (getD-set-other columns s i 0 0 x)
+      old i x = slot-emptied hi lo columns s i x
 
       down : (a : Allocation) → Among a (rules.without n live) → (i : ℕ) × (i < 16) × (a ≡ slotAt hi lo (set columns s 0) i) × (0 < a .columns)
       down a x =
@@ -402,7 +434,4 @@ module _ (hi lo columns : List ℕ) (live : List Allocation) (m : Slots hi lo co
       up i x y (inr w) =
           let a = m .up i x (omega (arith, y, getD-set-other columns s i 0 0 (eqb-false i s w))) in
           rw (old i (eqb-false i s w)) (stays n (slotAt hi lo columns i) live a (λ e.
-          eqb-false i s w (same i (ap (λ (z : Allocation). z .start) (unique-same (slotAt hi lo columns i) (slotAt hi lo columns s) live (m .unique) a (slot-among hi lo columns live m n b) (e ∙ sym own))))))
-        where
-          same : (i : ℕ) → i * 32 ≡ s * 32 → i ≡ s
-          same i e = omega arith
+          eqb-false i s w (sole-slot n i x (omega (arith, y, getD-set-other columns s i 0 0 (eqb-false i s w))) e)))

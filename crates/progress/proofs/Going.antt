@@ -26,6 +26,9 @@ use Rattle.ledger.proofs.ShowLaws as ledger-laws
 use Rattle.bindings.specs.declared.Bindings.{Bindings}
 use Rattle.bindings.specs.Table as bindings
 use Rattle.bindings.proofs.ShowLaws as bindings-laws
+use Rattle.outstanding.specs.declared.Outstanding.{Outstanding}
+use Rattle.outstanding.specs.Words.{none}
+use Rattle.outstanding.proofs.ShowLaws.{shows-none}
 use Rattle.steps.specs.declared.Step.{Step}
 use Rattle.steps.specs.Steps.{Arrays, arrays, Sized, Kept, Gives, LineDone}
 use Rattle.progress.specs.declared.Progress.{Progress}
@@ -33,11 +36,11 @@ use Rattle.progress.specs.Going.{opening, Going, Ready, Small, passedBy,
 use Rattle.progress.proofs.LineLaws.{asked-most, held-most, starts-few, start-below}
 
 -- ---- after line 1
--- the arrays of a ledger and of a table of value names
-abbrev from : Ledger → Bindings → Arrays
-from l t = arrays (l .hi) (l .lo) (l .columns) (t .hi) (t .lo) (t .numbers) (t .widths)
+-- the arrays of a ledger, of a table of value names, and of what is outstanding
+abbrev from : Ledger → Bindings → Outstanding → Arrays
+from l t o = arrays (l .hi) (l .lo) (l .columns) (t .hi) (t .lo) (t .numbers) (t .widths) (o .words)
 
-empty-kept : Kept (from ledger.empty bindings.empty) (opening .status) opened
+empty-kept : Kept (from ledger.empty bindings.empty none) (opening .status) opened
 empty-kept = record {
   tables = record {
     slots = ledger-laws.shows-empty .slots;
@@ -46,9 +49,10 @@ empty-kept = record {
   warp = refl;
   relinquished = refl;
   exited = refl;
+  marks = shows-none (ledger.empty .hi) (ledger.empty .lo) (ledger.empty .columns);
 }
 
-opening-going : (lines : ℕ → Line) (first : List ℕ) → Going lines 0 first first (from ledger.empty bindings.empty) opening
+opening-going : (lines : ℕ → Line) (first : List ℕ) → Going lines 0 first first (from ledger.empty bindings.empty none) opening
 unfolding heldAfter sum peakUpTo startsBy stateBy
 opening-going lines first = record {
   line-is = refl;
@@ -60,12 +64,13 @@ opening-going lines first = record {
   starts-are = refl;
 }
 
-pub begins : (lines : ℕ → Line) (first : List ℕ) (l : Ledger) (t : Bindings) (p : Progress) → l ≡ ledger.empty → t ≡ bindings.empty → p ≡ opening
-    → Going lines 0 first first (from l t) p
-begins lines first l t p e f g =
-    subst (λ (x : Ledger). Going lines 0 first first (from x t) p) (sym e)
-    (subst (λ (x : Bindings). Going lines 0 first first (from ledger.empty x) p) (sym f)
-    (subst (λ (x : Progress). Going lines 0 first first (from ledger.empty bindings.empty) x) (sym g) (opening-going lines first)))
+pub begins : (lines : ℕ → Line) (first : List ℕ) (l : Ledger) (t : Bindings) (o : Outstanding) (p : Progress) → l ≡ ledger.empty → t ≡ bindings.empty → o ≡ none → p ≡ opening
+    → Going lines 0 first first (from l t o) p
+begins lines first l t o p e f h g =
+    subst (λ (x : Ledger). Going lines 0 first first (from x t o) p) (sym e)
+    (subst (λ (x : Bindings). Going lines 0 first first (from ledger.empty x o) p) (sym f)
+    (subst (λ (x : Outstanding). Going lines 0 first first (from ledger.empty bindings.empty x) p) (sym h)
+    (subst (λ (x : Progress). Going lines 0 first first (from ledger.empty bindings.empty none) x) (sym g) (opening-going lines first))))
 
 -- ---- a start after others
 starts-by : (b : Bool) (first w more old next : List ℕ) (place start : ℕ) → old ≡ sets first 0 w → place ≡ length w
@@ -94,7 +99,7 @@ below-by false s x start e z = start-below s x start e
 -- ---- where the judge stands
 module _ (lines : ℕ → Line) (k : ℕ) (first given₀ : List ℕ) (a : Arrays) (p : Progress) (g : Going lines k first given₀ a p) where
   -- the arrays have their places
-  pub sized : Sized a
+  pub sized : Sized (a .valueHi) (a .valueLo) (a .numbers) (a .widths)
   sized = let v = g .kept .tables .values in record { hi-128 = v .hi-128; lo-128 = v .lo-128; numbers-128 = v .numbers-128; widths-128 = v .widths-128 }
 
   -- fewer requests than lines, and few columns
@@ -203,7 +208,7 @@ module _ (x : Line) (column : Position → ℕ) (given₀ : List ℕ) (a : Array
 
 -- ---- what `advance` asks of its parts
 module _ (x : Line) (given₀ : List ℕ) (a : Arrays) (p : Progress) (y : Ready x given₀ a p) where
-  pub ready-sized : Sized a
+  pub ready-sized : Sized (a .valueHi) (a .valueLo) (a .numbers) (a .widths)
   ready-sized = sized (y .lines) (y .done) (y .first) given₀ a p (y .going)
 
   pub ready-line : p .line < mostLines

@@ -119,13 +119,14 @@ fn step(
     value_lo: &mut [u64; 128],
     numbers: &mut [u64; 128],
     widths: &mut [u8; 128],
+    words: &mut [u16; 8],
     status: Status,
     held: u32,
 ) -> Stepped
-    requires { ⌜ Sized (arraysNow hi lo columns «value_hi» «value_lo» numbers widths) ⌝ }
-    ensures done { λ r. ⌜ LineDone held (lineSeen (now (sheet .entry)) at) (arraysIn hi lo columns «value_hi» «value_lo» numbers widths) status (r .step)
-        (arraysOut hi lo columns «value_hi» «value_lo» numbers widths) ⌝ }
-    ensures column { λ r. ⌜ ColumnDone held (lineSeen (now (sheet .entry)) at) (columnSeen (now (sheet .entry)) at) (arraysIn hi lo columns «value_hi» «value_lo» numbers widths) status
+    requires { ⌜ Sized (now «value_hi») (now «value_lo») (now numbers) (now widths) ⌝ }
+    ensures done { λ r. ⌜ LineDone held (lineSeen (now (sheet .entry)) at) (arraysIn hi lo columns «value_hi» «value_lo» numbers widths (now (words .entry))) status (r .step)
+        (arraysOut hi lo columns «value_hi» «value_lo» numbers widths (now (words .exit))) ⌝ }
+    ensures column { λ r. ⌜ ColumnDone held (lineSeen (now (sheet .entry)) at) (columnSeen (now (sheet .entry)) at) (arraysIn hi lo columns «value_hi» «value_lo» numbers widths (now (words .entry))) status
         (r .step .reason) (r .column) ⌝ }
     ensures next { λ r. ⌜ r .next ≡ lineAt (now (sheet .entry)) at .next ⌝ }
 {
@@ -148,6 +149,7 @@ fn step(
         value_lo,
         numbers,
         widths,
+        words,
         status,
         held,
         line.warp,
@@ -248,12 +250,13 @@ pub fn advance(
     value_lo: &mut [u64; 128],
     numbers: &mut [u64; 128],
     widths: &mut [u8; 128],
+    words: &mut [u16; 8],
     given: &mut [u16; lines::LINES],
     p: Progress,
 ) -> Advanced
-    requires { ⌜ Ready (lineSeen (now sheet) at) (now given) (arraysNow hi lo columns «value_hi» «value_lo» numbers widths) p ⌝ }
-    ensures went { λ r. ⌜ Went (lineSeen (now (sheet .entry)) at) (columnSeen (now (sheet .entry)) at) (now (given .entry)) (arraysIn hi lo columns «value_hi» «value_lo» numbers widths) p r (now (given .exit))
-        (arraysOut hi lo columns «value_hi» «value_lo» numbers widths) ⌝ }
+    requires { ⌜ Ready (lineSeen (now sheet) at) (now given) (arraysNow hi lo columns «value_hi» «value_lo» numbers widths (now words)) p ⌝ }
+    ensures went { λ r. ⌜ Went (lineSeen (now (sheet .entry)) at) (columnSeen (now (sheet .entry)) at) (now (given .entry)) (arraysIn hi lo columns «value_hi» «value_lo» numbers widths (now (words .entry))) p r (now (given .exit))
+        (arraysOut hi lo columns «value_hi» «value_lo» numbers widths (now (words .exit))) ⌝ }
     ensures next { λ r. ⌜ r .next ≡ lineAt (now (sheet .entry)) at .next ⌝ }
 {
     let status = p.status;
@@ -267,6 +270,7 @@ pub fn advance(
         value_lo,
         numbers,
         widths,
+        words,
         status,
         p.held,
     );

@@ -34,6 +34,8 @@ pub const CELLS: u32 = 14;
 pub const EXIT: u32 = 15;
 // the lent list has fewer places than there are allocs
 pub const STARTS: u32 = 16;
+// dealloc while a load or store is outstanding
+pub const OUTSTANDING: u32 = 18;
 // the writer: too little room, or not such as reading gives
 pub const ROOM: u32 = 19;
 // N is not listed

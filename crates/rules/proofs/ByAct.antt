@@ -19,10 +19,10 @@ use Rattle.statement.specs.Views as act
 use Rattle.statement.specs.Views.{Act, actOf}
 use Rattle.statement.specs.Canonical.{sparse}
 use Rattle.statement.specs.Cells as cells
-use Rattle.rules.specs.State.{State, Placer, isLive, isBound, columnsOf}
+use Rattle.rules.specs.State.{State, Placer, isLive, isBound, columnsOf, isBusy}
 use Rattle.statement.specs.Positions.{addressAt, idescAt}
 use Rattle.rules.specs.Rows.{atStart, atOpcode, atName, atOperand, kept, one, whole, Row, row, rulesOf, firstPosition}
-use Rattle.rules.specs.Reasons.{openRows, openRules, named, roomed, laned, warped, sized, permitted, placed, reads, mListed, nListed, typesListed, inside, cleared, roomFor, isWarp, laneOfWarp, ends, mmaNamed, mmaReads, fieldsOf, allEnd}
+use Rattle.rules.specs.Reasons.{openRows, openRules, named, roomed, laned, warped, sized, permitted, placed, reads, mListed, nListed, typesListed, inside, cleared, waited, roomFor, isWarp, laneOfWarp, ends, mmaNamed, mmaReads, fieldsOf, allEnd}
 use Rattle.rules.proofs.RuleLaws.{none-kept, in-turn}
 
 -- a mov at either width
@@ -66,9 +66,11 @@ actRows place s held w i (act.requests n k) =
     ∷ row 11 atOpcode (whole (isSome (place (s .live) k)))
     ∷ []
 actRows place s held w i (act.releases n k) =
-    row 6 atName (one 0 (isLive n (s .live))) ∷ row 8 atStart (whole (isWarp (s .warp) w)) ∷ row 9 atOperand (one 1 (eqb (columnsOf n (s .live)) k)) ∷ []
+    row 6 atName (one 0 (isLive n (s .live))) ∷ row 8 atStart (whole (isWarp (s .warp) w)) ∷ row 9 atOperand (one 1 (eqb (columnsOf n (s .live)) k))
+    ∷ row 18 atOpcode (whole (not (isBusy n (s .outstanding)))) ∷ []
 actRows place s held w i act.relinquishes = row 8 atStart (whole (isWarp (s .warp) w)) ∷ []
-actRows place s held w i (act.accesses a) = accessRows s w i a
+actRows place s held w i (act.accesses x a) = accessRows s w i a
+actRows place s held w i (act.waits x) = []
 actRows place s held w i (act.multiplies m) = mmaRows s m
 actRows place s held w i act.exits = row 15 atStart (whole (eqb held 0)) ∷ []
 actRows place s held w i act.nothing = []
@@ -82,12 +84,13 @@ mmaOrder names words listing ends = cond names (cond words (cond (eqb listing 0)
 
 module _ (place : Placer) (s : State) (held w : ℕ) where
   by-act : (t : Statement) (a : Act) → actOf t ≡ a → firstBroken (openRules place s held w t) ≡ firstBroken (actRules place s held w a)
-  unfolding openRules openRows cells.counted named roomed laned warped sized permitted placed reads mListed nListed typesListed inside cleared
+  unfolding openRules openRows cells.counted named roomed laned warped sized permitted placed reads mListed nListed typesListed inside cleared waited
   by-act t (act.binds n width v) e = rw e
   by-act t (act.requests n k) e = rw e
   by-act t (act.releases n k) e = rw e
   by-act t act.relinquishes e = rw e
-  by-act t (act.accesses a) e = rw e
+  by-act t (act.accesses x a) e = rw e
+  by-act t (act.waits x) e = rw e
   by-act t (act.multiplies m) e = rw e
   by-act t act.exits e = rw e
   by-act t act.nothing e = rw e
@@ -97,12 +100,13 @@ module _ (place : Placer) (s : State) (held w : ℕ) where
 
   -- so is the position
   position-by : (t : Statement) (a : Act) → actOf t ≡ a → firstPosition (openRows place s held w t) ≡ firstPosition (actRows place s held w (addressAt t) a)
-  unfolding openRows cells.counted named roomed laned warped sized permitted placed reads mListed nListed typesListed inside cleared
+  unfolding openRows cells.counted named roomed laned warped sized permitted placed reads mListed nListed typesListed inside cleared waited
   position-by t (act.binds n width v) e = rw e
   position-by t (act.requests n k) e = rw e
   position-by t (act.releases n k) e = rw e
   position-by t act.relinquishes e = rw e
-  position-by t (act.accesses a) e = rw e
+  position-by t (act.accesses x a) e = rw e
+  position-by t (act.waits x) e = rw e
   position-by t (act.multiplies m) e = rw e
   position-by t act.exits e = rw e
   position-by t act.nothing e = rw e

@@ -6,6 +6,7 @@ pub mod Figures
 pub mod LowestProved
 pub mod OrderlyProved
 pub mod RulesProved
+pub mod OutstandingProved
 pub mod FiguresProved
 pub mod WorkedProved
 pub mod PointingProved

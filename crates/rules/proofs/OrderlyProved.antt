@@ -1,4 +1,4 @@
--- Over accepted lines a name is never both a value and a live allocation, and there are at most 128 value names: `mov` and `alloc` are asked for it by
+-- Over accepted lines no name has two live allocations, a name is never both a value and a live allocation, and there are at most 128 value names: `mov` and `alloc` are asked for it by
 -- rules 6 and 7, and no other line adds a name. Assumes nothing.
 use Prim.Native.Nat.{ℕ, zero, suc, _≤_, _<_}
 use mathlib.Core.Path.{_≡_, refl, sym, ap, subst}
@@ -18,9 +18,9 @@ use Rattle.statement.specs.Views.{Act, actOf}
 use Rattle.rules.specs.State.{State, Allocation, Binding, Placer, isLive, without, isBound, bind}
 use Rattle.rules.specs.Reasons.{roomFor}
 use Rattle.rules.specs.Sheet.{Line, Placing, lineRules, lineEffect, effect, added, moved, heldAfter, stateBy, rulesBy}
-use Rattle.rules.specs.Claims.{AllKept, Orderly}
+use Rattle.rules.specs.Claims.{AllKept, Unique, Orderly}
 use Rattle.tokens.proofs.Names.{same-true}
-use Rattle.laws.proofs.BoolLaws.{and-r, or-cases, clash}
+use Rattle.laws.proofs.BoolLaws.{and-l, and-r, or-cases, bool, clash}
 use Rattle.rules.proofs.RuleLaws.{Accepted, accepted-line, binds-kept, requests-kept}
 
 -- ---- the table of values
@@ -76,6 +76,24 @@ live-without m n (a ∷ l) e = at (sameName (a .name) n) e (live-without m n l)
     at true z ih = rw z (or-true (sameName (a .name) m))
     at false z ih = first (or-cases (sameName (a .name) m) (isLive m (without n l)) z) ih
 
+-- what is taken out leaves each name once, and its own not at all
+pub unique-without : (n : Name) (l : List Allocation) → Unique l → Unique (without n l)
+unfolding without
+unique-without n [] u = tt
+unique-without n (b ∷ l) u =
+    elim (sameName (b .name) n) as (λ t. Unique (cond t l (b ∷ without n l))) [
+      | true ↦ u .1
+      | false ↦ (still-none (bool (isLive (b .name) (without n l))), unique-without n l (u .1))
+    ]
+  where
+    still-none : (isLive (b .name) (without n l) ≡ true) ⊎ (isLive (b .name) (without n l) ≡ false) → isLive (b .name) (without n l) ≡ false
+    still-none (inl e) = absurd (clash (live-without (b .name) n l e) (u .0))
+    still-none (inr e) = e
+
+unique-added : (n : Name) (v : ℕ) (o : Option ℕ) (l : List Allocation) → isLive n l ≡ false → Unique l → Unique (added n v o l)
+unique-added n v none l e u = u
+unique-added n v (some x) l e u = (e, u)
+
 live-added : (m n : Name) (v : ℕ) (o : Option ℕ) (l : List Allocation) → isLive m (added n v o l) ≡ true → (sameName n m ≡ true) ⊎ (isLive m l ≡ true)
 unfolding isLive
 live-added m n v none l e = inr e
@@ -86,6 +104,7 @@ mov-orderly : (s : State) (n : Name) (width v : ℕ) → not (isLive n (s .live)
 mov-orderly s n width v p r o =
     let b : Binding = record { name = n; width = width; number = v } in
     record {
+      once = o .once;
       few = few-bind b (s .values) r (o .few);
       apart = λ m live bound. at m live (bound-bind m b (s .values) bound);
     }
@@ -96,7 +115,11 @@ mov-orderly s n width v p r o =
 
 alloc-orderly : (s : State) (n : Name) (v : ℕ) (place : Placer) (w : ℕ) → not (isLive n (s .live)) && not (isBound n (s .values)) ≡ true → Orderly s → Orderly (effect place s w (act.requests n v))
 unfolding effect
-alloc-orderly s n v place w p o = record { few = o .few; apart = λ m live bound. at m bound (live-added m n v (place (s .live) v) (s .live) live) }
+alloc-orderly s n v place w p o = record {
+  once = unique-added n v (place (s .live) v) (s .live) (not-true (isLive n (s .live)) (and-l (not (isLive n (s .live))) (not (isBound n (s .values))) p)) (o .once);
+  few = o .few;
+  apart = λ m live bound. at m bound (live-added m n v (place (s .live) v) (s .live) live);
+}
   where
     at : (m : Name) → isBound m (s .values) ≡ true → (sameName n m ≡ true) ⊎ (isLive m (s .live) ≡ true) → ⊥
     at m bound (inl e) = clash (subst (λ k. isBound k (s .values) ≡ true) (sym (same-true n m e)) bound) (not-true (isBound n (s .values)) (and-r (not (isLive n (s .live))) (not (isBound n (s .values))) p))
@@ -109,15 +132,16 @@ orderly-step place s held x h o = accepted-line place s held x h (λ x. Orderly 
     at : (w : ℕ) (t : Statement) → Accepted place s held w t → (x : Act) → actOf t ≡ x → Orderly (effect place s w x)
     at w t a (act.binds n width v) e = let k = binds-kept place s held w t a n v width e in mov-orderly s n width v (k .0) (k .1) o
     at w t a (act.requests n v) e = alloc-orderly s n v place w (requests-kept place s held w t a n v e) o
-    at w t a (act.releases n v) e = record { few = o .few; apart = λ m live bound. o .apart m (live-without m n (s .live) live) bound }
-    at w t a act.relinquishes e = record { few = o .few; apart = o .apart }
-    at w t a (act.accesses x) e = o
+    at w t a (act.releases n v) e = record { once = unique-without n (s .live) (o .once); few = o .few; apart = λ m live bound. o .apart m (live-without m n (s .live) live) bound }
+    at w t a act.relinquishes e = record { once = o .once; few = o .few; apart = o .apart }
+    at w t a (act.accesses y x) e = record { once = o .once; few = o .few; apart = o .apart }
+    at w t a (act.waits y) e = record { once = o .once; few = o .few; apart = o .apart }
     at w t a (act.multiplies m) e = o
-    at w t a act.exits e = record { few = o .few; apart = o .apart }
+    at w t a act.exits e = record { once = o .once; few = o .few; apart = o .apart }
     at w t a act.nothing e = o
 
 -- after any number of accepted lines, under any placing
 pub orderly : (placing : Placing) (line : ℕ → Line) (n : ℕ) → ((k : ℕ) → k < n → AllKept (rulesBy placing line k)) → Orderly (stateBy placing line n)
 unfolding stateBy isLive
-orderly placing line zero h = record { few = omega arith; apart = λ m live bound. clash live refl }
+orderly placing line zero h = record { once = tt; few = omega arith; apart = λ m live bound. clash live refl }
 orderly placing line (suc n) h = orderly-step (placing n) (stateBy placing line n) (heldAfter line n) (line n) (h n (omega arith)) (orderly placing line n (λ k p. h k (omega (arith, p))))

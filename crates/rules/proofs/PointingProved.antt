@@ -15,7 +15,7 @@ use Rattle.statement.specs.Cells as cells
 use Rattle.statement.specs.Positions.{idescAt}
 use Rattle.rules.specs.State.{State, Placer}
 use Rattle.rules.specs.Rows.{Row, row}
-use Rattle.rules.specs.Reasons.{named, roomed, laned, warped, sized, permitted, placed, reads, mListed, nListed, typesListed, inside, openRows, closedRows, rows}
+use Rattle.rules.specs.Reasons.{named, roomed, laned, warped, sized, permitted, placed, reads, mListed, nListed, typesListed, inside, waited, openRows, closedRows, rows}
 use Rattle.rules.specs.Sheet.{Line, badLayout, noForm, tooLarge, statement, lineRows, Sheet, Placing, stateBy, heldAfter}
 use Rattle.rules.specs.Claims.{has, pointing, published, rises, allRise, OperandsNamed, ownRows, endRows, Pointing}
 
@@ -59,12 +59,13 @@ idesc-after-b m = by (sparse (m .metadata))
     by false = refl
 
 open-rise : (place : Placer) (s : State) (held w : ℕ) (t : Statement) (a : Act) → actOf t ≡ a → allRise (openRows place s held w t) ≡ true
-unfolding openRows named roomed laned warped sized permitted placed reads mListed nListed typesListed inside
+unfolding openRows named roomed laned warped sized permitted placed reads mListed nListed typesListed inside waited
 open-rise place s held w t (act.binds n width v) e = rw e
 open-rise place s held w t (act.requests n k) e = rw e
 open-rise place s held w t (act.releases n k) e = rw e
 open-rise place s held w t act.relinquishes e = rw e
-open-rise place s held w t (act.accesses a) e = rw e
+open-rise place s held w t (act.accesses x a) e = rw e
+open-rise place s held w t (act.waits x) e = rw e
 open-rise place s held w t (act.multiplies m) e = rw (e, idesc-after m, idesc-after-b m)
 open-rise place s held w t act.exits e = rw e
 open-rise place s held w t act.nothing e = rw e

@@ -12,16 +12,17 @@ use Rattle.laws.specs.Tests.{allFrom, isSome}
 use Rattle.laws.specs.Rules.{Rule, rule, firstBroken}
 use Rattle.tokens.specs.declared.Name.{Name}
 use Rattle.request.specs.Request.{legal}
+use Rattle.statement.specs.declared.Transfer.{Transfer}
 use Rattle.statement.specs.declared.Access.{Access}
 use Rattle.statement.specs.declared.Mma.{Mma}
 use Rattle.statement.specs.declared.Position.{Position}
 use Rattle.statement.specs.declared.Statement.{Statement}
 use Rattle.statement.specs.Views as act
 use Rattle.statement.specs.Views.{Ask, Act, isExit, actOf, requestOf, releaseOf, requestIn, releaseIn, accessIn, mmaIn, boundIn, for}
-use Rattle.rules.specs.State.{State, Placer, isLive, isBound, columnsOf}
+use Rattle.rules.specs.State.{State, Placer, isLive, isBound, columnsOf, isBusy}
 use Rattle.statement.specs.Positions.{addressAt}
 use Rattle.rules.specs.Rows.{atStart, pointed, Test, test, outcomes, kept, leftmost, one, whole, asked, Row, row, rulesOf, firstPosition}
-use Rattle.rules.specs.Reasons.{mmaNamed, mmaReads, allEnd, roomFor, laneOfWarp, ends, named, roomed, laned, warped, sized, permitted, placed, reads, mListed, nListed, typesListed, inside, cleared, openRows, closedRows, rows}
+use Rattle.rules.specs.Reasons.{mmaNamed, mmaReads, allEnd, roomFor, laneOfWarp, ends, named, roomed, laned, warped, sized, permitted, placed, reads, mListed, nListed, typesListed, inside, cleared, waited, openRows, closedRows, rows}
 use Rattle.statement.specs.Cells as cells
 use Rattle.statement.specs.Cells.{counted}
 use Rattle.rules.specs.Sheet.{Line, badLayout, noForm, tooLarge, statement, lineRules}
@@ -203,6 +204,7 @@ pub record Accepted (place : Placer) (s : State) (held w : ℕ) (t : Statement) 
   pub lists-types : kept (typesListed s t) ≡ true
   pub ends : kept (inside s t) ≡ true
   pub clears : cleared held t ≡ true
+  pub waits : kept (waited s t) ≡ true
 
 kept-open : (place : Placer) (s : State) (held w : ℕ) (t : Statement) → s .exited ≡ false → AllKept (rulesOf (openRows place s held w t)) → Accepted place s held w t
 unfolding openRows
@@ -223,6 +225,7 @@ kept-open place s held w t e h =
       lists-types = h .1 .1 .1 .1 .1 .1 .1 .1 .1 .1 .1 .0;
       ends = h .1 .1 .1 .1 .1 .1 .1 .1 .1 .1 .1 .1 .0;
       clears = h .1 .1 .1 .1 .1 .1 .1 .1 .1 .1 .1 .1 .1 .0;
+      waits = h .1 .1 .1 .1 .1 .1 .1 .1 .1 .1 .1 .1 .1 .1 .0;
     }
 
 -- after exit a rule is broken
@@ -295,15 +298,20 @@ module _ (place : Placer) (s : State) (held w : ℕ) (t : Statement) (a : Accept
         (subst (λ x. kept (asked (for (requestIn x) (λ r. one 1 (legal (r .columns))) ∷ for (releaseIn x) (λ r. one 1 (eqb (columnsOf (r .name) (s .live)) (r .columns))) ∷ [])) ≡ true) e (a .sizes)),
   )
 
+  -- and nothing is outstanding on it
+  pub waited-kept : actOf t ≡ act.releases n k → isBusy n (s .outstanding) ≡ false
+  unfolding waited
+  waited-kept e = not-true (isBusy n (s .outstanding)) (subst (λ x. kept (asked (for (releaseIn x) (λ r. whole (not (isBusy (r .name) (s .outstanding)))) ∷ [])) ≡ true) e (a .waits))
+
 module _ (place : Placer) (s : State) (held w : ℕ) (t : Statement) (a : Accepted place s held w t) where
   -- a ld or st a live allocation, the lane of its warp, and columns inside
-  pub accesses-kept : (x : Access) → actOf t ≡ act.accesses x
+  pub accesses-kept : (y : Transfer) (x : Access) → actOf t ≡ act.accesses y x
       → (isLive (x .address .base) (s .live) ≡ true) × (laneOfWarp w x ≡ true) × (ends s (x .address) (cells.columnsFor (x .shape) (x .num)) ≡ true)
   unfolding named laned inside
-  accesses-kept x e = (
-    subst (λ y. kept (namedIn s (addressAt t) y) ≡ true) e (a .names),
-    subst (λ y. kept (asked (for (accessIn y) (λ a. one (addressAt t) (laneOfWarp w a)) ∷ [])) ≡ true) e (a .lanes),
-    subst (λ y. kept (insideIn s (addressAt t) y) ≡ true) e (a .ends),
+  accesses-kept y x e = (
+    subst (λ z. kept (namedIn s (addressAt t) z) ≡ true) e (a .names),
+    subst (λ z. kept (asked (for (accessIn z) (λ a. one (addressAt t) (laneOfWarp w a)) ∷ [])) ≡ true) e (a .lanes),
+    subst (λ z. kept (insideIn s (addressAt t) z) ≡ true) e (a .ends),
   )
 
   -- an mma its names, words that read, and columns inside

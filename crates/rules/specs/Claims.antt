@@ -77,6 +77,7 @@ pub record InOrder (place : Placer) (s : State) (held w : ℕ) (t : Statement) :
       -- the address
       ∷ (14, atOperand)
       ∷ (15, atStart)
+      ∷ (18, atOpcode)
       ∷ []
   pub after : s .exited ≡ true → heads (lineRows place s held (statement w t)) ≡ (2, atStart) ∷ (5, atOpcode) ∷ (15, atStart) ∷ []
 
@@ -110,6 +111,7 @@ pointing =
     ∷ (5, atOpcode)
     ∷ (10, atOpcode)
     ∷ (11, atOpcode)
+    ∷ (18, atOpcode)
     ∷ []
 
 -- sorts told apart by numbers
@@ -170,8 +172,14 @@ pub record LowestExact (l : List Allocation) (columns : ℕ) : Type 0 where
   pub none : lowest l columns ≡ none → (other : ℕ) → other % 32 ≡ 0 → Free l columns other → ⊥
 
 -- ---- the state
--- after accepted lines there are at most 128 value names, and no name is both a value and a live allocation
+-- each name once
+abbrev pub Unique : List Allocation → Type 0
+Unique [] = Unit {0}
+Unique (a ∷ l) = (isLive (a .name) l ≡ false) × Unique l
+
+-- after accepted lines no name has two live allocations, there are at most 128 value names, and no name is both a value and a live allocation
 pub record Orderly (s : State) : Type 0 where
+  pub once : Unique (s .live)
   pub few : length (s .values) ≤ 128
   pub apart : (n : Name) → isLive n (s .live) ≡ true → isBound n (s .values) ≡ true → ⊥
 

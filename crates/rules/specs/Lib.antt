@@ -4,4 +4,5 @@ pub mod Rows
 pub mod Reasons
 pub mod Sheet
 pub mod Claims
+pub mod Outstanding
 pub mod Worked

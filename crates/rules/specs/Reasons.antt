@@ -27,7 +27,7 @@ use Rattle.statement.specs.Canonical.{sparse}
 use Rattle.statement.specs.Cells as cells
 use Rattle.statement.specs.Views.{requestOf, releaseOf, accessOf, mmaOf, boundBy, isExit, isBooking, for, when}
 use Rattle.statement.specs.Positions.{addressAt, idescAt}
-use Rattle.rules.specs.State.{State, Placer, isLive, columnsOf, isBound, widthOf, numberOf}
+use Rattle.rules.specs.State.{State, Placer, isLive, columnsOf, isBound, widthOf, numberOf, isBusy}
 use Rattle.rules.specs.Rows.{atStart, atOpcode, atName, atOperand, Test, test, one, whole, broken, asked, Row, row, rulesOf}
 
 -- ---- addresses
@@ -170,6 +170,10 @@ inside s t = asked (for (accessOf t) (λ a. one (addressAt t) (ends s (a .addres
 unfoldable pub cleared : ℕ → Statement → Bool
 cleared held t = not (isExit t) || eqb held 0
 
+-- ---- reason 18: dealloc while a load or store of any warp is outstanding on the allocation
+unfoldable pub waited : State → Statement → List Test
+waited s t = asked (for (releaseOf t) (λ r. whole (not (isBusy (r .name) (s .outstanding)))) ∷ [])
+
 -- ---- the rules of a line that reads, each with what its column points at
 -- before exit, with the columns held before the line
 unfoldable pub openRows : Placer → State → (held : ℕ) → (w : ℕ) → Statement → List Row
@@ -188,6 +192,7 @@ openRows place s held w t =
     ∷ row 21 atName (typesListed s t)
     ∷ row 14 atOperand (inside s t)
     ∷ row 15 atStart (whole (cleared held t))
+    ∷ row 18 atOpcode (waited s t)
     ∷ []
 
 -- after exit: reason 5, and then 15 for any line

@@ -17,7 +17,7 @@ use Rattle.rules.specs.declared.Answer.{Answer}
 use Rattle.rules.specs.Counting.{least}
 use Rattle.statement.specs.Views as act
 use Rattle.statement.specs.Views.{Act, Turn, actOf, requestIn, releaseIn, of}
-use Rattle.rules.specs.State.{State, opened, Allocation, Placer, lowest, without, bind}
+use Rattle.rules.specs.State.{State, opened, Allocation, Placer, lowest, without, bind, Mark, afterWait, afterRelease}
 use Rattle.rules.specs.Rows.{atStart, atToken, whole, broken, Row, row, rulesOf, firstPosition}
 use Rattle.rules.specs.Reasons.{rows}
 
@@ -75,17 +75,58 @@ added n columns none l = l
 added n columns (some start) l = record { name = n; start = start; columns = columns } ∷ l
 
 abbrev pub moved : State → Name → ℕ → ℕ → State
-moved s n width v = record { live = s .live; values = bind (record { name = n; width = width; number = v }) (s .values); warp = s .warp; relinquished = s .relinquished; exited = s .exited }
+moved s n width v = record {
+  live = s .live;
+  values = bind (record { name = n; width = width; number = v }) (s .values);
+  warp = s .warp;
+  relinquished = s .relinquished;
+  exited = s .exited;
+  outstanding = s .outstanding;
+}
 
--- the state after an act: alloc adds, dealloc removes, mov binds; alloc and relinquish fix the warp; exit is noted; all else leaves it as it was
+-- with other loads and stores outstanding
+abbrev pub marked : State → List Mark → State
+marked s l = record { live = s .live; values = s .values; warp = s .warp; relinquished = s .relinquished; exited = s .exited; outstanding = l }
+
+-- the state after an act: alloc adds, dealloc removes, mov binds; alloc and relinquish fix the warp; a load or store is outstanding until its warp waits for
+-- it, or its allocation is gone; exit is noted; all else leaves it as it was
 unfoldable pub effect : Placer → State → ℕ → Act → State
 effect place s w (act.binds n width v) = moved s n width v
-effect place s w (act.requests n v) = record { live = added n v (place (s .live) v) (s .live); values = s .values; warp = fixed (s .warp) w; relinquished = s .relinquished; exited = s .exited }
-effect place s w (act.releases n v) = record { live = without n (s .live); values = s .values; warp = s .warp; relinquished = s .relinquished; exited = s .exited }
-effect place s w act.relinquishes = record { live = s .live; values = s .values; warp = fixed (s .warp) w; relinquished = true; exited = s .exited }
-effect place s w (act.accesses a) = s
+effect place s w (act.requests n v) = record {
+  live = added n v (place (s .live) v) (s .live);
+  values = s .values;
+  warp = fixed (s .warp) w;
+  relinquished = s .relinquished;
+  exited = s .exited;
+  outstanding = s .outstanding;
+}
+effect place s w (act.releases n v) = record {
+  live = without n (s .live);
+  values = s .values;
+  warp = s .warp;
+  relinquished = s .relinquished;
+  exited = s .exited;
+  outstanding = afterRelease n (s .outstanding);
+}
+effect place s w act.relinquishes = record {
+  live = s .live;
+  values = s .values;
+  warp = fixed (s .warp) w;
+  relinquished = true;
+  exited = s .exited;
+  outstanding = s .outstanding;
+}
+effect place s w (act.accesses x a) = marked s (record { name = a .address .base; warp = w; transfer = x } ∷ s .outstanding)
+effect place s w (act.waits x) = marked s (afterWait w x (s .outstanding))
 effect place s w (act.multiplies m) = s
-effect place s w act.exits = record { live = s .live; values = s .values; warp = s .warp; relinquished = s .relinquished; exited = true }
+effect place s w act.exits = record {
+  live = s .live;
+  values = s .values;
+  warp = s .warp;
+  relinquished = s .relinquished;
+  exited = true;
+  outstanding = s .outstanding;
+}
 effect place s w act.nothing = s
 
 abbrev pub lineEffect : Placer → State → Line → State

@@ -3,9 +3,11 @@ use Prim.Native.Nat.{ℕ, _+_, _*_}
 use mathlib.Core.Bool.{Bool, true, false, not, _&&_, _||_, cond}
 use mathlib.Core.List.{List, [], _∷_}
 use mathlib.Core.Option.{Option, none, some}
-use lib.Dec.{leb, ltb}
+use lib.Dec.{leb, ltb, eqb}
 use Rattle.tokens.specs.declared.Name.{Name}
 use Rattle.tokens.specs.Names.{sameName}
+use Rattle.statement.specs.declared.Transfer.{Transfer}
+use Rattle.statement.specs.Views.{sameTransfer}
 use Rattle.rules.specs.Counting.{every, least}
 
 -- ---- allocations
@@ -87,6 +89,37 @@ unfoldable pub bind : Binding → List Binding → List Binding
 bind b [] = b ∷ []
 bind b (c ∷ l) = cond (sameName (c .name) (b .name)) (b ∷ l) (c ∷ bind b l)
 
+-- ---- loads and stores that are not waited for
+-- one that is outstanding: on the allocation of a name, by a warp, a load or a store
+pub record Mark : Type 0 where
+  pub name : Name
+  pub warp : ℕ
+  pub transfer : Transfer
+
+-- it is by that warp, and of that sort
+unfoldable pub isBy : ℕ → Transfer → Mark → Bool
+isBy w x m = eqb (m .warp) w && sameTransfer (m .transfer) x
+
+-- whether a load, or a store, by a warp is outstanding on the allocation of a name
+unfoldable pub isMarked : Name → ℕ → Transfer → List Mark → Bool
+isMarked n w x [] = false
+isMarked n w x (m ∷ l) = (sameName (m .name) n && isBy w x m) || isMarked n w x l
+
+-- whether any is
+unfoldable pub isBusy : Name → List Mark → Bool
+isBusy n [] = false
+isBusy n (m ∷ l) = sameName (m .name) n || isBusy n l
+
+-- a wait takes out that warp's, of its sort, on all allocations
+unfoldable pub afterWait : ℕ → Transfer → List Mark → List Mark
+afterWait w x [] = []
+afterWait w x (m ∷ l) = cond (isBy w x m) (afterWait w x l) (m ∷ afterWait w x l)
+
+-- a dealloc takes out those on its allocation, of every warp
+unfoldable pub afterRelease : Name → List Mark → List Mark
+afterRelease n [] = []
+afterRelease n (m ∷ l) = cond (sameName (m .name) n) (afterRelease n l) (m ∷ afterRelease n l)
+
 -- ---- the state
 pub record State : Type 0 where
   pub live : List Allocation
@@ -95,7 +128,9 @@ pub record State : Type 0 where
   pub warp : Option ℕ
   pub relinquished : Bool
   pub exited : Bool
+  -- the loads and stores that are not waited for
+  pub outstanding : List Mark
 
 -- before the first statement
 abbrev pub opened : State
-opened = record { live = []; values = []; warp = none; relinquished = false; exited = false }
+opened = record { live = []; values = []; warp = none; relinquished = false; exited = false; outstanding = [] }

@@ -24,13 +24,16 @@ use Rattle.statement.specs.declared.Metadata.the-variants.{Dense, Sparse}
 use Rattle.statement.specs.declared.Position.{Position}
 use Rattle.statement.specs.declared.Position.the-variants as position
 use Rattle.statement.specs.declared.Position.the-variants.{Start, Token, Opcode}
+use Rattle.statement.specs.declared.Transfer.{Transfer}
+use Rattle.statement.specs.declared.Transfer.the-variants as transfer
 use Rattle.statement.specs.declared.Statement.{Statement}
-use Rattle.statement.specs.declared.Statement.the-variants.{Mov32, Mov64, Alloc, Dealloc, Relinquish, Load, Store, Multiply, Exit}
+use Rattle.statement.specs.Views as act
+use Rattle.statement.specs.declared.Statement.the-variants.{Mov32, Mov64, Alloc, Dealloc, Relinquish, Load, Store, WaitLoad, WaitStore, FenceBefore, FenceAfter, Multiply, Exit}
 use Rattle.rules.specs.declared.Answer.{Answer}
-use Rattle.rules.specs.State.{State, Allocation, Binding, lowest}
+use Rattle.rules.specs.State.{State, Allocation, Binding, Mark, lowest}
 use Rattle.rules.specs.Rows.{Row, rulesOf, firstPosition}
 use Rattle.rules.specs.Reasons.{openRows}
-use Rattle.rules.specs.Sheet.{Line, badLayout, noForm, tooLarge, statement, answer, answerOf}
+use Rattle.rules.specs.Sheet.{Line, badLayout, noForm, tooLarge, statement, effect, answer, answerOf}
 
 -- ---- lines
 abbrev pub name : ℕ → Name
@@ -44,6 +47,22 @@ alloc n columns = statement 0 (Alloc (name n) columns)
 
 abbrev pub dealloc : ℕ → ℕ → Line
 dealloc n columns = statement 0 (Dealloc (name n) columns)
+
+-- a ld and a st of one column by a warp, and their waits
+abbrev pub one : ℕ → ℕ → Access
+one w n = record { shape = S32x32; num = X1; registers = 1; address = at n (32 * w) 0 }
+
+abbrev pub load : ℕ → ℕ → Line
+load w n = statement w (Load (one w n))
+
+abbrev pub store : ℕ → ℕ → Line
+store w n = statement w (Store (one w n))
+
+abbrev pub waitLoad : ℕ → Line
+waitLoad w = statement w WaitLoad
+
+abbrev pub waitStore : ℕ → Line
+waitStore w = statement w WaitStore
 
 abbrev pub exit : Line
 exit = statement 0 Exit
@@ -110,13 +129,52 @@ reasonIn columns lines = judged (alloc 1 columns ∷ (lines ++ dealloc 1 columns
 abbrev pub requestCases : List (ℕ × ℕ)
 requestCases = (0, 9) ∷ (16, 9) ∷ (31, 9) ∷ (32, 0) ∷ (33, 9) ∷ (64, 0) ∷ (96, 9) ∷ (128, 0) ∷ (256, 0) ∷ (384, 9) ∷ (512, 0) ∷ (513, 9) ∷ (1024, 9) ∷ []
 
+-- ---- loads and stores that are not waited for
+abbrev pub waitCases : List (List Line × Answer)
+waitCases =
+    -- a load, a store: not waited for, and waited for by its warp; one wait for two
+    (alloc 1 32 ∷ load 1 1 ∷ dealloc 1 32 ∷ [], answer 18 4 3 32 32)
+    ∷ (alloc 1 32 ∷ store 1 1 ∷ dealloc 1 32 ∷ [], answer 18 4 3 32 32)
+    ∷ (alloc 1 32 ∷ load 1 1 ∷ waitLoad 1 ∷ dealloc 1 32 ∷ exit ∷ [], answer 0 6 0 0 32)
+    ∷ (alloc 1 32 ∷ store 1 1 ∷ waitStore 1 ∷ dealloc 1 32 ∷ exit ∷ [], answer 0 6 0 0 32)
+    ∷ (alloc 1 32 ∷ load 3 1 ∷ load 3 1 ∷ waitLoad 3 ∷ dealloc 1 32 ∷ exit ∷ [], answer 0 7 0 0 32)
+    -- the wait of another warp, the other wait, a fence, and a wait before the load
+    ∷ (alloc 1 32 ∷ load 1 1 ∷ waitLoad 0 ∷ dealloc 1 32 ∷ [], answer 18 5 3 32 32)
+    ∷ (alloc 1 32 ∷ load 0 1 ∷ load 2 1 ∷ waitLoad 2 ∷ dealloc 1 32 ∷ [], answer 18 6 3 32 32)
+    ∷ (alloc 1 32 ∷ load 1 1 ∷ waitStore 1 ∷ dealloc 1 32 ∷ [], answer 18 5 3 32 32)
+    ∷ (alloc 1 32 ∷ store 1 1 ∷ waitLoad 1 ∷ dealloc 1 32 ∷ [], answer 18 5 3 32 32)
+    ∷ (alloc 1 32 ∷ load 0 1 ∷ statement 0 FenceBefore ∷ statement 0 FenceAfter ∷ dealloc 1 32 ∷ [], answer 18 6 3 32 32)
+    ∷ (alloc 1 32 ∷ store 0 1 ∷ statement 0 FenceBefore ∷ statement 0 FenceAfter ∷ dealloc 1 32 ∷ [], answer 18 6 3 32 32)
+    ∷ (alloc 1 32 ∷ waitLoad 0 ∷ load 0 1 ∷ dealloc 1 32 ∷ [], answer 18 5 3 32 32)
+    -- a wait is for all allocations; a load stops the dealloc of its own alone
+    ∷ (alloc 1 32 ∷ alloc 2 32 ∷ load 0 1 ∷ load 0 2 ∷ waitLoad 0 ∷ dealloc 1 32 ∷ dealloc 2 32 ∷ exit ∷ [], answer 0 9 0 0 64)
+    ∷ (alloc 1 32 ∷ alloc 2 32 ∷ load 0 2 ∷ dealloc 1 32 ∷ dealloc 2 32 ∷ [], answer 18 6 3 32 64)
+    ∷ (alloc 1 32 ∷ alloc 2 32 ∷ store 0 2 ∷ dealloc 1 32 ∷ waitStore 0 ∷ dealloc 2 32 ∷ exit ∷ [], answer 0 8 0 0 64)
+    -- no other statement asks for it: an alloc, a mov, a relinquish, a further load
+    ∷ (alloc 1 32 ∷ load 0 1 ∷ alloc 2 32 ∷ statement 0 (Mov32 (name 3) 0) ∷ statement 0 Relinquish ∷ load 0 1 ∷ dealloc 2 32 ∷ waitLoad 0 ∷ dealloc 1 32 ∷ exit ∷ [], answer 0 11 0 0 64)
+    -- a name used again is clean
+    ∷ (alloc 1 32 ∷ load 0 1 ∷ waitLoad 0 ∷ dealloc 1 32 ∷ alloc 1 32 ∷ dealloc 1 32 ∷ exit ∷ [], answer 0 8 0 0 32)
+    -- the other reasons of a dealloc come first, and exit has its own
+    ∷ (alloc 1 32 ∷ load 0 1 ∷ dealloc 2 32 ∷ [], answer 6 4 10 32 32)
+    ∷ (alloc 1 32 ∷ load 0 1 ∷ statement 1 (Dealloc (name 1) 32) ∷ [], answer 8 4 1 32 32)
+    ∷ (alloc 1 32 ∷ load 0 1 ∷ dealloc 1 64 ∷ [], answer 9 4 21 32 32)
+    ∷ (alloc 1 32 ∷ load 0 1 ∷ exit ∷ [], answer 15 4 1 32 32)
+    ∷ []
+
+-- marks on two names, and what a dealloc of the first leaves of them
+abbrev pub marking : ℕ → ℕ → Transfer → Mark
+marking n w x = record { name = name n; warp = w; transfer = x }
+
+abbrev pub marksLeft : List Mark → List Mark
+marksLeft l = effect lowest (record { live = []; values = []; warp = none; relinquished = false; exited = false; outstanding = l }) 0 (act.releases (name 1) 32) .outstanding
+
 -- ---- accesses. Shape, NUM, registers and a column, by warp 0 in a holding of so many columns
 abbrev pub AtColumn : Type 0
 AtColumn = ℕ × Shape × Num × ℕ × ℕ
 
 abbrev pub columnReason : AtColumn → ℕ
 columnReason x =
-    reasonIn (x .0) (statement 0 (Load (record { shape = x .1; num = x .2; registers = x .3; address = at 1 0 (x .4) })) ∷ [])
+    reasonIn (x .0) (statement 0 (Load (record { shape = x .1; num = x .2; registers = x .3; address = at 1 0 (x .4) })) ∷ waitLoad 0 ∷ [])
 
 abbrev pub columnCases : List (AtColumn × ℕ)
 columnCases =
@@ -165,7 +223,7 @@ abbrev pub AtLane : Type 0
 AtLane = ℕ × Shape × ℕ × ℕ
 
 abbrev pub laneReason : AtLane → ℕ
-laneReason x = reasonIn 32 (statement (x .0) (Store (record { shape = x .1; num = X1; registers = x .2; address = at 1 (x .3) 0 })) ∷ [])
+laneReason x = reasonIn 32 (statement (x .0) (Store (record { shape = x .1; num = X1; registers = x .2; address = at 1 (x .3) 0 })) ∷ waitStore (x .0) ∷ [])
 
 abbrev pub laneCases : List (AtLane × ℕ)
 laneCases =
@@ -318,7 +376,7 @@ holdings apart zero = []
 holdings apart (suc n) = record { name = name (1000 + n); start = n * apart; columns = 32 } ∷ holdings apart n
 
 abbrev pub stateOf : List Allocation → List Binding → State
-stateOf live bound = record { live = live; values = bound; warp = none; relinquished = false; exited = false }
+stateOf live bound = record { live = live; values = bound; warp = none; relinquished = false; exited = false; outstanding = [] }
 
 -- the reason and the position of a statement of warp 0 in a state, with those columns held
 abbrev pub InState : Type 0
@@ -356,6 +414,8 @@ pub record Worked : Type 0 where
   pub header : answerOf (record { header = false; line = λ k. exit; count = 1; column = λ l p. mark p }) 0 ≡ answer 2 1 1 0 0
   pub whole : Gives judged sheetCases
   pub requests : Gives (λ columns. reasonIn columns []) requestCases
+  pub waits : Gives judged waitCases
+  pub left : marksLeft (marking 1 0 transfer.Load ∷ marking 2 1 transfer.Store ∷ marking 1 3 transfer.Store ∷ []) ≡ marking 2 1 transfer.Store ∷ []
   pub columns : Gives columnReason columnCases
   pub lanes : Gives laneReason laneCases
   pub mmas : Gives mmaReason mmaCases

@@ -1,4 +1,4 @@
--- The rules and the run: of accepted lines both keep the same names, lengths and numbers, whatever the starts. So the run does each accepted line
+-- The rules and the run: of accepted lines both keep the same names, lengths, numbers and loads and stores outstanding, whatever the starts. So the run does each accepted line
 -- but a request whose start may not be used. Assumes nothing.
 use Prim.Native.Nat.{ℕ, zero, suc, _+_, _*_, _/_, _%_, _≤_, _<_}
 use mathlib.Core.Path.{_≡_, refl, sym, ap, _∙_, subst}
@@ -27,7 +27,9 @@ use Rattle.statement.specs.declared.Metadata.the-variants.{Dense, Sparse}
 use Rattle.statement.specs.declared.Mma.{Mma}
 use Rattle.statement.specs.declared.Shape.{Shape}
 use Rattle.statement.specs.declared.Shape.the-variants.{S32x32, S16x64, S16x128, S16x256}
+use Rattle.statement.specs.declared.Transfer.{Transfer}
 use Rattle.statement.specs.declared.Access.{Access}
+use Rattle.statement.proofs.Each.{each-act}
 use Rattle.statement.specs.declared.Statement.{Statement}
 use Rattle.statement.specs.Canonical.{sparse}
 use Rattle.statement.specs.Views as act
@@ -41,10 +43,11 @@ use Rattle.rules.specs.Sheet.{Line, turnOf, actIn, Placing, lineRules, lineEffe
 use Rattle.rules.specs.Claims.{AllKept}
 use Rattle.rules.proofs.RulesProved.{no-more}
 use Rattle.laws.proofs.BoolLaws.{and-l, and-r, or-cases, clash}
+use Rattle.rules.proofs.OutstandingProved.{starts as sets, stops as ends, marked-next}
 use Rattle.rules.proofs.RuleLaws.{Accepted, accepted-line, request-kept, requests-kept, releases-kept, accesses-kept, multiplies-kept, exits-kept}
 use Rattle.tokens.proofs.Names.{same-true}
 use Rattle.run.specs.Run as run
-use Rattle.run.specs.Run.{Holding, Region, region, Run, Phase, going, stoppedAt, exited, ended, nOf, orZero, has, hasName, hasBoth, without, lies, allLie, bookedBy, operandRegions, metadataRegions, known, startAt, mayUse, heldColumns, able, done, inPhase, go, after}
+use Rattle.run.specs.Run.{Holding, Region, region, Run, Phase, going, stoppedAt, exited, ended, nOf, orZero, has, hasName, hasBoth, without, lies, allLie, bookedBy, operandRegions, metadataRegions, known, startAt, mayUse, heldColumns, begun, waitedFor, forgotten, able, done, inPhase, go, after}
 use Rattle.run.proofs.Sound.{total, Sound, counted}
 
 -- ---- holdings and allocations
@@ -260,6 +263,7 @@ operand-lies st (operand.Address x) xs b e n i r = allLie-cons (region x 128 8) 
 pub record Agree (st : State) (r : Run) : Type 0 where
   pub alike : Alike (st .live) (r .live)
   pub numbers : (n : Name) → run.numberOf n (r .notes) ≡ lookup n (st .values)
+  pub noted : (n : Name) (w : ℕ) (x : Transfer) → r .pending n w x ≡ s.isMarked n w x (st .outstanding)
   pub open′ : st .exited ≡ false
   pub goes : r .phase ≡ going
 
@@ -319,8 +323,9 @@ able-is starts place st r held w t p q a g d = at (actOf t) refl
         rw f
     at (act.releases n v) e = dealloc-both st r n v (releases-kept place st held w t a n v e) g .0
     at act.relinquishes e = refl
-    at (act.accesses x) e =
-        let k = accesses-kept place st held w t a x e in
+    at (act.waits y) e = refl
+    at (act.accesses y x) e =
+        let k = accesses-kept place st held w t a y x e in
         one-lies (region (x .address) (cells.lanesFor (x .shape)) (cells.columnsFor (x .shape) (x .num))) (r .live) (access-lies st w x (r .live) (g .alike) p (k .0) (k .1) (k .2))
     at (act.multiplies m) e =
         let k = multiplies-kept place st held w t a m e in
@@ -353,18 +358,33 @@ unfolding run.numberOf
 noted-alike st r n m width v g =
     ap (λ o. cond (sameName n m) (some v) o) (g .numbers m) ∙ sym (lookup-bind m (record { name = n; width = width; number = v }) (st .values))
 
+-- both make the same of what is outstanding: it is set by its own line, and ended by a wait or a dealloc
+pub pending-next : (starts : List ℕ) (r : Run) (v : ℕ) (n : Name) (w : ℕ) (x : Transfer) (a : Act)
+    → done starts r v a .pending n w x ≡ sets a v n w x || (not (ends a v n w x) && r .pending n w x)
+unfolding done begun waitedFor forgotten
+pending-next starts r v n w x a = each-act (λ a. done starts r v a .pending n w x ≡ sets a v n w x || (not (ends a v n w x) && r .pending n w x)) a search
+
+pending-alike : (starts : List ℕ) (place : Placer) (st : State) (r : Run) (v : ℕ) (a : Act) → Agree st r → (n : Name) (w : ℕ) (x : Transfer)
+    → done starts r v a .pending n w x ≡ s.isMarked n w x (effect place st v a .outstanding)
+pending-alike starts place st r v a g n w x =
+    pending-next starts r v n w x a ∙ ap (λ b. sets a v n w x || (not (ends a v n w x) && b)) (g .noted n w x) ∙ sym (marked-next n w x place st v a)
+
 does : (starts : List ℕ) (place : Placer) (st : State) (r : Run) (held w : ℕ) (t : Statement)
-    → Accepted place st held w t → Agree st r → Follows (done starts r (actOf t) .phase) (effect place st w (actOf t)) (done starts r (actOf t))
+    → Accepted place st held w t → Agree st r → Follows (done starts r w (actOf t) .phase) (effect place st w (actOf t)) (done starts r w (actOf t))
 unfolding done effect
 does starts place st r held w t a g = at (actOf t) refl
   where
-    at : (x : Act) → actOf t ≡ x → Follows (done starts r x .phase) (effect place st w x) (done starts r x)
-    at (act.binds n width v) e = record { alike = g .alike; numbers = λ m. noted-alike st r n m width v g; open′ = g .open′; goes = refl }
+    noted : (x : Act) (n : Name) (v : ℕ) (y : Transfer) → done starts r w x .pending n v y ≡ s.isMarked n v y (effect place st w x .outstanding)
+    noted x = pending-alike starts place st r w x g
+
+    at : (x : Act) → actOf t ≡ x → Follows (done starts r w x .phase) (effect place st w x) (done starts r w x)
+    at (act.binds n width v) e = record { alike = g .alike; numbers = λ m. noted-alike st r n m width v g; noted = noted (act.binds n width v); open′ = g .open′; goes = refl }
     at (act.requests n v) e =
         let k = request-kept place st held w t a (record { name = n; columns = v }) (ap requestIn e) in
         record {
           alike = added-alike n v (orZero (startAt starts (r .requests))) (place (st .live) v) (st .live) (r .live) (k .1) (g .alike);
           numbers = g .numbers;
+          noted = noted (act.requests n v);
           open′ = g .open′;
           goes = refl;
         }
@@ -373,12 +393,18 @@ does starts place st r held w t a g = at (actOf t) refl
         record {
           alike = subst (λ l. Alike (s.without n (st .live)) l) (sym (k .1)) (without-alike n (st .live) (r .live) (g .alike));
           numbers = g .numbers;
+          noted = noted (act.releases n v);
           open′ = g .open′;
           goes = refl;
         }
     at act.relinquishes e =
-        subst (λ p. Follows p (effect place st w act.relinquishes) r) (sym (g .goes)) (record { alike = g .alike; numbers = g .numbers; open′ = g .open′; goes = g .goes })
-    at (act.accesses x) e = stays st r g
+        subst (λ p. Follows p (effect place st w act.relinquishes) r) (sym (g .goes)) (record { alike = g .alike; numbers = g .numbers; noted = g .noted; open′ = g .open′; goes = g .goes })
+    at (act.accesses y x) e =
+        subst (λ p. Follows p (effect place st w (act.accesses y x)) (done starts r w (act.accesses y x))) (sym (g .goes))
+        (record { alike = g .alike; numbers = g .numbers; noted = noted (act.accesses y x); open′ = g .open′; goes = g .goes })
+    at (act.waits y) e =
+        subst (λ p. Follows p (effect place st w (act.waits y)) (done starts r w (act.waits y))) (sym (g .goes))
+        (record { alike = g .alike; numbers = g .numbers; noted = noted (act.waits y); open′ = g .open′; goes = g .goes })
     at (act.multiplies m) e = stays st r g
     at act.exits e = (refl, g .alike)
     at act.nothing e = stays st r g
@@ -391,16 +417,16 @@ able-line starts place st r held x q h g d =
     (λ w t p a. able-is starts place st r held w t p q a g d)
 
 does-line : (starts : List ℕ) (place : Placer) (st : State) (r : Run) (held : ℕ) (x : Line) → AllKept (lineRules place st held x) → Agree st r
-    → Follows (done starts r (actIn x) .phase) (lineEffect place st x) (done starts r (actIn x))
+    → Follows (done starts r (turnOf x .warp) (actIn x) .phase) (lineEffect place st x) (done starts r (turnOf x .warp) (actIn x))
 does-line starts place st r held x h g =
-    accepted-line place st held x h (λ x. Follows (done starts r (actIn x) .phase) (lineEffect place st x) (done starts r (actIn x))) (λ w t p a. does starts place st r held w t a g)
+    accepted-line place st held x h (λ x. Follows (done starts r (turnOf x .warp) (actIn x) .phase) (lineEffect place st x) (done starts r (turnOf x .warp) (actIn x))) (λ w t p a. does starts place st r held w t a g)
 
 steps : (starts : List ℕ) (place : Placer) (st : State) (r : Run) (held number : ℕ) (x : Line) (p : Phase) → r .phase ≡ p → AllKept (lineRules place st held x) → Follows p st r
     → Follows (go p starts r number (turnOf x) .phase) (lineEffect place st x) (go p starts r number (turnOf x))
 unfolding go
 steps starts place st r held number x going q h g = at (able starts r (actIn x))
   where
-    at : (t : Bool) → Follows (cond t (done starts r (actIn x)) (inPhase (stoppedAt number) r) .phase) (lineEffect place st x) (cond t (done starts r (actIn x)) (inPhase (stoppedAt number) r))
+    at : (t : Bool) → Follows (cond t (done starts r (turnOf x .warp) (actIn x)) (inPhase (stoppedAt number) r) .phase) (lineEffect place st x) (cond t (done starts r (turnOf x .warp) (actIn x)) (inPhase (stoppedAt number) r))
     at true = does-line starts place st r held x h g
     at false = tt
 steps starts place st r held number x (stoppedAt l) q h g = subst (λ p. Follows p (lineEffect place st x) r) (sym q) tt
@@ -410,8 +436,8 @@ steps starts place st r held number x ended q h g = absurd g
 -- after the same lines, each accepted
 pub follows : (starts : List ℕ) (placing : Placing) (line : ℕ → Line) (n : ℕ) → ((k : ℕ) → k < n → AllKept (rulesBy placing line k)) → (k : ℕ) → k ≤ n
     → Follows (after starts (λ j. turnOf (line j)) k .phase) (stateBy placing line k) (after starts (λ j. turnOf (line j)) k)
-unfolding after stateBy run.numberOf lookup
-follows starts placing line n h zero p = record { alike = tt; numbers = λ m. refl; open′ = refl; goes = refl }
+unfolding after stateBy run.numberOf lookup s.isMarked
+follows starts placing line n h zero p = record { alike = tt; numbers = λ m. refl; noted = λ m w x. refl; open′ = refl; goes = refl }
 follows starts placing line n h (suc k) p =
     steps starts (placing k) (stateBy placing line k) (after starts (λ j. turnOf (line j)) k) (heldAfter line k) (k + 2) (line k) (after starts (λ j. turnOf (line j)) k .phase) refl
     (h k (omega (arith, p))) (follows starts placing line n h k (omega (arith, p)))

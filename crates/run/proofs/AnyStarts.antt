@@ -9,10 +9,16 @@ use mathlib.Core.Logic.{_⊎_, inl, inr}
 use native.Mathlib.Omega.{arith}
 use lib.Dec.{leb}
 use borrow.Author.Tests.{leb-true, leb-false, le-leb, lt-ltb, eqb-true}
+use Rattle.tokens.specs.declared.Name.{Name}
 use Rattle.tokens.specs.Names.{sameName}
-use Rattle.statement.specs.Views.{Act, Turn, Ask, requestIn, exitIn, of}
-use Rattle.rules.specs.Sheet.{Sheet, Placing, heldAfter, stateBy, rulesBy}
+use Rattle.statement.specs.declared.Transfer.{Transfer}
+use Rattle.statement.specs.Views as act
+use Rattle.statement.specs.Views.{Act, Turn, Ask, actOf, requestIn, releaseIn, exitIn, of}
+use Rattle.rules.specs.State.{isBusy}
+use Rattle.rules.specs.Sheet.{Sheet, Placing, actIn, heldAfter, stateBy, rulesBy}
 use Rattle.rules.specs.Claims.{AllKept}
+use Rattle.rules.proofs.RuleLaws.{accepted-line, waited-kept}
+use Rattle.rules.proofs.OutstandingProved.{not-marked}
 use Rattle.laws.specs.Lists.{Among}
 use Rattle.laws.proofs.BoolLaws.{and-l, and-r, and-split, or-cases, bool, clash}
 use Rattle.tokens.proofs.Names.{same-true}
@@ -20,7 +26,7 @@ use Rattle.statement.proofs.Each.{each-act, exit-only}
 use Rattle.rules.proofs.Figures.{held-total}
 use Rattle.rules.proofs.RulesProved.{Clear, zero-kept}
 use Rattle.run.specs.Run.{Holding, Region, Run, Phase, going, stoppedAt, exited, ended, within, heldColumns, usable, startAt, mayUse, has, lies, allLie, bookedBy, known, able, done, inPhase, go, after, finish, outcome}
-use Rattle.run.specs.Demand3.{turnsOf, Inside, AllInside, Requests, Reached, Asks, Fails, Outcome, Willing, Fallen, Whichever}
+use Rattle.run.specs.Demand3.{turnsOf, Inside, AllInside, Requests, Releases, Reached, Asks, Fails, Outcome, Willing, Fallen, Whichever}
 use Rattle.run.proofs.Sound.{sound, sums}
 use Rattle.run.proofs.Agree.{Agree, Follows, follows, freeFor, able-line}
 
@@ -81,36 +87,36 @@ finish-exited ended e = absurd (omega (arith, ap number e))
 
 -- ---- one line
 -- an act that is done leaves the run going, but for an exit
-done-phase : (starts : List ℕ) (r : Run) (t : Act) → r .phase ≡ going → done starts r t .phase ≡ cond (exitIn t) exited going
+done-phase : (starts : List ℕ) (r : Run) (w : ℕ) (t : Act) → r .phase ≡ going → done starts r w t .phase ≡ cond (exitIn t) exited going
 unfolding done
-done-phase starts r t q = each-act (λ t. done starts r t .phase ≡ cond (exitIn t) exited going) t search
+done-phase starts r w t q = each-act (λ t. done starts r w t .phase ≡ cond (exitIn t) exited going) t search
 
 -- it does not stop it
-pub done-goes : (starts : List ℕ) (r : Run) (t : Act) (l : ℕ) → r .phase ≡ going → done starts r t .phase ≡ stoppedAt l → ⊥
-done-goes starts r t l q e = at (exitIn t) (sym (done-phase starts r t q) ∙ e)
+pub done-goes : (starts : List ℕ) (r : Run) (w : ℕ) (t : Act) (l : ℕ) → r .phase ≡ going → done starts r w t .phase ≡ stoppedAt l → ⊥
+done-goes starts r w t l q e = at (exitIn t) (sym (done-phase starts r w t q) ∙ e)
   where
     at : (b : Bool) → cond b exited going ≡ stoppedAt l → ⊥
     at true f = exited-stopped l refl f
     at false f = going-stopped l refl f
 
 module _ (starts : List ℕ) (r : Run) (line : ℕ) (x : Turn) (q : r .phase ≡ going) where
-  by-able : go (r .phase) starts r line x ≡ cond (able starts r (x .act)) (done starts r (x .act)) (inPhase (stoppedAt line) r)
+  by-able : go (r .phase) starts r line x ≡ cond (able starts r (x .act)) (done starts r (x .warp) (x .act)) (inPhase (stoppedAt line) r)
   unfolding go
   by-able = ap (λ p. go p starts r line x) q
 
   -- it is done, or the run stops
-  pub go-by : (P : Run → Type 0) → (able starts r (x .act) ≡ true → P (done starts r (x .act))) → (able starts r (x .act) ≡ false → P (inPhase (stoppedAt line) r))
+  pub go-by : (P : Run → Type 0) → (able starts r (x .act) ≡ true → P (done starts r (x .warp) (x .act))) → (able starts r (x .act) ≡ false → P (inPhase (stoppedAt line) r))
       → P (go (r .phase) starts r line x)
   go-by P f g = subst P (sym by-able) (at (able starts r (x .act)) refl)
     where
-      at : (t : Bool) → able starts r (x .act) ≡ t → P (cond t (done starts r (x .act)) (inPhase (stoppedAt line) r))
+      at : (t : Bool) → able starts r (x .act) ≡ t → P (cond t (done starts r (x .warp) (x .act)) (inPhase (stoppedAt line) r))
       at true e = f e
       at false e = g e
 
   stop-unable : (l : ℕ) → go (r .phase) starts r line x .phase ≡ stoppedAt l → (able starts r (x .act) ≡ false) × (l ≡ line)
   stop-unable l =
       go-by (λ z. z .phase ≡ stoppedAt l → (able starts r (x .act) ≡ false) × (l ≡ line))
-      (λ e d. absurd (done-goes starts r (x .act) l q d))
+      (λ e d. absurd (done-goes starts r (x .warp) (x .act) l q d))
       (λ e d. (e, same-line l line d refl))
 
   unable-stop : able starts r (x .act) ≡ false → go (r .phase) starts r line x .phase ≡ stoppedAt line
@@ -135,6 +141,16 @@ free-asks l t o e = at (requestIn t) e
     at : (q : Option Ask) → of q (λ r. mayUse l (r .columns) o) true ≡ false → (x : ℕ) × ((of q (λ r. some (r .columns)) none ≡ some x) × (mayUse l x o ≡ false))
     at none e = absurd (clash refl e)
     at (some r) e = (r .columns, (refl, e))
+
+-- ---- releases
+releases-is : (t : Act) (n : Name) → Releases t n → (c : ℕ) × (t ≡ act.releases n c)
+releases-is t n = each-act (λ t. Releases t n → (c : ℕ) × (t ≡ act.releases n c)) t (search (none-such, own))
+  where
+    none-such : {A : Type 0} → _≡_ {A = Option Name} none (some n) → A
+    none-such e = absurd (Option·none-ne-some n e)
+
+    own : (m : Name) (c : ℕ) → _≡_ {A = Option Name} (some m) (some n) → (d : ℕ) × (act.releases m c ≡ act.releases n d)
+    own m c e = (c, ap (λ k. act.releases k c) (Option·some-injective m n e))
 
 -- ---- accesses
 found : (p : Holding → Bool) (l : List Holding) → has p l ≡ true → (h : Holding) × Among h l × (p h ≡ true)
@@ -180,12 +196,12 @@ able-inside starts r t e =
     (p .0, all-inside (bookedBy (r .notes) t) (r .live) (p .1))
 
 -- ---- the exit
-exit-empty : (starts : List ℕ) (r : Run) (t : Act) → r .phase ≡ going → able starts r t ≡ true → done starts r t .phase ≡ exited → heldColumns (done starts r t .live) ≡ 0
+exit-empty : (starts : List ℕ) (r : Run) (w : ℕ) (t : Act) → r .phase ≡ going → able starts r t ≡ true → done starts r w t .phase ≡ exited → heldColumns (done starts r w t .live) ≡ 0
 unfolding able done bookedBy known allLie
-exit-empty starts r t q e f = at (exitIn t) refl (sym (done-phase starts r t q) ∙ f)
+exit-empty starts r w t q e f = at (exitIn t) refl (sym (done-phase starts r w t q) ∙ f)
   where
-    at : (b : Bool) → exitIn t ≡ b → cond b exited going ≡ exited → heldColumns (done starts r t .live) ≡ 0
-    at true g h = subst (λ x. able starts r x ≡ true → heldColumns (done starts r x .live) ≡ 0) (sym (exit-only t g)) (eqb-true (heldColumns (r .live)) 0) e
+    at : (b : Bool) → exitIn t ≡ b → cond b exited going ≡ exited → heldColumns (done starts r w t .live) ≡ 0
+    at true g h = subst (λ x. able starts r x ≡ true → heldColumns (done starts r w x .live) ≡ 0) (sym (exit-only t g)) (eqb-true (heldColumns (r .live)) 0) e
     at false g h = absurd (going-exited refl h)
 
 -- ---- many lines
@@ -260,7 +276,7 @@ module _ (starts : List ℕ) (turns : ℕ → Turn) where
       at (goes q) ih =
           subst (λ (z : Run). z .phase ≡ exited → heldColumns (z .live) ≡ 0) (sym (next m))
           (go-by starts (now m) (m + 2) (turns m) q (λ z. z .phase ≡ exited → heldColumns (z .live) ≡ 0)
-          (λ f d. exit-empty starts (now m) (turns m .act) q f d)
+          (λ f d. exit-empty starts (now m) (turns m .warp) (turns m .act) q f d)
           (λ f d. absurd (exited-stopped (m + 2) d refl))) e
       at (stopped j q) ih = same (stays-stopped m j q) ih
       at (out q) ih = same (stays-exited m q) ih
@@ -327,6 +343,18 @@ module _ (placing : Placing) (sheet : Sheet) (c : Clear placing sheet) (starts :
   unfolding outcome
   from-stop l e = finish-stopped (last .phase) l e
 
+  -- ---- loads and stores
+  unmarked : (k : ℕ) → k < sheet .count → (n : Name) → Releases (turnsOf sheet k .act) n → isBusy n (stateBy placing (sheet .line) k .outstanding) ≡ false
+  unmarked k h n =
+      accepted-line (placing k) (stateBy placing (sheet .line) k) (heldAfter (sheet .line) k) (sheet .line k) (kept k h)
+      (λ x. Releases (actIn x) n → isBusy n (stateBy placing (sheet .line) k .outstanding) ≡ false)
+      (λ w t p a e. let r = releases-is (actOf t) n e in waited-kept (placing k) (stateBy placing (sheet .line) k) (heldAfter (sheet .line) k) w t a n (r .0) (r .1))
+
+  waited : (k : ℕ) → Reached sheet starts k → (n : Name) → Releases (turnsOf sheet k .act) n → (w : ℕ) (x : Transfer) → our k .pending n w x ≡ false
+  waited k h n e w x =
+      agrees k (omega (arith, h .0)) (h .1) .noted n w x
+      ∙ not-marked n w x (stateBy placing (sheet .line) k .outstanding) (unmarked k (h .0) n e)
+
   pub any-starts : Whichever sheet starts
   any-starts =
       record {
@@ -337,6 +365,7 @@ module _ (placing : Placing) (sheet : Sheet) (c : Clear placing sheet) (starts :
         apart = λ k. sound starts (turnsOf sheet) k .apart;
         inside = λ k h n. fallen k h n (bool (able starts (our k) (turnsOf sheet k .act)));
         counted = λ k. sums starts (turnsOf sheet) k;
+        waited = waited;
         nothing = λ e. exited-empty starts (turnsOf sheet) (sheet .count) (from-exit e);
       }
     where

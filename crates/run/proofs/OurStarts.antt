@@ -184,7 +184,7 @@ module _ (starts : List ℕ) (st : State) (r : Run) (held w : ℕ) (t : Statemen
   abbrev Owned : Act → Type 0
   Owned x =
       actOf t ≡ x
-      → Same (effect lowest st w x .live) (done starts r x .live) × (done starts r x .requests ≡ r .requests + length (of (requestIn x) (λ y. startList (lowest (st .live) (y .columns))) []))
+      → Same (effect lowest st w x .live) (done starts r w x .live) × (done starts r w x .requests ≡ r .requests + length (of (requestIn x) (λ y. startList (lowest (st .live) (y .columns))) []))
 
   owns-new : (n : Name) (v : ℕ) → Owned (act.requests n v)
   unfolding done effect
@@ -203,7 +203,7 @@ module _ (starts : List ℕ) (st : State) (r : Run) (held w : ℕ) (t : Statemen
     omega arith,
   )
 
-  own-done : Same (effect lowest st w (actOf t) .live) (done starts r (actOf t) .live) × (done starts r (actOf t) .requests ≡ r .requests + length (given lowest st (statement w t)))
+  own-done : Same (effect lowest st w (actOf t) .live) (done starts r w (actOf t) .live) × (done starts r w (actOf t) .requests ≡ r .requests + length (given lowest st (statement w t)))
   unfolding done effect given
   own-done = let z : r .requests ≡ r .requests + 0 = omega arith in each-act Owned (actOf t) (search (owns-new, owns-less)) refl
 
@@ -241,8 +241,8 @@ own-step starts l rest st r held number x h q m e f = accepted-line lowest st he
         let u : Given starts (r .requests) st t = subst (λ j. Given starts j st t) (sym f) (given-by starts l rest st held w t a g) in
         let o = own-done starts st r held w t a m e u in
         go-by starts r number (turnOf (statement w t)) q (λ z. Own (z .phase) (effect lowest st w (actOf t)) z (length (l ++ given lowest st (statement w t))))
-        (λ d. own-phase (done starts r (actOf t) .phase) (effect lowest st w (actOf t)) (done starts r (actOf t)) (length (l ++ given lowest st (statement w t)))
-        (λ j. done-goes starts r (actOf t) j q) (o .0) (o .1 ∙ omega (arith, f, length-append l (given lowest st (statement w t)))))
+        (λ d. own-phase (done starts r w (actOf t) .phase) (effect lowest st w (actOf t)) (done starts r w (actOf t)) (length (l ++ given lowest st (statement w t)))
+        (λ j. done-goes starts r w (actOf t) j q) (o .0) (o .1 ∙ omega (arith, f, length-append l (given lowest st (statement w t)))))
         (λ d. absurd (clash (b ∙ own-free starts st r held w t a e u) d))
 
 legal-least : (x : ℕ) → legal x ≡ true → 32 ≤ x

@@ -120,10 +120,10 @@ pub record Sound (r : Run) : Type 0 where
   pub apart : NoOverlap (r .live)
   pub sum : r .asked ≡ r .returned + total (r .live)
 
-does : (starts : List ℕ) (r : Run) (x : Act) → able starts r x ≡ true → Sound r → Sound (done starts r x)
+does : (starts : List ℕ) (r : Run) (w : ℕ) (x : Act) → able starts r x ≡ true → Sound r → Sound (done starts r w x)
 unfolding able done total known bookedBy allLie
-does starts r (act.binds n width v) e s = record { low = s .low; apart = s .apart; sum = s .sum }
-does starts r (act.requests n v) e s =
+does starts r w (act.binds n width v) e s = record { low = s .low; apart = s .apart; sum = s .sum }
+does starts r w (act.requests n v) e s =
     let o = startAt starts (r .requests) in
     let u = used (r .live) v o (and-r (not (has (hasName n) (r .live))) (mayUse (r .live) v o) e) in
     let h : Holding = record { name = n; start = orZero o; length = v } in
@@ -132,24 +132,25 @@ does starts r (act.requests n v) e s =
       apart = ((λ c p q. clash q (usable-free (r .live) v (orZero o) c u (within-from h c p) (within-to h c p))), s .apart);
       sum = omega (arith, s .sum);
     }
-does starts r (act.releases n v) e s =
+does starts r w (act.releases n v) e s =
     record {
       low = low-without (hasBoth n v) (r .live) (s .low);
       apart = apart-without (hasBoth n v) (r .live) (s .apart);
       sum = omega (arith, s .sum, total-without n v (r .live) e);
     }
-does starts r act.relinquishes e s = s
-does starts r (act.accesses a) e s = s
-does starts r act.nothing e s = s
-does starts r (act.multiplies m) e s = s
-does starts r act.exits e s = record { low = s .low; apart = s .apart; sum = s .sum }
+does starts r w act.relinquishes e s = s
+does starts r w (act.accesses x a) e s = record { low = s .low; apart = s .apart; sum = s .sum }
+does starts r w (act.waits x) e s = record { low = s .low; apart = s .apart; sum = s .sum }
+does starts r w act.nothing e s = s
+does starts r w (act.multiplies m) e s = s
+does starts r w act.exits e s = record { low = s .low; apart = s .apart; sum = s .sum }
 
 goes : (p : Phase) (starts : List ℕ) (r : Run) (line : ℕ) (x : Turn) → Sound r → Sound (go p starts r line x)
 unfolding go
 goes going starts r line x s = at (able starts r (x .act)) refl
   where
-    at : (t : Bool) → able starts r (x .act) ≡ t → Sound (cond t (done starts r (x .act)) (inPhase (stoppedAt line) r))
-    at true e = does starts r (x .act) e s
+    at : (t : Bool) → able starts r (x .act) ≡ t → Sound (cond t (done starts r (x .warp) (x .act)) (inPhase (stoppedAt line) r))
+    at true e = does starts r (x .warp) (x .act) e s
     at false e = record { low = s .low; apart = s .apart; sum = s .sum }
 goes (stoppedAt l) starts r line x s = s
 goes exited starts r line x s = s

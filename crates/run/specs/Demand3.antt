@@ -5,8 +5,12 @@ use mathlib.Core.Bool.{Bool, true, false}
 use mathlib.Core.List.{List, [], _∷_, _++_}
 use mathlib.Core.Option.{none, some}
 use lib.ListN.{length, drop}
+use mathlib.Core.Logic.{_↔_}
 use Rattle.laws.specs.Lists.{Among}
-use Rattle.statement.specs.Views.{Act, Turn, requestIn, of}
+use Rattle.tokens.specs.declared.Name.{Name}
+use Rattle.statement.specs.declared.Transfer.{Transfer}
+use Rattle.statement.specs.Views.{Act, Turn, requestIn, releaseIn, of}
+use Rattle.rules.specs.Outstanding.{Outstanding}
 use Rattle.rules.specs.Sheet.{Sheet, turnOf, answerOf, startsOf, placesAfter}
 use Rattle.run.specs.Run.{Holding, Region, Run, Phase, going, stoppedAt, exited, within, held, heldColumns, usable, startAt, mayUse, bookedBy, known, after, outcome, peakOf}
 
@@ -35,6 +39,15 @@ AllInside (r ∷ rs) l = Inside r l × AllInside rs l
 -- that many columns are asked for
 abbrev pub Requests : Act → ℕ → Type 0
 Requests t columns = of (requestIn t) (λ r. some (r .columns)) none ≡ some columns
+
+-- the holding of that name is given back
+abbrev pub Releases : Act → Name → Type 0
+Releases t n = of (releaseIn t) (λ r. some (r .name)) none ≡ some n
+
+-- ---- what is noted of loads and stores, by any statements under any list of starts
+pub record NotesExact (starts : List ℕ) (turns : ℕ → Turn) : Type 0 where
+  -- as long as the run goes on: what it has as not waited for is what the lines before leave outstanding
+  pub noted : (k : ℕ) → after starts turns k .phase ≡ going → (n : Name) (w : ℕ) (x : Transfer) → (after starts turns k .pending n w x ≡ true) ↔ Outstanding turns k n w x
 
 -- ---- a run of a sheet under a list of starts
 module _ (sheet : Sheet) (starts : List ℕ) where
@@ -91,6 +104,8 @@ module _ (sheet : Sheet) (starts : List ℕ) where
     pub inside : (k : ℕ) → Reached k → (at (suc k) .phase ≡ stoppedAt (k + 2) → ⊥) → Fallen k
     -- the columns held, counted one by one, are those asked for less those given back
     pub counted : (k : ℕ) → heldColumns (at k .live) + at k .returned ≡ at k .asked
+    -- at each dealloc that is reached nothing is outstanding on that holding, no load and no store of any warp (what is noted: `NotesExact`)
+    pub waited : (k : ℕ) → Reached k → (n : Name) → Releases (actAt k) n → (w : ℕ) (x : Transfer) → at k .pending n w x ≡ false
     -- at the exit that is nothing
     pub nothing : Outcome exited → heldColumns (at (sheet .count) .live) ≡ 0
 

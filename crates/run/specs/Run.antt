@@ -11,10 +11,11 @@ use Rattle.tokens.specs.Names.{sameName}
 use Rattle.statement.specs.declared.Address.{Address}
 use Rattle.statement.specs.declared.Operand.{Operand}
 use Rattle.statement.specs.declared.Operand.the-variants as operand
+use Rattle.statement.specs.declared.Transfer.{Transfer}
 use Rattle.statement.specs.declared.Metadata.{Metadata}
 use Rattle.statement.specs.declared.Metadata.the-variants.{Dense, Sparse}
 use Rattle.statement.specs.Views as act
-use Rattle.statement.specs.Views.{Act, Turn, requestIn, releaseIn, accessIn, mmaIn, exitIn, for, when, holds, of}
+use Rattle.statement.specs.Views.{Act, Turn, sameTransfer, requestIn, releaseIn, accessIn, mmaIn, exitIn, for, when, holds, of}
 use Rattle.statement.specs.Cells.{lanesFor, columnsFor}
 use Rattle.rules.specs.Counting.{count, every}
 
@@ -30,6 +31,10 @@ pub record Note : Type 0 where
   pub name : Name
   pub number : ℕ
 
+-- whether a load, or a store, by a warp on the holding of a name was not waited for
+abbrev pub Pending : Type 0
+Pending = Name → (warp : ℕ) → Transfer → Bool
+
 -- it goes on; it stopped at that line of the sheet; it reached its exit; the lines ended without one
 pub data Phase : Type 0 where
   going : Phase
@@ -37,10 +42,11 @@ pub data Phase : Type 0 where
   exited : Phase
   ended : Phase
 
--- the holdings; the numbers, the last moved first; columns asked for and given back so far, the requests met, and the phase
+-- the holdings; the numbers, the last moved first; what was not waited for; columns asked for and given back so far, the requests met, and the phase
 pub record Run : Type 0 where
   pub live : List Holding
   pub notes : List Note
+  pub pending : Pending
   pub asked : ℕ
   pub returned : ℕ
   pub requests : ℕ
@@ -48,7 +54,7 @@ pub record Run : Type 0 where
 
 -- all empty at first
 abbrev pub empty : Run
-empty = record { live = []; notes = []; asked = 0; returned = 0; requests = 0; phase = going }
+empty = record { live = []; notes = []; pending = λ n w x. false; asked = 0; returned = 0; requests = 0; phase = going }
 
 -- ---- columns
 -- the column is one of the holding's
@@ -148,6 +154,19 @@ allLie (r ∷ rs) l = has (lies r) l && allLie rs l
 unfoldable pub known : List Note → Act → Bool
 known v t = of (mmaIn t) (λ m. isSome (numberOf (m .idesc) v)) true
 
+-- ---- loads and stores
+-- one by a warp on the holding of a name
+unfoldable pub begun : Name → ℕ → Transfer → Pending → Pending
+begun m v y p n w x = (sameName m n && (eqb v w && sameTransfer y x)) || p n w x
+
+-- a warp waits for its loads, or its stores, whatever their holdings
+unfoldable pub waitedFor : ℕ → Transfer → Pending → Pending
+waitedFor v y p n w x = not (eqb v w && sameTransfer y x) && p n w x
+
+-- the holding of a name is gone, and with it what was noted of it
+unfoldable pub forgotten : Name → Pending → Pending
+forgotten m p n w x = not (sameName m n) && p n w x
+
 -- ---- a line
 -- whether a statement can be done: an alloc of a name that is not live, at a start that may be used; a dealloc of a holding of that name and
 -- length; an exit where nothing is held; and of any, that the number which it needs was moved and each access that it books lies in the holding that it names
@@ -160,34 +179,55 @@ able starts r t = holds
     ∷ [])
 
 abbrev pub noted : Run → Name → ℕ → Run
-noted r n x = record { live = r .live; notes = record { name = n; number = x } ∷ r .notes; asked = r .asked; returned = r .returned; requests = r .requests; phase = going }
+noted r n x = record {
+  live = r .live;
+  notes = record { name = n; number = x } ∷ r .notes;
+  pending = r .pending;
+  asked = r .asked;
+  returned = r .returned;
+  requests = r .requests;
+  phase = going;
+}
 
--- a statement done
-unfoldable pub done : List ℕ → Run → Act → Run
-done starts r (act.binds n width x) = noted r n x
-done starts r (act.requests n x) =
+abbrev pub pendingIs : Pending → Run → Run
+pendingIs p r = record { live = r .live; notes = r .notes; pending = p; asked = r .asked; returned = r .returned; requests = r .requests; phase = r .phase }
+
+abbrev pub inPhase : Phase → Run → Run
+inPhase p r = record { live = r .live; notes = r .notes; pending = r .pending; asked = r .asked; returned = r .returned; requests = r .requests; phase = p }
+
+-- a statement of a warp done; loads, stores and waits are noted and stop nothing
+unfoldable pub done : List ℕ → Run → (warp : ℕ) → Act → Run
+done starts r w (act.binds n width v) = noted r n v
+done starts r w (act.requests n v) =
     record {
-      live = record { name = n; start = orZero (startAt starts (r .requests)); length = x } ∷ r .live;
+      live = record { name = n; start = orZero (startAt starts (r .requests)); length = v } ∷ r .live;
       notes = r .notes;
-      asked = r .asked + x;
+      pending = r .pending;
+      asked = r .asked + v;
       returned = r .returned;
       requests = suc (r .requests);
       phase = going;
     }
-done starts r (act.releases n x) =
-    record { live = without (hasBoth n x) (r .live); notes = r .notes; asked = r .asked; returned = r .returned + x; requests = r .requests; phase = going }
-done starts r act.relinquishes = r
-done starts r (act.accesses a) = r
-done starts r (act.multiplies m) = r
-done starts r act.exits = record { live = r .live; notes = r .notes; asked = r .asked; returned = r .returned; requests = r .requests; phase = exited }
-done starts r act.nothing = r
-
-abbrev pub inPhase : Phase → Run → Run
-inPhase p r = record { live = r .live; notes = r .notes; asked = r .asked; returned = r .returned; requests = r .requests; phase = p }
+done starts r w (act.releases n v) =
+    record {
+      live = without (hasBoth n v) (r .live);
+      notes = r .notes;
+      pending = forgotten n (r .pending);
+      asked = r .asked;
+      returned = r .returned + v;
+      requests = r .requests;
+      phase = going;
+    }
+done starts r w act.relinquishes = r
+done starts r w (act.accesses x a) = pendingIs (begun (a .address .base) w x (r .pending)) r
+done starts r w (act.waits x) = pendingIs (waitedFor w x (r .pending)) r
+done starts r w (act.multiplies m) = r
+done starts r w act.exits = inPhase exited r
+done starts r w act.nothing = r
 
 -- a line that cannot be done stops the run and changes nothing; a run that is not going stays as it is
 unfoldable pub go : Phase → List ℕ → Run → ℕ → Turn → Run
-go going starts r line x = cond (able starts r (x .act)) (done starts r (x .act)) (inPhase (stoppedAt line) r)
+go going starts r line x = cond (able starts r (x .act)) (done starts r (x .warp) (x .act)) (inPhase (stoppedAt line) r)
 go (stoppedAt l) starts r line x = r
 go exited starts r line x = r
 go ended starts r line x = r

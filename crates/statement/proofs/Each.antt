@@ -1,7 +1,7 @@
 -- The kinds of opcodes, statements and acts, each written once: a claim that holds of each kind holds of all. With `search` for the kinds at which it
 -- holds by computation, a law names the others only. Assumes nothing.
 use Prim.Native.Nat.{ℕ}
-use mathlib.Core.Path.{_≡_}
+use mathlib.Core.Path.{_≡_, refl, subst}
 use mathlib.Core.Bool.{Bool, true, false}
 use Rattle.instruction.specs.declared.Kind.{Kind}
 use Rattle.tokens.specs.declared.Name.{Name}
@@ -9,12 +9,14 @@ use Rattle.statement.specs.declared.Shape.{Shape}
 use Rattle.statement.specs.declared.Num.{Num}
 use Rattle.statement.specs.declared.Access.{Access}
 use Rattle.statement.specs.declared.Mma.{Mma}
+use Rattle.statement.specs.declared.Transfer.{Transfer}
+use Rattle.statement.specs.declared.Transfer.the-variants as transfer
 use Rattle.statement.specs.declared.Opcode.{Opcode}
 use Rattle.statement.specs.declared.Opcode.the-variants as o
 use Rattle.statement.specs.declared.Statement.{Statement}
 use Rattle.statement.specs.declared.Statement.the-variants as s
 use Rattle.statement.specs.Views as act
-use Rattle.statement.specs.Views.{Act, exitIn}
+use Rattle.statement.specs.Views.{Act, sameTransfer, exitIn}
 use Rattle.laws.proofs.BoolLaws.{never}
 
 pub record OfOpcodes (Claim : Opcode → Type 0) : Type 0 where
@@ -84,7 +86,8 @@ pub record OfActs (Claim : Act → Type 0) : Type 0 where
   pub requests : (n : Name) (v : ℕ) → Claim (act.requests n v)
   pub releases : (n : Name) (v : ℕ) → Claim (act.releases n v)
   pub relinquishes : Claim act.relinquishes
-  pub accesses : (a : Access) → Claim (act.accesses a)
+  pub accesses : (x : Transfer) (a : Access) → Claim (act.accesses x a)
+  pub waits : (x : Transfer) → Claim (act.waits x)
   pub multiplies : (m : Mma) → Claim (act.multiplies m)
   pub exits : Claim act.exits
   pub nothing : Claim act.nothing
@@ -94,10 +97,25 @@ each-act Claim (act.binds n width v) h = h .binds n width v
 each-act Claim (act.requests n v) h = h .requests n v
 each-act Claim (act.releases n v) h = h .releases n v
 each-act Claim act.relinquishes h = h .relinquishes
-each-act Claim (act.accesses a) h = h .accesses a
+each-act Claim (act.accesses x a) h = h .accesses x a
+each-act Claim (act.waits x) h = h .waits x
 each-act Claim (act.multiplies m) h = h .multiplies m
 each-act Claim act.exits h = h .exits
 each-act Claim act.nothing h = h .nothing
+
+-- loads are loads, and stores stores
+pub same-transfer : (x y : Transfer) → sameTransfer x y ≡ true → x ≡ y
+same-transfer transfer.Load transfer.Load e = refl
+same-transfer transfer.Load transfer.Store e = never e
+same-transfer transfer.Store transfer.Load e = never e
+same-transfer transfer.Store transfer.Store e = refl
+
+pub transfer-same : (x y : Transfer) → x ≡ y → sameTransfer x y ≡ true
+transfer-same x y e = subst (λ z. sameTransfer x z ≡ true) e (own x)
+  where
+    own : (z : Transfer) → sameTransfer z z ≡ true
+    own transfer.Load = refl
+    own transfer.Store = refl
 
 -- only `exit` ends a sheet
 pub exit-only : (a : Act) → exitIn a ≡ true → a ≡ act.exits

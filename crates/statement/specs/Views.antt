@@ -6,6 +6,8 @@ use mathlib.Core.Option.{Option, none, some}
 use Rattle.tokens.specs.declared.Name.{Name}
 use Rattle.statement.specs.declared.Mma.{Mma}
 use Rattle.statement.specs.declared.Access.{Access}
+use Rattle.statement.specs.declared.Transfer.{Transfer}
+use Rattle.statement.specs.declared.Transfer.the-variants as transfer
 use Rattle.statement.specs.declared.Statement.{Statement}
 use Rattle.statement.specs.declared.Statement.the-variants.{Mov32, Mov64, Alloc, Dealloc, Relinquish, Load, Store, WaitLoad, WaitStore, FenceBefore, FenceAfter, Multiply, Exit}
 
@@ -20,7 +22,8 @@ pub data Act : Type 0 where
   requests : (name : Name) → (columns : ℕ) → Act
   releases : (name : Name) → (columns : ℕ) → Act
   relinquishes : Act
-  accesses : Access → Act
+  accesses : Transfer → Access → Act
+  waits : Transfer → Act
   multiplies : Mma → Act
   exits : Act
   nothing : Act
@@ -31,10 +34,10 @@ actOf (Mov64 n v) = binds n 64 v
 actOf (Alloc n v) = requests n v
 actOf (Dealloc n v) = releases n v
 actOf Relinquish = relinquishes
-actOf (Load a) = accesses a
-actOf (Store a) = accesses a
-actOf WaitLoad = nothing
-actOf WaitStore = nothing
+actOf (Load a) = accesses transfer.Load a
+actOf (Store a) = accesses transfer.Store a
+actOf WaitLoad = waits transfer.Load
+actOf WaitStore = waits transfer.Store
 actOf FenceBefore = nothing
 actOf FenceAfter = nothing
 actOf (Multiply m) = multiplies m
@@ -45,13 +48,21 @@ pub record Turn : Type 0 where
   pub warp : ℕ
   pub act : Act
 
+-- both are loads, or both stores
+abbrev pub sameTransfer : Transfer → Transfer → Bool
+sameTransfer transfer.Load transfer.Load = true
+sameTransfer transfer.Load transfer.Store = false
+sameTransfer transfer.Store transfer.Load = false
+sameTransfer transfer.Store transfer.Store = true
+
 -- the columns that it asks for, or gives back; its access; its mma; the name that it binds
 abbrev pub requestIn : Act → Option Ask
 requestIn (binds n w v) = none
 requestIn (requests n v) = some (record { name = n; columns = v })
 requestIn (releases n v) = none
 requestIn relinquishes = none
-requestIn (accesses a) = none
+requestIn (accesses x a) = none
+requestIn (waits x) = none
 requestIn (multiplies m) = none
 requestIn exits = none
 requestIn nothing = none
@@ -61,7 +72,8 @@ releaseIn (binds n w v) = none
 releaseIn (requests n v) = none
 releaseIn (releases n v) = some (record { name = n; columns = v })
 releaseIn relinquishes = none
-releaseIn (accesses a) = none
+releaseIn (accesses x a) = none
+releaseIn (waits x) = none
 releaseIn (multiplies m) = none
 releaseIn exits = none
 releaseIn nothing = none
@@ -71,7 +83,8 @@ accessIn (binds n w v) = none
 accessIn (requests n v) = none
 accessIn (releases n v) = none
 accessIn relinquishes = none
-accessIn (accesses a) = some a
+accessIn (accesses x a) = some a
+accessIn (waits x) = none
 accessIn (multiplies m) = none
 accessIn exits = none
 accessIn nothing = none
@@ -81,7 +94,8 @@ mmaIn (binds n w v) = none
 mmaIn (requests n v) = none
 mmaIn (releases n v) = none
 mmaIn relinquishes = none
-mmaIn (accesses a) = none
+mmaIn (accesses x a) = none
+mmaIn (waits x) = none
 mmaIn (multiplies m) = some m
 mmaIn exits = none
 mmaIn nothing = none
@@ -91,7 +105,8 @@ boundIn (binds n w v) = some n
 boundIn (requests n v) = none
 boundIn (releases n v) = none
 boundIn relinquishes = none
-boundIn (accesses a) = none
+boundIn (accesses x a) = none
+boundIn (waits x) = none
 boundIn (multiplies m) = none
 boundIn exits = none
 boundIn nothing = none
@@ -102,7 +117,8 @@ exitIn (binds n w v) = false
 exitIn (requests n v) = false
 exitIn (releases n v) = false
 exitIn relinquishes = false
-exitIn (accesses a) = false
+exitIn (accesses x a) = false
+exitIn (waits x) = false
 exitIn (multiplies m) = false
 exitIn exits = true
 exitIn nothing = false
@@ -113,7 +129,8 @@ bookingIn (binds n w v) = false
 bookingIn (requests n v) = true
 bookingIn (releases n v) = true
 bookingIn relinquishes = true
-bookingIn (accesses a) = false
+bookingIn (accesses x a) = false
+bookingIn (waits x) = false
 bookingIn (multiplies m) = false
 bookingIn exits = false
 bookingIn nothing = false

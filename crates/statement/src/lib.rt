@@ -68,6 +68,12 @@ pub struct Access {
     pub address: Address,
 }
 
+// A ld, from Tensor Memory to registers, or a st, the other way.
+pub enum Transfer {
+    Load,
+    Store,
+}
+
 pub enum Statement {
     Mov32(Name, u32),
     Mov64(Name, u64),

@@ -1,7 +1,7 @@
 -- What the judge keeps from line to line, beside a state of the rules; and what one statement gives. Assumes nothing.
 use Prim.Native.Nat.{ℕ, _^_, _<_}
 use mathlib.Core.Path.{_≡_}
-use mathlib.Core.Bool.{true, cond}
+use mathlib.Core.Bool.{Bool, true, _&&_, cond}
 use mathlib.Core.List.{List, [], _∷_}
 use lib.Dec.{eqb}
 use lib.ListN.{length}
@@ -9,19 +9,25 @@ use denote.Ref.{RefT, now}
 use denote.Triple.Both.{Both}
 use Rattle.laws.specs.Rules.{Rule, firstBroken}
 use Rattle.tokens.specs.declared.Name.{Name}
+use Rattle.statement.specs.declared.Transfer.{Transfer}
+use Rattle.statement.specs.declared.Transfer.the-variants as transfer
+use Rattle.statement.specs.declared.Access.{Access}
 use Rattle.statement.specs.declared.Statement.{Statement}
-use Rattle.statement.specs.declared.Statement.the-variants.{Mov32, Mov64, Alloc}
+use Rattle.statement.specs.declared.Statement.the-variants.{Mov32, Mov64, Alloc, Load, Store, WaitLoad, WaitStore}
 use Rattle.rules.specs.State.{State, lowest}
 use Rattle.rules.specs.Reasons.{openRules, rules}
 use Rattle.rules.specs.Sheet.{Line, statement, given, requested, released, lineRules, lineEffect}
 use Rattle.ledger.specs.declared.Ledger.{Ledger}
 use Rattle.ledger.specs.declared.Booked.{Booked}
 use Rattle.ledger.specs.Shows.{warpOf}
+use Rattle.outstanding.specs.declared.Outstanding.{Outstanding}
+use Rattle.outstanding.specs.Words.{busyIn}
+use Rattle.outstanding.specs.Shows as outstanding
 use Rattle.checks.specs.Tables.{Tables}
 use Rattle.steps.specs.declared.Status.{Status}
 use Rattle.steps.specs.declared.Step.{Step}
 
--- all arrays: of the ledger, then of the table of value names
+-- all arrays: of the ledger, of the table of value names, and the words of what is outstanding
 pub record Arrays : Type 0 where
   pub hi : List ℕ
   pub lo : List ℕ
@@ -30,37 +36,42 @@ pub record Arrays : Type 0 where
   pub valueLo : List ℕ
   pub numbers : List ℕ
   pub widths : List ℕ
+  pub words : List ℕ
 
-abbrev pub arrays : (hi lo columns valueHi valueLo numbers widths : List ℕ) → Arrays
-arrays hi lo columns valueHi valueLo numbers widths =
-    record { hi = hi; lo = lo; columns = columns; valueHi = valueHi; valueLo = valueLo; numbers = numbers; widths = widths }
+abbrev pub arrays : (hi lo columns valueHi valueLo numbers widths words : List ℕ) → Arrays
+arrays hi lo columns valueHi valueLo numbers widths words =
+    record { hi = hi; lo = lo; columns = columns; valueHi = valueHi; valueLo = valueLo; numbers = numbers; widths = widths; words = words }
 
--- those that a function is lent, as its contract names them: in a `requires`; and in an `ensures` as they came in, and as they go out
-abbrev pub arraysNow : (hi lo columns valueHi valueLo numbers widths : RefT (List ℕ)) → Arrays
-arraysNow hi lo columns valueHi valueLo numbers widths = arrays (now hi) (now lo) (now columns) (now valueHi) (now valueLo) (now numbers) (now widths)
+-- those that a function is lent, as its contract names them, beside the words: in a `requires`; and in an `ensures` as they came in, and as they go out
+abbrev pub arraysNow : (hi lo columns valueHi valueLo numbers widths : RefT (List ℕ)) → (words : List ℕ) → Arrays
+arraysNow hi lo columns valueHi valueLo numbers widths words = arrays (now hi) (now lo) (now columns) (now valueHi) (now valueLo) (now numbers) (now widths) words
 
 -- an array at both ends of a call
 abbrev pub Lent : Type 0
 Lent = Both (RefT (List ℕ)) (RefT (List ℕ))
 
-abbrev pub arraysIn : (hi lo columns valueHi valueLo numbers widths : Lent) → Arrays
-arraysIn hi lo columns valueHi valueLo numbers widths =
-    arraysNow (hi .entry) (lo .entry) (columns .entry) (valueHi .entry) (valueLo .entry) (numbers .entry) (widths .entry)
+abbrev pub arraysIn : (hi lo columns valueHi valueLo numbers widths : Lent) → (words : List ℕ) → Arrays
+arraysIn hi lo columns valueHi valueLo numbers widths words =
+    arraysNow (hi .entry) (lo .entry) (columns .entry) (valueHi .entry) (valueLo .entry) (numbers .entry) (widths .entry) words
 
-abbrev pub arraysOut : (hi lo columns valueHi valueLo numbers widths : Lent) → Arrays
-arraysOut hi lo columns valueHi valueLo numbers widths =
-    arraysNow (hi .exit) (lo .exit) (columns .exit) (valueHi .exit) (valueLo .exit) (numbers .exit) (widths .exit)
+abbrev pub arraysOut : (hi lo columns valueHi valueLo numbers widths : Lent) → (words : List ℕ) → Arrays
+arraysOut hi lo columns valueHi valueLo numbers widths words =
+    arraysNow (hi .exit) (lo .exit) (columns .exit) (valueHi .exit) (valueLo .exit) (numbers .exit) (widths .exit) words
 
 -- the arrays of the table have their 128 places
-pub record Sized (a : Arrays) : Type 0 where
-  pub hi-128 : length (a .valueHi) ≡ 128
-  pub lo-128 : length (a .valueLo) ≡ 128
-  pub numbers-128 : length (a .numbers) ≡ 128
-  pub widths-128 : length (a .widths) ≡ 128
+pub record Sized (valueHi valueLo numbers widths : List ℕ) : Type 0 where
+  pub hi-128 : length valueHi ≡ 128
+  pub lo-128 : length valueLo ≡ 128
+  pub numbers-128 : length numbers ≡ 128
+  pub widths-128 : length widths ≡ 128
 
 -- the ledger that is kept
 abbrev pub ledgerOf : (hi lo columns : List ℕ) → Status → Ledger
 ledgerOf hi lo columns status = record { hi = hi; lo = lo; columns = columns; fixed = status .fixed; warp = status .warp; relinquished = status .relinquished }
+
+-- the loads and stores that are kept
+abbrev pub outstandingOf : List ℕ → Outstanding
+outstandingOf words = record { words = words }
 
 -- arrays and status are those of a state
 pub record Kept (a : Arrays) (status : Status) (s : State) : Type 0 where
@@ -68,6 +79,7 @@ pub record Kept (a : Arrays) (status : Status) (s : State) : Type 0 where
   pub warp : warpOf (ledgerOf (a .hi) (a .lo) (a .columns) status) ≡ s .warp
   pub relinquished : status .relinquished ≡ s .relinquished
   pub exited : status .exited ≡ s .exited
+  pub marks : outstanding.Shows (outstandingOf (a .words)) (a .hi) (a .lo) (a .columns) (s .outstanding)
 
 -- a reason and a status, no columns
 abbrev pub only : Status → ℕ → Step
@@ -103,11 +115,11 @@ abbrev pub OpenDone : (held w : ℕ) → Statement → Arrays → Status → Ste
 OpenDone held w t = Done (λ s. openRules lowest s held w t) (statement w t)
 
 -- ---- the parts: all but exit whatever is held
--- a statement before exit that touches the arrays of the ledger alone, whatever the table of value names has
-abbrev pub LedgerDone : ℕ → Statement → (hi lo columns : List ℕ) → Status → Step → (hi lo columns : List ℕ) → Type 0
-LedgerDone w t hi lo columns status r nextHi nextLo nextColumns =
+-- a statement before exit that touches the arrays of the ledger and the words alone, whatever the table of value names has
+abbrev pub LedgerDone : ℕ → Statement → (hi lo columns words : List ℕ) → Status → Step → (hi lo columns words : List ℕ) → Type 0
+LedgerDone w t hi lo columns words status r nextHi nextLo nextColumns nextWords =
     (held : ℕ) (valueHi valueLo numbers widths : List ℕ)
-    → OpenDone held w t (arrays hi lo columns valueHi valueLo numbers widths) status r (arrays nextHi nextLo nextColumns valueHi valueLo numbers widths)
+    → OpenDone held w t (arrays hi lo columns valueHi valueLo numbers widths words) status r (arrays nextHi nextLo nextColumns valueHi valueLo numbers widths nextWords)
 
 -- an alloc
 abbrev pub AllocDone : ℕ → Name → ℕ → Arrays → Status → Step → Arrays → Type 0
@@ -134,6 +146,19 @@ stepOf b status asked returned =
       status = record { fixed = b .next .fixed; warp = b .next .warp; relinquished = b .next .relinquished; exited = status .exited };
     })
     (only status (b .reason))
+
+-- a dealloc that the ledger accepts comes too early: something is outstanding on its allocation
+unfoldable pub isEarly : (reason : ℕ) → Outstanding → (hi lo columns : List ℕ) → Name → Bool
+isEarly reason o hi lo columns n = eqb reason 0 && busyIn o hi lo columns n
+
+-- a ld or a st, and its wait
+abbrev pub accessBy : Transfer → Access → Statement
+accessBy transfer.Load a = Load a
+accessBy transfer.Store a = Store a
+
+abbrev pub waitBy : Transfer → Statement
+waitBy transfer.Load = WaitLoad
+waitBy transfer.Store = WaitStore
 
 -- what exit answers, by the columns held
 abbrev pub exitOf : ℕ → Status → Step

@@ -1,14 +1,20 @@
 // One statement of a sheet, judged and booked: its reason, and what the judge keeps afterwards.
 ghost use mathlib.Core.Path.{_≡_};
+ghost use mathlib.Core.List.{List};
+ghost use Prim.Native.Nat.{ℕ, _<_};
 ghost use Rattle.statement.specs.declared.Statement.the-variants.{Dealloc, Relinquish};
-ghost use Rattle.steps.specs.Steps.{arraysNow, arraysIn, arraysOut, only, Sized, StatementDone, AllocDone, LedgerDone, MovDone, ledgerOf, stored, stepOf, exitOf};
+ghost use Rattle.steps.specs.Steps.{arraysIn, arraysOut, only, Sized, StatementDone, AllocDone, LedgerDone, MovDone, ledgerOf, outstandingOf, stored, stepOf, isEarly, accessBy, exitOf};
+ghost use Rattle.outstanding.specs.Words.{waited};
 use ledger::Booked;
 use ledger::Ledger;
+use outstanding::Outstanding;
+use statement::Access;
 use statement::Statement;
+use statement::Transfer;
 use tokens::Name;
 
-// What is kept beside the arrays of the ledger and of the table of value names. `fixed`: a warp is fixed, and `warp` says
-// which. `exited`: exit was passed.
+// What is kept beside the arrays of the ledger and of the table of value names, and the words of what is outstanding. `fixed`: a warp
+// is fixed, and `warp` says which. `exited`: exit was passed.
 pub struct Status {
     pub fixed: bool,
     pub warp: u8,
@@ -53,8 +59,9 @@ fn mov<'a>(
     width: u8,
     number: u64,
 ) -> Step
-    requires { ⌜ Sized (arraysNow hi lo columns «value_hi» «value_lo» numbers widths) ⌝ }
-    ensures { λ r. ⌜ MovDone name width number (arraysIn hi lo columns «value_hi» «value_lo» numbers widths) status r (arraysOut hi lo columns «value_hi» «value_lo» numbers widths) ⌝ }
+    requires { ⌜ Sized (now «value_hi») (now «value_lo») (now numbers) (now widths) ⌝ }
+    ensures { λ r. ⌜ ((words : List ℕ) → MovDone name width number (arraysIn hi lo columns «value_hi» «value_lo» numbers widths words) status r
+        (arraysOut hi lo columns «value_hi» «value_lo» numbers widths words)) ⌝ }
 {
     let taken = ledger::find_in(hi, lo, columns, name);
     if taken.columns != 0 {
@@ -139,8 +146,8 @@ fn alloc<'a>(
     name: Name,
     requested: u32,
 ) -> Step
-    ensures { λ r. ⌜ AllocDone warp name requested (arraysIn hi lo columns «value_hi» «value_lo» numbers widths) status r
-        (arraysOut hi lo columns «value_hi» «value_lo» numbers widths) ⌝ }
+    ensures { λ r. ⌜ ((words : List ℕ) → AllocDone warp name requested (arraysIn hi lo columns «value_hi» «value_lo» numbers widths words) status r
+        (arraysOut hi lo columns «value_hi» «value_lo» numbers widths words)) ⌝ }
 {
     let bound = bindings::lookup_in(value_hi, value_lo, numbers, widths, name);
     if bound.width != 0 {
@@ -151,20 +158,43 @@ fn alloc<'a>(
     book(hi, lo, columns, booked, status, requested, 0)
 }
 
-// An allocation is released, unless the ledger refuses.
+// A dealloc that the ledger accepts comes too early: a load or store is outstanding on its allocation.
+fn is_early<'a>(
+    hi: &'a [u64; 16],
+    lo: &'a [u64; 16],
+    columns: &'a [u16; 16],
+    words: &'a [u16; 8],
+    name: Name,
+    reason: u32,
+) -> bool
+    ensures { λ r. ⌜ r ≡ isEarly reason (outstandingOf (now (words .entry))) (now (hi .entry)) (now (lo .entry)) (now (columns .entry)) name ⌝ }
+{
+    if reason != reasons::PASSED {
+        return false;
+    }
+    let outstanding = Outstanding { words: *words };
+    outstanding.is_busy(hi, lo, columns, name)
+}
+
+// An allocation is released, unless the ledger refuses, or a load or store is outstanding on it (18).
 fn release(
     hi: &mut [u64; 16],
     lo: &mut [u64; 16],
     columns: &mut [u16; 16],
+    words: &[u16; 8],
     status: Status,
     warp: u8,
     name: Name,
     released: u32,
 ) -> Step
-    ensures { λ r. ⌜ LedgerDone warp (Dealloc name released) (now (hi .entry)) (now (lo .entry)) (now (columns .entry)) status r (now (hi .exit)) (now (lo .exit)) (now (columns .exit)) ⌝ }
+    ensures { λ r. ⌜ LedgerDone warp (Dealloc name released) (now (hi .entry)) (now (lo .entry)) (now (columns .entry)) (now (words .entry)) status r
+        (now (hi .exit)) (now (lo .exit)) (now (columns .exit)) (now (words .entry)) ⌝ }
 {
     let ledger = lent(hi, lo, columns, status);
     let booked = ledger.release(name, warp, released);
+    if is_early(hi, lo, columns, words, name, booked.reason) {
+        return quiet(status, reasons::OUTSTANDING);
+    }
     book(hi, lo, columns, booked, status, 0, released)
 }
 
@@ -176,11 +206,55 @@ fn relinquish(
     status: Status,
     warp: u8,
 ) -> Step
-    ensures { λ r. ⌜ LedgerDone warp Relinquish (now (hi .entry)) (now (lo .entry)) (now (columns .entry)) status r (now (hi .exit)) (now (lo .exit)) (now (columns .exit)) ⌝ }
+    ensures { λ r. ⌜ ((words : List ℕ) → LedgerDone warp Relinquish (now (hi .entry)) (now (lo .entry)) (now (columns .entry)) words status r (now (hi .exit)) (now (lo .exit)) (now (columns .exit)) words) ⌝ }
 {
     let ledger = lent(hi, lo, columns, status);
     let booked = ledger.relinquish(warp);
     book(hi, lo, columns, booked, status, 0, 0)
+}
+
+// What is outstanding is put back into the words.
+fn mark(words: &mut [u16; 8], next: Outstanding)
+    ensures { λ _. ⌜ now (words .exit) ≡ next .words ⌝ }
+{
+    let w = next.words;
+    *words = w;
+}
+
+// A load or store is outstanding from here on, unless it is refused.
+fn access<'a>(
+    hi: &'a [u64; 16],
+    lo: &'a [u64; 16],
+    columns: &'a [u16; 16],
+    words: &mut [u16; 8],
+    status: Status,
+    warp: u8,
+    transfer: Transfer,
+    a: Access,
+) -> Step
+    requires { ⌜ warp < 4 ⌝ }
+    ensures { λ r. ⌜ LedgerDone warp (accessBy transfer a) (now (hi .entry)) (now (lo .entry)) (now (columns .entry)) (now (words .entry)) status r
+        (now (hi .entry)) (now (lo .entry)) (now (columns .entry)) (now (words .exit)) ⌝ }
+{
+    let judged = checks::access_judged(hi, lo, columns, warp, a);
+    if judged.reason != reasons::PASSED {
+        return quiet(status, judged.reason);
+    }
+    let outstanding = Outstanding { words: *words };
+    let slot = judged.start / 32;
+    mark(words, outstanding.begin(transfer, warp, slot));
+    quiet(status, reasons::PASSED)
+}
+
+// A warp waits for its loads, or for its stores.
+fn wait(words: &mut [u16; 8], status: Status, warp: u8, transfer: Transfer) -> Step
+    requires { ⌜ warp < 4 ⌝ }
+    ensures step { λ r. ⌜ r ≡ only status 0 ⌝ }
+    ensures words { λ _. ⌜ now (words .exit) ≡ waited (outstandingOf (now (words .entry))) transfer warp .words ⌝ }
+{
+    let outstanding = Outstanding { words: *words };
+    mark(words, outstanding.wait(transfer, warp));
+    quiet(status, reasons::PASSED)
 }
 
 // Exit, unless columns are held (15).
@@ -208,13 +282,15 @@ pub fn statement(
     value_lo: &mut [u64; 128],
     numbers: &mut [u64; 128],
     widths: &mut [u8; 128],
+    words: &mut [u16; 8],
     status: Status,
     held: u32,
     warp: u8,
     t: Statement,
 ) -> Step
-    requires { ⌜ Sized (arraysNow hi lo columns «value_hi» «value_lo» numbers widths) ⌝ }
-    ensures { λ r. ⌜ StatementDone held warp t (arraysIn hi lo columns «value_hi» «value_lo» numbers widths) status r (arraysOut hi lo columns «value_hi» «value_lo» numbers widths) ⌝ }
+    requires { ⌜ (warp < 4) × Sized (now «value_hi») (now «value_lo») (now numbers) (now widths) ⌝ }
+    ensures { λ r. ⌜ StatementDone held warp t (arraysIn hi lo columns «value_hi» «value_lo» numbers widths (now (words .entry))) status r
+        (arraysOut hi lo columns «value_hi» «value_lo» numbers widths (now (words .exit))) ⌝ }
 {
     if status.exited {
         return quiet(status, checks::closed_reason(t));
@@ -263,14 +339,13 @@ pub fn statement(
                 n,
             )
         }
-        Statement::Dealloc(name, n) => release(hi, lo, columns, status, warp, name, n),
+        Statement::Dealloc(name, n) => release(hi, lo, columns, words, status, warp, name, n),
         Statement::Relinquish => relinquish(hi, lo, columns, status, warp),
-        Statement::Load(a) => quiet(status, checks::access_reason(hi, lo, columns, warp, a)),
-        Statement::Store(a) => quiet(status, checks::access_reason(hi, lo, columns, warp, a)),
-        Statement::WaitLoad
-        | Statement::WaitStore
-        | Statement::FenceBefore
-        | Statement::FenceAfter => quiet(status, reasons::PASSED),
+        Statement::Load(a) => access(hi, lo, columns, words, status, warp, Transfer::Load, a),
+        Statement::Store(a) => access(hi, lo, columns, words, status, warp, Transfer::Store, a),
+        Statement::WaitLoad => wait(words, status, warp, Transfer::Load),
+        Statement::WaitStore => wait(words, status, warp, Transfer::Store),
+        Statement::FenceBefore | Statement::FenceAfter => quiet(status, reasons::PASSED),
         Statement::Multiply(m) => {
             quiet(
                 status,

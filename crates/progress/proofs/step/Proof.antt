@@ -4,7 +4,7 @@ use mathlib.Core.Path.{refl, _∙_}
 use borrow.Author.Needs.{needs}
 use borrow.Author.Tests.{not-true, not-false}
 use Rattle.statement.proofs.Readings.{unread}
-use Rattle.progress.proofs.StepLaws.{next-is, fault-done, fault-points, part, not-read, unread-points, was-read, read-points}
+use Rattle.progress.proofs.StepLaws.{next-is, fault-done, fault-points, part, warp-small, not-read, unread-points, was-read, read-points}
 use Rattle.progress.proofs.step.Statement.{statement}
 use Rattle.progress.proofs.step.Tie as tie
 
@@ -92,25 +92,28 @@ returns-2 c =
     )
 
 statement-requires : tie.Need-statement-requires
-statement-requires c κs = c .before .before .before .before .before .before .before .before .before .before .before .before .before .before .before .before .pre
+statement-requires c κs =
+    let a = c .before .before .before .before .before .before .before .before .before .before .before .before .before .before .before .before .before .args in
+    let l = c .before .before .before .before .before .before .before .before .before .before .before .before .before .before .before .line-at in
+    (warp-small (a .sheet .now) (a .at) (a .held) (l .result) (l .ensures) (not-false (l .result .ok) (c .before .before .before .before .before .before .before .before .before .before .before .before .before .if1 .left)), c .before .before .before .before .before .before .before .before .before .before .before .before .before .before .before .before .before .pre)
 
 sub-text-column : tie.Need-sub-text-column
 sub-text-column c =
-    let a = c .before .before .before .before .before .before .before .before .before .before .before .before .before .before .before .before .before .args in
-    let l = c .before .before .before .before .before .before .before .before .before .before .before .before .before .before .before .line-at in
-    part (a .sheet .now) (a .at) (a .held) (l .result) (l .ensures) (not-false (l .result .ok) (c .before .before .before .before .before .before .before .before .before .before .before .before .before .if1 .left)) .0
+    let a = c .before .before .before .before .before .before .before .before .before .before .before .before .before .before .before .before .before .before .args in
+    let l = c .before .before .before .before .before .before .before .before .before .before .before .before .before .before .before .before .line-at in
+    part (a .sheet .now) (a .at) (a .held) (l .result) (l .ensures) (not-false (l .result .ok) (c .before .before .before .before .before .before .before .before .before .before .before .before .before .before .if1 .left)) .0
 
 part-text-column-start : tie.Need-part-text-column-start
 part-text-column-start c =
-    let a = c .before .before .before .before .before .before .before .before .before .before .before .before .before .before .before .before .before .args in
-    let l = c .before .before .before .before .before .before .before .before .before .before .before .before .before .before .before .line-at in
-    part (a .sheet .now) (a .at) (a .held) (l .result) (l .ensures) (not-false (l .result .ok) (c .before .before .before .before .before .before .before .before .before .before .before .before .before .if1 .left)) .0
+    let a = c .before .before .before .before .before .before .before .before .before .before .before .before .before .before .before .before .before .before .args in
+    let l = c .before .before .before .before .before .before .before .before .before .before .before .before .before .before .before .before .line-at in
+    part (a .sheet .now) (a .at) (a .held) (l .result) (l .ensures) (not-false (l .result .ok) (c .before .before .before .before .before .before .before .before .before .before .before .before .before .before .if1 .left)) .0
 
 part-text-column-end : tie.Need-part-text-column-end
 part-text-column-end c =
-    let a = c .before .before .before .before .before .before .before .before .before .before .before .before .before .before .before .before .before .args in
-    let l = c .before .before .before .before .before .before .before .before .before .before .before .before .before .before .before .line-at in
-    part (a .sheet .now) (a .at) (a .held) (l .result) (l .ensures) (not-false (l .result .ok) (c .before .before .before .before .before .before .before .before .before .before .before .before .before .if1 .left)) .1
+    let a = c .before .before .before .before .before .before .before .before .before .before .before .before .before .before .before .before .before .before .args in
+    let l = c .before .before .before .before .before .before .before .before .before .before .before .before .before .before .before .before .line-at in
+    part (a .sheet .now) (a .at) (a .held) (l .result) (l .ensures) (not-false (l .result .ok) (c .before .before .before .before .before .before .before .before .before .before .before .before .before .before .if1 .left)) .1
 
 text-column-requires : tie.Need-text-column-requires
 text-column-requires c κs = search needs
@@ -118,11 +121,11 @@ text-column-requires c κs = search needs
 returns-3 : tie.Need-returns-3
 returns-3 c =
     let q = c .before .before .before .before .before .before .before .before .before in
-    let x = q .before .before .before .before .before .before .before .before .before .before .before .read in
-    let a = q .before .before .before .before .before .before .before .before .before .before .before .before .before .before .before .before .before .args in
-    let l = q .before .before .before .before .before .before .before .before .before .before .before .before .before .before .before .line-at in
-    let ok = not-false (l .result .ok) (q .before .before .before .before .before .before .before .before .before .before .before .before .before .if1 .left) in
-    let w = was-read (a .sheet .now) (a .at) (a .held) (l .result) (l .ensures) ok (x .result) (x .ensures) _ (q .before .before .before .before .before .before .before .before .before .reading .given .1) _ _ _ _ (q .statement .ensures) in
+    let x = q .before .before .before .before .before .before .before .before .before .before .before .before .read in
+    let a = q .before .before .before .before .before .before .before .before .before .before .before .before .before .before .before .before .before .before .args in
+    let l = q .before .before .before .before .before .before .before .before .before .before .before .before .before .before .before .before .line-at in
+    let ok = not-false (l .result .ok) (q .before .before .before .before .before .before .before .before .before .before .before .before .before .before .if1 .left) in
+    let w = was-read (a .sheet .now) (a .at) (a .held) (l .result) (l .ensures) ok (x .result) (x .ensures) _ (q .before .before .before .before .before .before .before .before .before .before .reading .given .1) _ _ _ _ (q .statement .ensures) in
     let t = c .text-column .ensures in (
       w,
       (

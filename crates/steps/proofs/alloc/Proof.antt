@@ -11,7 +11,7 @@ quiet-requires : tie.Need-quiet-requires
 quiet-requires c κs = search needs
 
 returns : tie.Need-returns
-returns c held = alloc-6 held _ _ _ _ _ _ (c .before .before .before .lookup-in .ensures) (c .before .if1 .taken) _ (c .quiet .ensures)
+returns c words held = alloc-6 held _ _ _ _ _ _ (c .before .before .before .lookup-in .ensures) (c .before .if1 .taken) _ (c .quiet .ensures)
 
 lent-requires : tie.Need-lent-requires
 lent-requires c κs = search needs
@@ -23,7 +23,7 @@ book-requires : tie.Need-book-requires
 book-requires c κs = search needs
 
 returns-2 : tie.Need-returns-2
-returns-2 c held = alloc-done held _ _ _ _ (c .before .before .before .before .before .lent .ensures) _ _ _ _ _ _ _ _ (c .before .before .before .before .before .before .before .before .before .before .before .lookup-in .ensures) (c .before .before .before .before .before .before .before .before .before .if1 .left) (c .before .before .before .before .alloc .ensures) (c .book .ensures)
+returns-2 c words held = alloc-done held _ _ _ _ (c .before .before .before .before .before .lent .ensures) _ _ _ _ _ _ _ _ (c .before .before .before .before .before .before .before .before .before .before .before .lookup-in .ensures) (c .before .before .before .before .before .before .before .before .before .if1 .left) (c .before .before .before .before .alloc .ensures) (c .book .ensures)
 
 pub alloc-spec : {M : Type 1} → statement M
 alloc-spec =

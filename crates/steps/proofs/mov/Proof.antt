@@ -11,7 +11,7 @@ quiet-requires : tie.Need-quiet-requires
 quiet-requires c κs = search needs
 
 returns : tie.Need-returns
-returns c = mov-6 _ _ _ _ (c .before .before .before .find-in .ensures) _ _ (c .before .if1 .taken) _ (c .quiet .ensures)
+returns c words = mov-6 _ _ _ _ (c .before .before .before .find-in .ensures) _ _ (c .before .if1 .taken) _ (c .quiet .ensures)
 
 entry-requires : tie.Need-entry-requires
 entry-requires c κs = search needs
@@ -20,7 +20,7 @@ quiet-requires-2 : tie.Need-quiet-requires-2
 quiet-requires-2 c κs = search needs
 
 returns-2 : tie.Need-returns-2
-returns-2 c = mov-7 _ _ _ _ (c .before .before .before .before .before .before .before .before .find-in .ensures) (c .before .before .before .before .before .before .if1 .left) _ (c .before .before .entry .ensures) _ _ (c .before .if2 .taken) _ (c .quiet2 .ensures)
+returns-2 c words = mov-7 _ _ _ _ (c .before .before .before .before .before .before .before .before .find-in .ensures) (c .before .before .before .before .before .before .if1 .left) _ (c .before .before .entry .ensures) _ _ (c .before .if2 .taken) _ (c .quiet2 .ensures)
 
 mul-value-hi : tie.Need-mul-value-hi
 mul-value-hi c = search needs
@@ -47,7 +47,7 @@ quiet-requires-3 : tie.Need-quiet-requires-3
 quiet-requires-3 c κs = search needs
 
 returns-3 : tie.Need-returns-3
-returns-3 c = mov-0 _ _ _ _ (c .before .before .before .before .before .before .before .before .find-in .ensures) (c .before .before .before .before .before .before .if1 .left) _ (c .before .before .entry .ensures) (c .before .if2 .left) _ _ _ (c .quiet3 .ensures)
+returns-3 c words = mov-0 _ _ _ _ (c .before .before .before .before .before .before .before .before .find-in .ensures) (c .before .before .before .before .before .before .if1 .left) _ (c .before .before .entry .ensures) (c .before .if2 .left) _ _ _ (c .quiet3 .ensures)
 
 pub mov-spec : {M : Type 1} → statement M
 mov-spec =

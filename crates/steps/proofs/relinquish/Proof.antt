@@ -15,7 +15,7 @@ book-requires : tie.Need-book-requires
 book-requires c κs = search needs
 
 returns : tie.Need-returns
-returns c = λ held vh vl nu wi. relinquish-done held _ (arrays _ _ _ vh vl nu wi) _ _ (c .before .before .before .before .before .lent .ensures) _ _ _ _ _ (c .before .before .before .before .relinquish .ensures) (c .book .ensures)
+returns c = λ words held vh vl nu wi. relinquish-done held _ (arrays _ _ _ vh vl nu wi words) _ _ (c .before .before .before .before .before .lent .ensures) _ _ _ _ _ (c .before .before .before .before .relinquish .ensures) (c .book .ensures)
 
 pub relinquish-spec : {M : Type 1} → statement M
 relinquish-spec = tie.close (tie.spec lent-requires relinquish-requires book-requires returns)
