@@ -49,13 +49,13 @@ fn try_write(folder: &Path) -> io::Result<usize> {
 /// The sheets of all cases, by name.
 fn all() -> BTreeMap<String, Vec<u8>> {
     let mut cases = BTreeMap::new();
-    for reason in (0..=15).chain([20, 21]) {
+    for reason in (0..=15).chain([18, 20, 21]) {
         for entry in some_entries(reason) {
             cases.insert(entry.name, entry.sheet);
         }
     }
     let mut r = Random::new(5);
-    for reason in (2..=15).chain([20, 21]) {
+    for reason in (2..=15).chain([18, 20, 21]) {
         for number in 0..2 {
             cases.insert(format!("made-{reason}-{number}"), faulty(&mut r, reason));
         }
@@ -73,7 +73,7 @@ fn some_entries(reason: u32) -> Vec<Entry> {
     let mut entries = entries::all();
     entries.retain(|e| e.answer[0] == reason && (e.sheet.len() < LARGE || is_limit(&e.name)));
     let (total, most) = (entries.len(), if reason == 0 { PASSED } else { REFUSED });
-    let is_chosen = |place: usize, name: &str| place * most % total < most || is_limit(name) || name == "given-whole";
+    let is_chosen = |place: usize, name: &str| place * most % total < most || is_limit(name) || name.starts_with("given-whole");
     entries.into_iter().enumerate().filter(|(place, e)| is_chosen(*place, &e.name)).map(|(_, e)| e).collect()
 }
 
@@ -146,7 +146,7 @@ fn try_compare(folder: &Path) -> io::Result<bool> {
             }
         }
     }
-    let mut least: Vec<_> = (0..=15).chain([20, 21]).map(|reason| ("cases", reason, 2)).collect();
+    let mut least: Vec<_> = (0..=15).chain([18, 20, 21]).map(|reason| ("cases", reason, 2)).collect();
     least.extend((0..FORMS).map(|form| ("forms in passed cases", form, 2)));
     Ok(counts.finish("data", &least) && whole)
 }

@@ -7,8 +7,8 @@ use staplehorn_difftest::proved;
 use staplehorn_reference::entries::{all, Entry};
 use staplehorn_reference::report::report;
 
-/// The version that is compared: 0.5.1.
-const VERSION: u32 = 501;
+/// The version that is compared: 0.6.0.
+const VERSION: u32 = 600;
 /// What stands in a list or room before a call.
 const BEFORE: u16 = 0xA5A5;
 /// The least room that takes any report.
@@ -45,13 +45,14 @@ pub fn run() -> bool {
     }
     readings::sheets(&mut counts);
     counts.compare("version", 0, proved::version(), VERSION, || "the library's number".into());
-    let mut wanted: Vec<_> = (0..=16).chain([20, 21]).map(|reason| ("entries", reason, 2)).collect();
+    let mut wanted: Vec<_> = (0..=16).chain([18, 20, 21]).map(|reason| ("entries", reason, 2)).collect();
     wanted.extend([
         ("readings of columns", 3, 70),
         ("readings of columns", 4, 20),
         ("readings of columns", 6, 8),
         ("readings of columns", 9, 10),
+        ("readings of columns", 18, 40),
     ]);
-    wanted.extend((0..=16).chain([20, 21]).map(|reason| ("readings of columns", reason, 1)));
+    wanted.extend((0..=16).chain([18, 20, 21]).map(|reason| ("readings of columns", reason, 1)));
     counts.finish("entries", &wanted)
 }

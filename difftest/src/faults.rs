@@ -1,8 +1,8 @@
 //! Lines that are refused: aimed at one reason, or with any number of faults. Of a line that is aimed the maker knows the
 //! column too.
 
-use crate::maker::{bare, name_and_number, shared_word, Access, Address, Maker, Mma, Word, A};
-use crate::maker::{I8, IDLE, LANE, RELINQUISH, SIZES, UNIT, UNITS, VALUES};
+use crate::maker::{bare, name_and_number, shared_word, Access, Address, Maker, Mma, Outstanding, Word, A};
+use crate::maker::{FENCES, I8, IDLE, LANE, RELINQUISH, SIZES, UNIT, UNITS, VALUES};
 use crate::tokens::{Operand, Role, Spacing, Text};
 use staplehorn_difftest::random::Random;
 
@@ -11,7 +11,8 @@ use staplehorn_difftest::random::Random;
 pub struct Fault {
     pub what: &'static str,
     pub column: u32,
-    /// What else is counted: for a fault of form what stands where no form can go on, or that several operands are wrong.
+    /// What else is counted: for a fault of form what stands where no form can go on, that several operands are wrong, what
+    /// waits there are, or that a reason which comes later would be given too.
     pub also: Option<&'static str>,
 }
 
@@ -42,7 +43,7 @@ impl Broken {
 pub const FIRST: usize = 3;
 
 impl Maker<'_> {
-    /// Adds a line that is refused with this reason, 2 to 15, 20 or 21, and lines that it needs before it; none if it cannot.
+    /// Adds a line that is refused with this reason, 2 to 15, 18, 20 or 21, and lines that it needs before it; none if it cannot.
     pub fn fault(&mut self, reason: u32) -> Option<Fault> {
         match reason {
             2 => Some(self.layout_fault()),
@@ -58,6 +59,7 @@ impl Maker<'_> {
             12 => self.word_fault(),
             13 | 20 | 21 => self.listing_fault(reason),
             14 => self.cell_fault(),
+            18 => self.outstanding_fault(),
             _ => self.exit_fault(),
         }
     }
@@ -343,7 +345,7 @@ impl Maker<'_> {
         if !self.ensure_live() {
             return None;
         }
-        let (name, stranger) = (self.live_name()?, self.stranger());
+        let (place, stranger) = (self.any_live()?, self.stranger());
         let columns = self.r.pick(&[32, 64, 33, 512]);
         let what = match self.r.below(6) {
             0 => {
@@ -353,9 +355,12 @@ impl Maker<'_> {
                 "alloc"
             }
             1 => {
+                let also = self.perhaps_outstanding(place);
+                let (name, own) = (self.live[place].name.clone(), self.live[place].columns.into());
+                let columns = if self.one_in(2) { columns } else { own };
                 let text = self.dealloc_text(&name, columns);
                 self.line(stranger, &text);
-                "dealloc"
+                return Some(Fault { also, ..Fault::new("dealloc", 1) });
             }
             2 => {
                 self.line(stranger, &bare(RELINQUISH));
@@ -401,10 +406,11 @@ impl Maker<'_> {
             Some(self.at("alloc", warp, &text, number))
         } else {
             let place = self.any_live()?;
+            let also = self.perhaps_outstanding(place);
             let (name, length) = (self.live[place].name.clone(), u64::from(self.live[place].columns));
             let columns = self.r.pick(&[0, length / 2, length - 1, length + 1, 2 * length, length + 65_536, length + (1 << 31)]);
             let text = self.dealloc_text(&name, columns);
-            Some(self.at("dealloc", warp, &text, number))
+            Some(Fault { also, ..self.at("dealloc", warp, &text, number) })
         }
     }
 
@@ -641,13 +647,127 @@ impl Maker<'_> {
     fn exit_fault(&mut self) -> Option<Fault> {
         let warp = self.any_warp();
         if self.one_in(2) && self.ensure_live() {
+            let place = self.any_live()?;
+            let also = self.perhaps_outstanding(place);
             self.line(warp, &bare("exit"));
-            return Some(Fault::new("exit, columns held", 1));
+            return Some(Fault { also, ..Fault::new("exit, columns held", 1) });
         }
         self.exit();
         let text = if self.one_in(6) { bare("exit") } else { self.readable() };
         self.line(warp, &text);
         Some(Fault::new("line after exit", 1))
+    }
+
+    /// Loads from a holding or stores to it, or does not. Says whether something is outstanding on it.
+    fn perhaps_outstanding(&mut self, place: usize) -> Option<&'static str> {
+        if self.one_in(2) {
+            let access = self.good_access_to(place);
+            self.access_line(&access);
+        }
+        (!self.live[place].outstanding.is_empty()).then_some("outstanding")
+    }
+
+    /// A load or store is outstanding on what is given back: there is no wait, or none that is for it.
+    fn outstanding_fault(&mut self) -> Option<Fault> {
+        if !self.ensure_live() {
+            return None;
+        }
+        let mut place = self.any_live()?;
+        let again = !self.relinquished && self.one_in(7);
+        if again {
+            place = self.take_again(place)?;
+        }
+        let access = self.good_access_to(place);
+        self.access_line(&access);
+        let lines = self.leave_outstanding(&access);
+        let place = self.live.iter().position(|live| live.name == access.address.name)?;
+        let fault = self.dealloc_outstanding(place);
+        Some(Fault { also: Some(if again { "name used again" } else { lines }), ..fault })
+    }
+
+    /// Gives a holding back and takes as many columns under its name. Says where it is then.
+    fn take_again(&mut self, place: usize) -> Option<usize> {
+        let columns = self.live[place].columns;
+        self.dealloc(place);
+        let (name, unit) = (self.freed.pop()?, self.unit_for(columns)?);
+        self.alloc_as(name, columns, unit);
+        Some(self.live.len() - 1)
+    }
+
+    /// Lines that leave a load or store outstanding. Says what they are.
+    fn leave_outstanding(&mut self, access: &Access) -> &'static str {
+        let Outstanding { store, warp } = access.outstanding();
+        let idle_holding = self.live.iter().position(|live| live.outstanding.is_empty());
+        match (self.r.below(7), idle_holding) {
+            (0, Some(place)) => {
+                self.dealloc(place);
+                "dealloc of another holding"
+            }
+            (1, _) => {
+                self.wait(Outstanding { store: !store, warp });
+                "wait of the other sort"
+            }
+            (2, _) => {
+                let other = (warp + 1 + self.r.below(3)) % 4;
+                self.wait(Outstanding { store, warp: other });
+                "wait of another warp"
+            }
+            (3, _) => {
+                self.wait(access.outstanding());
+                self.access_line(access);
+                "wait before the access"
+            }
+            (4, _) => {
+                let all = (0..4).flat_map(|warp| [Outstanding { store: false, warp }, Outstanding { store: true, warp }]);
+                all.filter(|&other| other != access.outstanding()).for_each(|other| self.wait(other));
+                "every other wait"
+            }
+            (5, _) => {
+                FENCES.into_iter().for_each(|fence| self.line(warp, &bare(fence)));
+                "fences"
+            }
+            _ => "no wait",
+        }
+    }
+
+    /// Gives a holding back on which something is outstanding.
+    fn dealloc_outstanding(&mut self, place: usize) -> Fault {
+        let live = &self.live[place];
+        let what = match (live.outstanding.iter().any(|what| !what.store), live.outstanding.iter().any(|what| what.store)) {
+            (true, true) => "ld and st",
+            (true, false) => "ld",
+            _ => "st",
+        };
+        let (name, columns) = (live.name.clone(), live.columns.into());
+        let (text, warp) = (self.dealloc_text(&name, columns), self.booker());
+        self.at(what, warp, &text, Role::Opcode)
+    }
+
+    /// A line of a sheet of loads, stores and waits on a few holdings. The fault, if it gives one back too early.
+    pub fn careless(&mut self) -> Option<Fault> {
+        match self.r.below(12) {
+            0 | 1 if self.live.len() < 4 => {
+                let columns = self.r.pick(&[32, 64]);
+                self.alloc(columns);
+            }
+            0..=5 => self.access(),
+            6..=8 => {
+                let what = Outstanding { store: self.one_in(2), warp: self.any_warp() };
+                self.wait(what);
+            }
+            9 => self.valid(),
+            _ => return self.careless_dealloc(),
+        }
+        None
+    }
+
+    fn careless_dealloc(&mut self) -> Option<Fault> {
+        let place = self.any_live()?;
+        if self.live[place].outstanding.is_empty() || !self.one_in(4) {
+            self.dealloc(place);
+            return None;
+        }
+        Some(self.dealloc_outstanding(place))
     }
 
     /// A line in which each part is wrong about one time in three.

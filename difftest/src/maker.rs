@@ -26,6 +26,15 @@ pub struct Live {
     pub name: String,
     pub columns: u32,
     pub unit: u32,
+    /// Loads and stores that were not waited for, each sort of a warp once.
+    pub outstanding: Vec<Outstanding>,
+}
+
+/// A load or a store of a warp.
+#[derive(Clone, Copy, PartialEq)]
+pub struct Outstanding {
+    pub store: bool,
+    pub warp: u64,
 }
 
 #[derive(Clone, Copy, PartialEq)]
@@ -76,6 +85,12 @@ pub struct Access {
     pub count: u64,
     pub address: Address,
     pub warp: u64,
+}
+
+impl Access {
+    pub fn outstanding(&self) -> Outstanding {
+        Outstanding { store: self.store, warp: self.warp }
+    }
 }
 
 pub struct Maker<'a> {
@@ -265,15 +280,21 @@ impl<'a> Maker<'a> {
         let Some(unit) = self.unit_for(columns) else {
             return false;
         };
-        let (name, warp) = (self.new_name(), self.booker());
+        let name = self.new_name();
+        self.alloc_as(name, columns, unit);
+        true
+    }
+
+    /// Books the columns from this unit on under a name that is bound to nothing.
+    pub fn alloc_as(&mut self, name: String, columns: u32, unit: u32) {
+        let warp = self.booker();
         let text = self.alloc_text(&name, u64::from(columns));
         self.line(warp, &text);
-        self.live.push(Live { name, columns, unit });
+        self.live.push(Live { name, columns, unit, outstanding: Vec::new() });
         self.taken |= bits(unit, columns / UNIT);
         self.warp = Some(warp);
         self.allocs += 1;
         self.peak = self.peak.max(self.held());
-        true
     }
 
     pub fn alloc_text(&mut self, name: &str, columns: u64) -> Text {
@@ -304,7 +325,9 @@ impl<'a> Maker<'a> {
         }
     }
 
+    /// Waits for what is outstanding on a holding, and gives it back.
     pub fn dealloc(&mut self, place: usize) {
+        self.wait_for(place);
         let gone = self.live.swap_remove(place);
         let (text, warp) = (self.dealloc_text(&gone.name, gone.columns.into()), self.booker());
         self.line(warp, &text);
@@ -319,9 +342,30 @@ impl<'a> Maker<'a> {
         self.relinquished = true;
     }
 
+    /// A wait that need not be for anything, or a fence.
     pub fn idle(&mut self) {
-        let (warp, text) = (self.any_warp(), bare(self.r.pick(&IDLE)));
-        self.line(warp, &text);
+        let warp = self.any_warp();
+        match self.r.pick(&IDLE) {
+            WAIT_LD => self.wait(Outstanding { store: false, warp }),
+            WAIT_ST => self.wait(Outstanding { store: true, warp }),
+            fence => self.line(warp, &bare(fence)),
+        }
+    }
+
+    /// Waits for the loads, or the stores, of a warp on all holdings.
+    pub fn wait(&mut self, what: Outstanding) {
+        self.line(what.warp, &bare(if what.store { WAIT_ST } else { WAIT_LD }));
+        for live in &mut self.live {
+            live.outstanding.retain(|&other| other != what);
+        }
+    }
+
+    /// Waits for what is outstanding on a holding, in any order.
+    pub fn wait_for(&mut self, place: usize) {
+        while !self.live[place].outstanding.is_empty() {
+            let what = self.r.pick(&self.live[place].outstanding);
+            self.wait(what);
+        }
     }
 
     pub fn mov(&mut self) {
@@ -382,6 +426,11 @@ impl<'a> Maker<'a> {
     /// A load or store inside a live holding.
     pub fn good_access(&mut self) -> Option<Access> {
         let place = self.any_live()?;
+        Some(self.good_access_to(place))
+    }
+
+    /// One inside this holding.
+    pub fn good_access_to(&mut self, place: usize) -> Access {
         let (name, length) = (self.live[place].name.clone(), u64::from(self.live[place].columns));
         let shape = self.r.below(4) as usize;
         let (registers, columns, largest) = SIZES[shape];
@@ -397,12 +446,17 @@ impl<'a> Maker<'a> {
         let warp = self.any_warp();
         let half = if shape > 0 { 16 * self.r.below(2) } else { 0 };
         let address = Address::new(name, (32 * warp + half) * LANE + column);
-        Some(Access { store: self.one_in(2), shape, num, count: registers * num, address, warp })
+        Access { store: self.one_in(2), shape, num, count: registers * num, address, warp }
     }
 
     pub fn access_line(&mut self, access: &Access) {
         let text = self.access_text(access);
         self.line(access.warp, &text);
+        let what = access.outstanding();
+        let live = self.live.iter_mut().find(|live| live.name == access.address.name).expect("the access is to a live holding");
+        if !live.outstanding.contains(&what) {
+            live.outstanding.push(what);
+        }
     }
 
     pub fn access_text(&mut self, x: &Access) -> Text {
@@ -626,9 +680,7 @@ pub fn shared_word(r: &mut Random) -> u64 {
 
 pub const RELINQUISH: &str = "tcgen05.relinquish_alloc_permit.cta_group::1.sync.aligned";
 
-pub const IDLE: [&str; 4] = [
-    "tcgen05.wait::ld.sync.aligned",
-    "tcgen05.wait::st.sync.aligned",
-    "tcgen05.fence::before_thread_sync",
-    "tcgen05.fence::after_thread_sync",
-];
+const WAIT_LD: &str = "tcgen05.wait::ld.sync.aligned";
+const WAIT_ST: &str = "tcgen05.wait::st.sync.aligned";
+pub const FENCES: [&str; 2] = ["tcgen05.fence::before_thread_sync", "tcgen05.fence::after_thread_sync"];
+pub const IDLE: [&str; 4] = [WAIT_LD, WAIT_ST, FENCES[0], FENCES[1]];

@@ -427,7 +427,7 @@ pub fn run(counts: &mut Counts) {
 /// is lent has room unless the reason is 16.
 type Sheet = (Vec<String>, [u32; 3]);
 
-/// In full: `|` is the tab, `@alloc`, `@dealloc`, `@load`, `@mma` the opcodes.
+/// In full: `|` is the tab, `@alloc`, `@dealloc`, `@load`, `@wait::ld`, `@mma` the opcodes.
 fn long(line: &str) -> String {
     line.replace('|', "\t")
         .replace("@alloc", "tcgen05.alloc.cta_group::1.sync.aligned.b32")
@@ -435,6 +435,9 @@ fn long(line: &str) -> String {
         .replace("@relinquish", "tcgen05.relinquish_alloc_permit.cta_group::1.sync.aligned")
         .replace("@load", "tcgen05.ld.sync.aligned.32x32b.x1.b32 {r},")
         .replace("@store", "tcgen05.st.sync.aligned.32x32b.x1.b32")
+        .replace("@wait::ld", "tcgen05.wait::ld.sync.aligned")
+        .replace("@wait::st", "tcgen05.wait::st.sync.aligned")
+        .replace("@fence", "tcgen05.fence")
         .replace("@sparse", "tcgen05.mma.sp.cta_group::1.kind::f16")
         .replace("@integers", "tcgen05.mma.cta_group::1.kind::i8")
         .replace("@mma", "tcgen05.mma.cta_group::1.kind::f16")
@@ -464,6 +467,9 @@ fn sheet_rows() -> Vec<Sheet> {
     descriptor_rows(&mut row);
     n_rows(&mut row);
     cell_rows(&mut row);
+    wait_rows(&mut row);
+    wait_order_rows(&mut row);
+    waits_between_rows(&mut row);
     spelling_rows(&mut row);
     t
 }
@@ -472,7 +478,7 @@ type Put<'a> = &'a mut dyn FnMut(&[&str], u32, u32, u32);
 
 fn passed_rows(row: Put) {
     row(&[A32, D32, EXIT], 0, 0, 32);
-    row(&[A64, B, I, MMA, "3|@load [t+0x600000];", D64, EXIT], 0, 0, 64);
+    row(&[A64, B, I, MMA, "3|@load [t+0x600000];", "3|@wait::ld;", D64, EXIT], 0, 0, 64);
     row(&[A32, D32, "^0|exit;"], 16, 0, 32);
     row(&[A32, "^0|exit;"], 15, 32, 32);
     row(&["^0|@alloc [t], 32;"], 15, 32, 32);
@@ -649,13 +655,118 @@ fn cell_rows(row: Put) {
     row(&[A64, B, "0|mov.b32 i, 0x08100014;", "0|@sparse [t], ^[t+57], b, [t+63], i, p;"], 14, 64, 64);
 }
 
+/// A load or store of one column at the warp's first lane.
+fn access(op: &str, warp: u32, name: &str) -> String {
+    let address = format!("[{name}+{}]", warp * 32 * 65_536);
+    match op {
+        "ld" => format!("{warp}|@load {address};"),
+        _ => format!("{warp}|@store {address}, {{r}};"),
+    }
+}
+
+fn wait(op: &str, warp: u32) -> String {
+    format!("{warp}|@wait::{op};")
+}
+
+/// The dealloc that is refused, and a second allocation.
+const OUTSTANDING: &str = "0|^@dealloc t, 32;";
+const A32U: &str = "0|@alloc [u], 32;";
+const D32U: &str = "0|@dealloc u, 32;";
+
+/// Which wait clears what.
+fn wait_rows(row: Put) {
+    for (op, other) in [("ld", "st"), ("st", "ld")] {
+        let [by_0, by_1, on_u] = [access(op, 0, "t"), access(op, 1, "t"), access(op, 0, "u")];
+        let (by_0, by_1, on_u) = (by_0.as_str(), by_1.as_str(), on_u.as_str());
+        let [wait_0, wait_1, other_0] = [wait(op, 0), wait(op, 1), wait(other, 0)];
+        let (wait_0, wait_1, other_0) = (wait_0.as_str(), wait_1.as_str(), other_0.as_str());
+        row(&[A32, by_0, OUTSTANDING], 18, 32, 32);
+        row(&[A32, by_0, wait_0, D32, EXIT], 0, 0, 32);
+        // one mark and no count: what comes after the wait is outstanding again
+        row(&[A32, by_0, by_0, wait_0, D32, EXIT], 0, 0, 32);
+        row(&[A32, by_0, wait_0, wait_0, by_0, OUTSTANDING, EXIT], 18, 32, 32);
+        row(&[A32, wait_0, by_0, OUTSTANDING, wait_0, EXIT], 18, 32, 32);
+        // its own warp's wait, and not the one of the warp that gives back
+        row(&[A32, by_1, wait_0, OUTSTANDING, EXIT], 18, 32, 32);
+        row(&[A32, by_1, wait_1, D32, EXIT], 0, 0, 32);
+        row(&[A32, by_0, by_1, wait_1, OUTSTANDING, EXIT], 18, 32, 32);
+        row(&[A32, by_0, by_1, wait_0, OUTSTANDING, EXIT], 18, 32, 32);
+        row(&[A32, by_0, by_1, wait_1, wait_0, D32, EXIT], 0, 0, 32);
+        // of its own sort
+        row(&[A32, by_0, other_0, OUTSTANDING, EXIT], 18, 32, 32);
+        row(&[A32, by_0, &access(other, 0, "t"), wait_0, OUTSTANDING, EXIT], 18, 32, 32);
+        row(&[A32, by_0, &access(other, 0, "t"), wait_0, other_0, D32, EXIT], 0, 0, 32);
+        // on all allocations, each of which has its own marks
+        row(&[A32, A32U, by_0, on_u, wait_0, D32, D32U, EXIT], 0, 0, 64);
+        row(&[A32, A32U, on_u, D32, wait_0, D32U, EXIT], 0, 0, 64);
+        row(&[A32, A32U, by_0, D32U, OUTSTANDING], 18, 32, 64);
+        row(&[A32, A32U, on_u, D32, "0|^@dealloc u, 32;"], 18, 32, 64);
+        row(&[A32, A32U, by_0, wait_0, on_u, D32, wait_1, other_0, "0|^@dealloc u, 32;"], 18, 32, 64);
+        // a star is warp 0
+        let star = by_0.replacen('0', "*", 1);
+        row(&[A32, &star, wait_0, D32, EXIT], 0, 0, 32);
+        row(&[A32, by_0, &format!("*|@wait::{op};"), D32, EXIT], 0, 0, 32);
+        row(&[A32, by_1, &format!("*|@wait::{op};"), OUTSTANDING], 18, 32, 32);
+        row(&[A32, &star, wait_1, OUTSTANDING], 18, 32, 32);
+        // a name that is used again
+        row(&[A32, by_0, wait_0, D32, A32, D32, EXIT], 0, 0, 32);
+        row(&[A32, by_0, wait_0, D32, A32, by_0, OUTSTANDING], 18, 32, 32);
+    }
+}
+
+/// What is asked before 18, and held then.
+fn wait_order_rows(row: Put) {
+    for (op, outside) in [("ld", "0|@load ^[t+32];"), ("st", "0|@store ^[t+32], {r};")] {
+        let access = access(op, 0, "t");
+        row(&[A32, &access, "0|@dealloc ^u, 32;"], 6, 32, 32);
+        row(&[A32, &access, "^1|@dealloc t, 32;"], 8, 32, 32);
+        row(&[A32, &access, "^1|@dealloc t, 64;"], 8, 32, 32);
+        row(&[A32, &access, "0|@dealloc t, ^64;"], 9, 32, 32);
+        row(&[A32, &access, "^0|exit;"], 15, 32, 32);
+        row(&[A32, &access, "0|^@dealloc   t , 32 ;"], 18, 32, 32);
+        // the last line has a fault of its own, so no exit is asked for
+        row(&[A32, &access, OUTSTANDING], 18, 32, 32);
+        row(&[A512, &access, "0|^@dealloc t, 512;", EXIT], 18, 512, 512);
+        row(&[A64, A32U, &access, D32U, "0|^@dealloc t, 64;", EXIT], 18, 64, 96);
+        // refused or behind the exit, it is not noted
+        row(&[A32, outside, D32], 14, 32, 32);
+        row(&[EXIT, &format!("^{access}")], 15, 0, 0);
+    }
+    // the sheet of the rules, without its wait and with it
+    let load = "1|tcgen05.ld.sync.aligned.32x32b.x2.b32 {r0, r1}, [t1+2097152];";
+    let start = ["0|@alloc [t0], 64;", "0|@alloc [t1], 32;", "0|@dealloc t0, 64;", "0|@alloc [t2], 32;", load];
+    let end = ["0|@dealloc t1, 32;", "0|@dealloc t2, 32;", EXIT];
+    row(&[&start[..], &["0|^@dealloc t1, 32;"], &end[1..]].concat(), 18, 64, 96);
+    row(&[&start[..], &["1|@wait::ld;"], &end].concat(), 0, 0, 96);
+}
+
+/// Lines between an access of each shape and its dealloc that wait for nothing.
+fn waits_between_rows(row: Put) {
+    let before = "3|@fence::before_thread_sync;";
+    let after = "3|@fence::after_thread_sync;";
+    let refused = "0|^@dealloc t, 64;";
+    for (shape, list) in [("32x32b", "{a}"), ("16x64b", "{a}"), ("16x128b", "{a, b}"), ("16x256b", "{a, b, c, d}")] {
+        let load = format!("3|tcgen05.ld.sync.aligned.{shape}.x1.b32 {list}, [t+6291456];");
+        let store = format!("3|tcgen05.st.sync.aligned.{shape}.x1.b32 [t+6291456], {list};");
+        for (access, wait) in [(load.as_str(), "3|@wait::ld;"), (&store, "3|@wait::st;")] {
+            row(&[A64, access, before, after, refused], 18, 64, 64);
+            row(&[A64, B, I, access, MMA, refused], 18, 64, 64);
+            row(&[A64, B, I, access, MMA, wait, D64, EXIT], 0, 0, 64);
+            row(&[A64, B, I, access, wait, MMA, before, D64, EXIT], 0, 0, 64);
+        }
+    }
+    // an mma needs no wait, wherever its operands are
+    row(&[A64, B, I, MMA, "0|@mma [t], [t+56], b, i, p;", D64, EXIT], 0, 0, 64);
+    row(&[A64, B, "0|mov.b32 i, 0x08100014;", "0|@sparse [t], [t+56], b, [t+62], i, p;", D64, EXIT], 0, 0, 64);
+}
+
 /// A number's value is what counts, in whatever base.
 fn spelling_rows(row: Put) {
     // 064 is 52: no request, not what is held, and inside where 64 is not
     row(&["0|@alloc [t], ^064;"], 9, 0, 0);
     row(&["0|@alloc [t],   ^064U ;"], 9, 0, 0);
     row(&[A64, "0|@dealloc t, ^064;"], 9, 64, 64);
-    row(&[A64, "0|@load [t+064];", D64, EXIT], 0, 0, 64);
+    row(&[A64, "0|@load [t+064];", "0|@wait::ld;", D64, EXIT], 0, 0, 64);
     row(&[A64, "0|@load ^[t+0100];"], 14, 64, 64);
     row(&["0|@alloc [t], ^00;"], 9, 0, 0);
     for (spelled, others) in [
@@ -673,7 +784,7 @@ fn spelling_rows(row: Put) {
     // the words of descriptors
     let b = "0|mov.b64 b, 02000400004000000U;";
     let i = "0|mov.b32 i, 0b1000000100000000000000010000;";
-    row(&[A64, b, i, MMA, "3|@load [t+030000000];", D64, EXIT], 0, 0, 64);
+    row(&[A64, b, i, MMA, "3|@load [t+030000000];", "3|@wait::ld;", D64, EXIT], 0, 0, 64);
     row(&[A64, B, "0|mov.b32 i, 0b11U;", "0|@mma [t], b, b, ^i, p;"], 12, 64, 64);
     for over in ["040000000000", "4294967296U", "0x100000000U", "0b100000000000000000000000000000000"] {
         row(&[&format!("0|mov.b32 x, ^{over};")], 4, 0, 0);

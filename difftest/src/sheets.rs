@@ -11,7 +11,7 @@ use staplehorn_difftest::random::Random;
 use staplehorn_reference::descriptor::Kind;
 use staplehorn_reference::judge::judge;
 use staplehorn_reference::report::report;
-use staplehorn_reference::run::{choose_starts, run as run_steps, End, Outcome};
+use staplehorn_reference::run::{choose_starts, run as run_steps, End, Outcome, Outstanding};
 use staplehorn_reference::sheet::{steps, Lines, Step};
 use staplehorn_reference::statement::{canonical, judge_alone, Statement};
 use std::collections::BTreeMap;
@@ -156,6 +156,9 @@ impl<'a, S: Side> Comparison<'a, S> {
         if (3..=5).contains(&theirs[0]) {
             self.alone(sheet, theirs);
         }
+        if theirs[0] == 18 {
+            self.refused_dealloc(sheet, theirs[1]);
+        }
         if theirs[0] == 20 {
             self.refused_shape(sheet, theirs[1]);
         }
@@ -183,6 +186,36 @@ impl<'a, S: Side> Comparison<'a, S> {
         let steps = steps_to(sheet, line);
         if let Some(Shape { kind, ws: true, sp: true, n: 256 }) = shapes(&steps).last() {
             self.counts.seen("20, .ws.sp, N 256", kind.number());
+        }
+    }
+
+    /// A sheet that is refused with 18 in this line: the run does not stop there and notes something outstanding, for the first
+    /// time. Counts it by the sorts and warps.
+    fn refused_dealloc(&mut self, sheet: &[u8], line: u32) {
+        let steps = steps_to(sheet, line);
+        let starts = choose_starts(&steps, |usable| usable[0]);
+        let outcome = run_steps(&steps, &starts);
+        let noted = outcome.seen.iter().filter(|seen| !seen.outstanding.is_empty());
+        let lines: Vec<usize> = noted.map(|seen| seen.line).collect();
+        self.counts.compare("run, outstanding", 18, (outcome.end, lines), (End::Ended, vec![line as usize]), || shown(sheet, 0));
+        for what in outcome.seen.last().map_or(&[][..], |seen| &seen.outstanding) {
+            match *what {
+                Outstanding::Load(warp) => self.counts.seen("18, ld by warp", warp.into()),
+                Outstanding::Store(warp) => self.counts.seen("18, st by warp", warp.into()),
+            }
+        }
+    }
+
+    /// Counts a passed sheet whose run is compared by the warps that load and store in it.
+    fn passed_accesses(&mut self, steps: &[Step]) {
+        for warp in 0..4 {
+            let mut of_warp = steps.iter().filter(|step| step.warp == warp).map(|step| &step.statement);
+            if of_warp.clone().any(|statement| matches!(statement, Statement::Ld { .. })) {
+                self.counts.seen("passed, ld by warp", warp.into());
+            }
+            if of_warp.any(|statement| matches!(statement, Statement::St { .. })) {
+                self.counts.seen("passed, st by warp", warp.into());
+            }
         }
     }
 
@@ -262,6 +295,7 @@ impl<'a, S: Side> Comparison<'a, S> {
         }
         let steps = steps(sheet).expect("a passed sheet reads");
         self.passed_shapes(&steps);
+        self.passed_accesses(&steps);
         let allocs = count_allocs(&steps);
         let own: Vec<u32> = self.ours[..allocs.min(places)].iter().map(|&start| start.into()).collect();
         let outcome = run_steps(&steps, &own);
@@ -314,7 +348,8 @@ impl<'a, S: Side> Comparison<'a, S> {
     }
 }
 
-/// After every line done: no overlap, nothing outside, and columns that add up. Nothing is held at the exit.
+/// After every line done: no overlap, nothing outside, nothing outstanding on what was given back, and columns that add up.
+/// Nothing is held at the exit.
 fn is_sound(outcome: &Outcome) -> bool {
     let empty = match outcome.end {
         End::Exited(_) => outcome.seen.last().is_some_and(|seen| seen.held == 0 && seen.asked == seen.given_back),
@@ -423,10 +458,29 @@ fn valid<S: Side>(c: &mut Comparison<S>, r: &mut Random) {
     m.may_relinquish = true;
     valid_lines(&mut m);
     m.exit();
-    c.spelled(&m);
+    passes(c, &m);
+}
+
+/// A sheet that passes, or has too short a list.
+fn passes<S: Side>(c: &mut Comparison<S>, m: &Maker) {
+    c.spelled(m);
     if let (true, 16) = c.made(&m.bytes, m.allocs, [0, m.lines, 0, 0, m.peak]) {
         c.counts.place(16, "short list");
     }
+}
+
+/// Loads, stores and waits on a few holdings: the first that is given back too early is refused, and else the sheet passes.
+fn careless<S: Side>(c: &mut Comparison<S>, r: &mut Random) {
+    let mut m = Maker::new(r);
+    for _ in 0..m.r.below(40) {
+        if let Some(fault) = m.careless() {
+            let wanted = [18, m.lines, fault.column, m.held(), m.peak];
+            tail(&mut m);
+            return c.placed(&m, wanted, &fault);
+        }
+    }
+    m.exit();
+    passes(c, &m);
 }
 
 /// One line is aimed at a reason; what follows does not matter.
@@ -443,7 +497,7 @@ fn one_fault<S: Side>(c: &mut Comparison<S>, r: &mut Random, reason: u32) {
 
 /// Any reason that a line can be aimed at.
 fn any_reason(r: &mut Random) -> u32 {
-    r.pick(&[2, 3, 4, 5, 6, 7, 8, 9, 10, 11, 12, 13, 14, 15, 20, 21])
+    r.pick(&[2, 3, 4, 5, 6, 7, 8, 9, 10, 11, 12, 13, 14, 15, 18, 20, 21])
 }
 
 /// Some lines behind a fault, or none, or bytes without an end.
@@ -571,6 +625,7 @@ fn every_byte<S: Side>(c: &mut Comparison<S>) {
         "1\ttcgen05.ld.sync.aligned.32x32b.x2.b32 {r0, t0}, [t0+2097214];\n",
         "2\ttcgen05.st.sync.aligned.16x64b.x1.b32 [%t + 0X500000], {r};\n",
         "2\ttcgen05.wait::st.sync.aligned;\n",
+        "1\ttcgen05.wait::ld.sync.aligned;\n",
         "0\ttcgen05.mma.cta_group::1.kind::f16 [t0], a, b, i, p;\n",
         "0\ttcgen05.mma.sp.cta_group::1.kind::f16 [%t], [t0+070], b, [%t + 0B11110U], j, t0;\n",
         "0\ttcgen05.fence::after_thread_sync;\n",
@@ -579,7 +634,7 @@ fn every_byte<S: Side>(c: &mut Comparison<S>) {
         "0\ttcgen05.dealloc.cta_group::1.sync.aligned.b32 %t, 32;\n",
         "1\texit;\n",
     );
-    c.made(sheet.as_bytes(), 2, [0, 17, 0, 0, 96]);
+    c.made(sheet.as_bytes(), 2, [0, 18, 0, 0, 96]);
     for at in 0..sheet.len() {
         let mut bytes = sheet.as_bytes().to_vec();
         for &byte in b" ;,[]{}+*01234589xXabBUutijZ_$%.:-~\t\n\0\x7f\x80" {
@@ -609,6 +664,34 @@ fn shuffled<S: Side>(c: &mut Comparison<S>, r: &mut Random) {
         _ => lines.swap(at, to),
     }
     c.lists(&lines.concat(), allocs);
+}
+
+/// A valid sheet with a wait left out, moved, of another warp or of the other sort.
+fn misplaced_wait<S: Side>(c: &mut Comparison<S>, r: &mut Random) {
+    let mut m = Maker::new(r);
+    for _ in 0..10 + m.r.below(30) {
+        m.valid();
+    }
+    m.exit();
+    let text = String::from_utf8(m.bytes).expect("valid lines are text");
+    let mut lines: Vec<String> = text.split_inclusive('\n').map(String::from).collect();
+    let waits: Vec<usize> = (0..lines.len()).filter(|&at| lines[at].contains(".wait::")).collect();
+    if waits.is_empty() {
+        return;
+    }
+    let at = m.r.pick(&waits);
+    let wait = lines.remove(at);
+    match m.r.below(4) {
+        0 => {}
+        1 => {
+            let to = 1 + m.r.below(lines.len() as u64) as usize;
+            lines.insert(to, wait);
+        }
+        2 => lines.insert(at, format!("{}{}", m.r.below(4), &wait[1..])),
+        _ if wait.contains("::ld") => lines.insert(at, wait.replace("::ld", "::st")),
+        _ => lines.insert(at, wait.replace("::st", "::ld")),
+    }
+    c.lists(lines.concat().as_bytes(), m.allocs);
 }
 
 /// Bytes that are no sheet, and first lines that are nearly right.
@@ -782,7 +865,7 @@ fn small_limits<S: Side>(c: &mut Comparison<S>, r: &mut Random) {
 }
 
 /// How often each reason is aimed at in a round: those with many places more often, 7, which needs a long sheet, once.
-const AIMED: [(u32, u32); 16] = [
+const AIMED: [(u32, u32); 17] = [
     (2, 3),
     (3, 14),
     (4, 6),
@@ -797,11 +880,12 @@ const AIMED: [(u32, u32); 16] = [
     (13, 3),
     (14, 6),
     (15, 3),
+    (18, 6),
     (20, 3),
     (21, 3),
 ];
 
-/// Compares a side with the reference on so many rounds of sheets; each round has about 140.
+/// Compares a side with the reference on so many rounds of sheets; each round has about 160.
 fn compare<S: Side>(side: &S, rounds: u64) -> Counts {
     let mut c = Comparison::new(side, 4);
     let mut r = Random::new(3);
@@ -818,6 +902,9 @@ fn compare<S: Side>(side: &S, rounds: u64) -> Counts {
                 one_fault(&mut c, &mut r, reason);
             }
         }
+        for _ in 0..8 {
+            careless(&mut c, &mut r);
+        }
         for _ in 0..10 {
             two_faults(&mut c, &mut r);
             wild(&mut c, &mut r);
@@ -828,6 +915,7 @@ fn compare<S: Side>(side: &S, rounds: u64) -> Counts {
         }
         for _ in 0..3 {
             shuffled(&mut c, &mut r);
+            misplaced_wait(&mut c, &mut r);
             noise(&mut c, &mut r);
         }
         changed_byte(&mut c, &mut r);
@@ -848,11 +936,16 @@ fn compare<S: Side>(side: &S, rounds: u64) -> Counts {
 
 /// What must have been seen, and how often at least.
 fn wanted(sheets: u64) -> Vec<(&'static str, u32, u64)> {
-    let mut wanted: Vec<_> = (0..=16).chain([20, 21]).map(|reason| ("sheets", reason, sheets)).collect();
+    let mut wanted: Vec<_> = (0..=16).chain([18, 20, 21]).map(|reason| ("sheets", reason, sheets)).collect();
     wanted.push(("all sheets", 0, 1_000 * sheets));
-    wanted.extend((0..=15).chain([20, 21]).map(|reason| ("reports", reason, sheets / 20)));
-    wanted.extend((0..=15).chain([20, 21]).map(|reason| ("reports, first line", reason, sheets / 20)));
-    wanted.extend((1..=16).chain([20, 21]).map(|reason| ("as made", reason, sheets / 2)));
+    wanted.extend((0..=15).chain([18, 20, 21]).map(|reason| ("reports", reason, sheets / 20)));
+    wanted.extend((0..=15).chain([18, 20, 21]).map(|reason| ("reports, first line", reason, sheets / 20)));
+    wanted.extend((1..=16).chain([18, 20, 21]).map(|reason| ("as made", reason, sheets / 2)));
+    wanted.extend(["sheets", "as made", "run, outstanding"].map(|what| (what, 18, 4 * sheets)));
+    for warp in 0..4 {
+        wanted
+            .extend(["18, ld by warp", "18, st by warp", "passed, ld by warp", "passed, st by warp"].map(|what| (what, warp, 2 * sheets)));
+    }
     wanted.extend((3..=5).map(|reason| ("statements alone", reason, 4 * sheets)));
     for what in ["run, other starts", "run, random starts"] {
         wanted.extend([(what, 0, sheets), (what, 1, sheets)]);
@@ -943,10 +1036,12 @@ const PLACES: &[(u32, &str)] = &[
     (8, "alloc"),
     (8, "dealloc"),
     (8, "ld"),
+    (8, "outstanding"),
     (8, "relinquish"),
     (8, "st"),
     (9, "alloc"),
     (9, "dealloc"),
+    (9, "outstanding"),
     (10, "alloc"),
     (11, "alloc"),
     (12, "leftmost of several"),
@@ -965,7 +1060,19 @@ const PLACES: &[(u32, &str)] = &[
     (15, "exit, columns held"),
     (15, "line after exit"),
     (15, "no exit"),
+    (15, "outstanding"),
     (16, "short list"),
+    (18, "dealloc of another holding"),
+    (18, "every other wait"),
+    (18, "fences"),
+    (18, "ld"),
+    (18, "ld and st"),
+    (18, "name used again"),
+    (18, "no wait"),
+    (18, "st"),
+    (18, "wait before the access"),
+    (18, "wait of another warp"),
+    (18, "wait of the other sort"),
     (20, "mma idesc, dense"),
     (20, "mma idesc, sparse"),
     (21, "mma idesc, dense"),
@@ -973,10 +1080,13 @@ const PLACES: &[(u32, &str)] = &[
 ];
 
 pub fn run() -> bool {
-    let counts = compare(&Proved, 3_800);
+    let counts = compare(&Proved, 3_500);
     let enough = counts.enough_places(PLACES, LEAST);
     counts.finish("sheets", &wanted(500)) && enough
 }
+
+#[cfg(test)]
+mod waits;
 
 #[cfg(test)]
 mod tests {
@@ -987,7 +1097,7 @@ mod tests {
     const ROUNDS: u64 = 12;
 
     /// The reference with its answer or its list changed.
-    struct Faulty(fn(&[u8], &mut [u16], &mut Answer));
+    pub struct Faulty(pub AnswerFault);
 
     impl Side for Faulty {
         fn judge(&self, sheet: &[u8], starts: &mut [u16]) -> (u32, Answer) {
@@ -1054,10 +1164,10 @@ mod tests {
     }
 
     /// What a fault does to an answer and its list, and to a report.
-    type AnswerFault = fn(&[u8], &mut [u16], &mut Answer);
+    pub type AnswerFault = fn(&[u8], &mut [u16], &mut Answer);
     type ReportFault = fn(&mut [u8], &mut (u32, usize));
 
-    fn is_found(side: &impl Side) -> bool {
+    pub fn is_found(side: &impl Side) -> bool {
         compare(side, ROUNDS).differences() > 0
     }
 

@@ -6,6 +6,8 @@
 //! list of five names. A `^` stands before the byte that a refusal points at and is
 //! itself no byte of the sheet.
 
+mod outstanding;
+
 use crate::sheet::HEADER;
 
 /// The length of the list that is lent unless an entry says another.
@@ -44,6 +46,7 @@ pub fn all() -> Vec<Entry> {
     requests(&mut e);
     placing(&mut e);
     accesses(&mut e);
+    outstanding::all(&mut e);
     mma_names(&mut e);
     mma_descriptors(&mut e);
     mma_shapes(&mut e);
@@ -96,7 +99,7 @@ fn plain_column(reason: u32) -> u32 {
     match reason {
         0 | 1 => 0,
         2 | 15 | 16 => 1,
-        5 | 10 | 11 => 3,
+        5 | 10 | 11 | 18 => 3,
         _ => panic!("reason {reason} needs a mark"),
     }
 }
@@ -185,21 +188,19 @@ fn sheet_of_lines(lines: usize) -> Vec<u8> {
 }
 
 fn worked_examples(e: &mut Entries) {
-    e.passed(
-        "given-whole",
-        &[
-            "0|@alloc [t0], 64;",
-            "0|@alloc [t1], 32;",
-            "0|@dealloc t0, 64;",
-            "0|@alloc [t2], 32;",
-            "1|@ld(32x32b.x2) {r0, r1}, [t1+2097152];",
-            "0|@dealloc t1, 32;",
-            "0|@dealloc t2, 32;",
-            "0|exit;",
-        ],
-        96,
-        &[0, 64, 0],
-    );
+    let mut whole = vec![
+        "0|@alloc [t0], 64;",
+        "0|@alloc [t1], 32;",
+        "0|@dealloc t0, 64;",
+        "0|@alloc [t2], 32;",
+        "1|@ld(32x32b.x2) {r0, r1}, [t1+2097152];",
+        "0|@dealloc t1, 32;",
+        "0|@dealloc t2, 32;",
+        "0|exit;",
+    ];
+    e.refused("given-whole-without-wait", &whole, [18, 7, 64, 96]);
+    whole.insert(5, "1|@wait::ld;");
+    e.passed("given-whole", &whole, 96, &[0, 64, 0]);
     let mut lines: Vec<String> = (0..16).map(|i| format!("0|@alloc [t{i}], 32;")).collect();
     lines.extend((0..8).map(|i| format!("0|@dealloc t{}, 32;", 2 * i)));
     let mut fragments = borrowed(&lines);
@@ -218,7 +219,7 @@ fn worked_examples(e: &mut Entries) {
     let mut starts: Vec<u16> = (0..16).map(|i| 32 * i).collect();
     starts.extend([0, 64]);
     e.passed("fragments-filled", &all, 512, &starts);
-    let inside = ["0|@alloc [t], 64;", "0|@ld(32x32b.x64) {#64}, [t];", "0|@dealloc t, 64;", "0|exit;"];
+    let inside = ["0|@alloc [t], 64;", "0|@ld(32x32b.x64) {#64}, [t];", "0|@wait::ld;", "0|@dealloc t, 64;", "0|exit;"];
     e.passed("access-fills-holding", &inside, 64, &[0]);
     let outside = ["0|@alloc [t], 64;", "0|@ld(32x32b.x64) {#64}, ^[t+1];"];
     e.refused("access-one-past", &outside, [14, 3, 64, 64]);
@@ -235,7 +236,7 @@ fn slips(e: &mut Entries) {
     e.refused("lane-65535-not-masked", &[whole, "0|@ld(32x32b.x1) {r}, ^[t+0xffff0000];"], [8, 3, 512, 512]);
     e.refused("lane-65535-mma", &with_mma("@mma(f16)", "^[t+0xffff0000], a, b, i, p"), [14, 6, 512, 512]);
     // an offset of 2 is column 2, not lane 2
-    let small = ["0|@alloc [t], 32;", "0|@ld(32x32b.x1) {r}, [t+2];", "0|@dealloc t, 32;", "0|exit;"];
+    let small = ["0|@alloc [t], 32;", "0|@ld(32x32b.x1) {r}, [t+2];", "0|@wait::ld;", "0|@dealloc t, 32;", "0|exit;"];
     e.passed("offset-2-is-a-column", &small, 32, &[0]);
     let second = ["0|@alloc [t], 32;", "2|@ld(32x32b.x1) {r}, ^[t+2];"];
     e.refused("offset-2-is-no-lane", &second, [8, 3, 32, 32]);
@@ -367,7 +368,7 @@ fn tokens(e: &mut Entries) {
     }
     e.refused("alloc-without-space", &["0|@alloc[t],32;"], [15, 2, 32, 32]);
     let spaced = "0|@ld(32x32b.x1) { r } , [ t + 3 ] ;";
-    e.passed("spaces-at-each-token", &["0|@alloc [t], 32;", spaced, "0|@dealloc t, 32;", "0|exit ;"], 32, &[0]);
+    e.passed("spaces-at-each-token", &["0|@alloc [t], 32;", spaced, "0|@wait::ld ;", "0|@dealloc t, 32;", "0|exit ;"], 32, &[0]);
     e.passed("exit-and-spaces", &["0|exit     ;"], 0, &[]);
     let mut three = |name: &str, line: &str| e.refused(name, &[line], [3, 2, 0, 0]);
     three("opcode-runs-into-name", "0|^mov.b32_x,1;");
@@ -467,7 +468,7 @@ fn bases(e: &mut Entries) {
     }
     e.refused("dealloc-octal-differs", &["0|@alloc [t], 32;", "0|@dealloc t, ^032;"], [9, 3, 32, 32]);
     // lane 32 and the last column of the holding, then one more
-    let last_column = ["0|@alloc [t], 32;", "1|@ld(32x32b.x1) {r}, [t+010000037];", "0|@dealloc t, 32;", "0|exit;"];
+    let last_column = ["0|@alloc [t], 32;", "1|@ld(32x32b.x1) {r}, [t+010000037];", "1|@wait::ld;", "0|@dealloc t, 32;", "0|exit;"];
     e.passed("offset-octal", &last_column, 32, &[0]);
     e.refused("offset-octal-past", &["0|@alloc [t], 32;", "1|@ld(32x32b.x1) {r}, ^[t+010000040];"], [14, 3, 32, 32]);
     e.refused("offset-zero-and-decimals", &["0|@alloc [t], 32;", "1|@ld(32x32b.x1) {r}, [t+^02097152];"], [3, 3, 32, 32]);
@@ -498,6 +499,7 @@ fn unsigned(e: &mut Entries) {
             "0|@dealloc t0, 0x40U;",
             "0|@alloc [t2], 32U;",
             "1|@ld(32x32b.x2) {r0, r1}, [t1+010000000U];",
+            "1|@wait::ld;",
             "0|@dealloc t1, 0B100000U;",
             "0|@dealloc t2, 0X20;",
             "0|exit;",
@@ -535,7 +537,8 @@ fn no_numbers(e: &mut Entries) {
         e.raw(&format!("header-{name}"), format!("sheet\t{digit}\tsm_100a\n0\texit;\n").into(), [2, 1, 0, 0], &[]);
     }
     // U is a name
-    e.passed("name-U", &["0|@alloc [U], 32U;", "0|@ld(32x32b.x1) {b1}, [U+0U];", "0|@dealloc U, 040;", "0|exit;"], 32, &[0]);
+    let named = ["0|@alloc [U], 32U;", "0|@ld(32x32b.x1) {b1}, [U+0U];", "0|@wait::ld;", "0|@dealloc U, 040;", "0|exit;"];
+    e.passed("name-U", &named, 32, &[0]);
 }
 
 fn forms(e: &mut Entries) {
@@ -604,6 +607,8 @@ fn register_lists(e: &mut Entries) {
         "0|@st(16x64b.x128) [t+256], {#128};",
         "0|@ld(16x128b.x64) {#128}, [t+256];",
         "0|@st(16x256b.x32) [t+256], {#128};",
+        "0|@wait::ld;",
+        "0|@wait::st;",
         "0|@dealloc t, 512;",
         "0|exit;",
     ];
@@ -629,7 +634,8 @@ fn names_bound(e: &mut Entries) {
     e.passed("name-used-again", &reuse, 64, &[0, 0]);
     e.passed("mov-freed-name", &[a32, "0|@dealloc t, 32;", "0|mov.b32 t, 1;", "0|exit;"], 32, &[0]);
     e.refused("value-name-stays", &[a32, "0|@dealloc t, 32;", "0|mov.b32 t, 1;", "0|@alloc [^t], 32;"], [6, 5, 0, 32]);
-    e.passed("registers-not-looked-up", &[a32, "0|@ld(32x32b.x2) {t, t}, [t];", "0|@dealloc t, 32;", "0|exit;"], 32, &[0]);
+    let own_name = [a32, "0|@ld(32x32b.x2) {t, t}, [t];", "0|@wait::ld;", "0|@dealloc t, 32;", "0|exit;"];
+    e.passed("registers-not-looked-up", &own_name, 32, &[0]);
 }
 
 fn value_table(e: &mut Entries) {
@@ -664,7 +670,7 @@ fn warps(e: &mut Entries) {
     e.refused("warp-stays-fixed", &[a32, "0|@dealloc t, 32;", "^1|@alloc [t], 32;"], [8, 4, 0, 32]);
     e.passed(
         "star-is-warp-0",
-        &["*|@alloc [t], 32;", "0|@ld(32x32b.x1) {r}, [t];", "*|@ld(32x32b.x1) {r}, [t];", "0|@dealloc t, 32;", "*|exit;"],
+        &["*|@alloc [t], 32;", "0|@ld(32x32b.x1) {r}, [t];", "*|@ld(32x32b.x1) {r}, [t];", "*|@wait::ld;", "0|@dealloc t, 32;", "*|exit;"],
         32,
         &[0],
     );
@@ -747,10 +753,11 @@ fn accesses(e: &mut Entries) {
     // a holding of 32 and one behind it
     let next = [a32, "0|@alloc [u], 32;", "0|@ld(32x32b.x1) {r}, ^[t+32];"];
     e.refused("not-into-the-next-holding", &next, [14, 4, 64, 64]);
-    let last = [a32, "0|@ld(32x32b.x1) {r}, [t+31];", "0|@dealloc t, 32;", "0|exit;"];
+    let last = [a32, "0|@ld(32x32b.x1) {r}, [t+31];", "0|@wait::ld;", "0|@dealloc t, 32;", "0|exit;"];
     e.passed("last-column", &last, 32, &[0]);
     // a holding that does not start at 0
-    let second = [a32, "0|@alloc [u], 64;", "0|@ld(32x32b.x64) {#64}, [u];", "0|@dealloc t, 32;", "0|@dealloc u, 64;", "0|exit;"];
+    let second =
+        [a32, "0|@alloc [u], 64;", "0|@ld(32x32b.x64) {#64}, [u];", "0|@wait::ld;", "0|@dealloc t, 32;", "0|@dealloc u, 64;", "0|exit;"];
     e.passed("columns-from-the-holdings-start", &second, 96, &[0, 32]);
     e.refused("column-from-the-holdings-start-over", &[a32, "0|@alloc [u], 64;", "0|@ld(32x32b.x64) {#64}, ^[u+32];"], [14, 4, 96, 96]);
     for (shape, registers) in [("32x32b", 1), ("16x64b", 1), ("16x128b", 2), ("16x256b", 4)] {
@@ -760,7 +767,8 @@ fn accesses(e: &mut Entries) {
                 let access = format!("{warp}|@ld({shape}.x1) {{#{registers}}}, ^[t+{}];", lane * 65_536);
                 let name = format!("lane-{lane}-of-{shape}-by-{warp}");
                 if good {
-                    e.passed(&name, &[a32, &access, "0|@dealloc t, 32;", "0|exit;"], 32, &[0]);
+                    let wait = format!("{warp}|@wait::ld;");
+                    e.passed(&name, &[a32, &access, &wait, "0|@dealloc t, 32;", "0|exit;"], 32, &[0]);
                 } else if lane % 48 == 0 || warp == 1 {
                     e.refused(&name, &[a32, &access], [8, 3, 32, 32]);
                 }
@@ -772,7 +780,7 @@ fn accesses(e: &mut Entries) {
             let access = format!("0|@st({shape}.x{num}) ^[t+{column}], {{#{registers}}};");
             let name = format!("columns-of-{shape}-at-{column}");
             if good {
-                e.passed(&name, &[a32, &access, "0|@dealloc t, 32;", "0|exit;"], 32, &[0]);
+                e.passed(&name, &[a32, &access, "0|@wait::st;", "0|@dealloc t, 32;", "0|exit;"], 32, &[0]);
             } else {
                 e.refused(&name, &[a32, &access], [14, 3, 32, 32]);
             }
@@ -1067,6 +1075,8 @@ fn lent_list(e: &mut Entries) {
     e.lent("list-of-602-for-601", many, 602, [0, last, 0, 320], &starts);
     let held = sheet(&["0|@alloc [t], 32;", "0|exit;"]);
     e.lent("list-too-short-and-held", held, 0, [15, 3, 32, 32], &[]);
+    let outstanding = sheet(&["0|@alloc [t], 32;", "0|@ld(32x32b.x1) {r}, [t];", "0|@dealloc t, 32;", "0|exit;"]);
+    e.lent("list-too-short-and-outstanding", outstanding, 0, [18, 4, 32, 32], &[]);
     let mut more = two;
     more.extend_from_slice(b"0\texit;\n");
     e.lent("list-too-short-and-line-after-exit", more, 0, [15, 7, 0, 64], &[]);
@@ -1096,6 +1106,12 @@ fn order(e: &mut Entries) {
     both("order-10-before-11", &["0|@alloc [t], 512;", "0|@relinquish;", "0|@alloc [u], 32;"], 10, 512);
     both("order-6-before-11", &["0|@alloc [t], 512;", "0|@alloc [^t], 32;"], 6, 512);
     both("order-6-before-10", &[a32, "0|@relinquish;", "0|@alloc [^t], 32;"], 6, 32);
+    let load = "0|@ld(32x32b.x1) {r}, [t];";
+    both("order-6-before-18", &[a32, load, "0|@dealloc ^u, 32;"], 6, 32);
+    both("order-8-before-18", &[a32, load, "^1|@dealloc t, 32;"], 8, 32);
+    both("order-9-before-18", &[a32, load, "0|@dealloc t, ^64;"], 9, 32);
+    // no exit is asked for where the last line is refused
+    both("order-18-before-no-exit", &[a32, load, "0|@dealloc t, 32;"], 18, 32);
     let bad = 0xffff_ffff;
     let mut mma = |name: &str, operands: &str, a: u64, b: u64, i: u32, reason: u32| {
         e.mma_refused(name, with_words("@mma(f16)", operands, a, b, i), reason);

@@ -128,14 +128,22 @@ impl Judge {
             Statement::Alloc { name, columns } => of_booking(self.alloc(warp, *name, *columns)),
             Statement::Dealloc { name, columns } => of_booking(self.ledger.dealloc(warp, name, *columns)),
             Statement::Relinquish => of_booking(self.ledger.relinquish(warp)),
-            Statement::Ld { shape, num, address, .. } => of(Some(1), self.access(warp, *shape, *num, address)),
-            Statement::St { shape, num, address, .. } => of(Some(0), self.access(warp, *shape, *num, address)),
+            Statement::Ld { shape, num, address, .. } => of(Some(1), self.load(warp, *shape, *num, address)),
+            Statement::St { shape, num, address, .. } => of(Some(0), self.store(warp, *shape, *num, address)),
             Statement::Mma { ws, sp, kind, d, a, b, meta, idesc, .. } => {
                 let opcode = Opcode { kind: *kind, ws: *ws, sp: *sp };
                 self.mma(opcode, d, a, b, meta.as_ref(), idesc)
             }
             Statement::Exit => of(None, self.exit()),
-            Statement::WaitLd | Statement::WaitSt | Statement::FenceBefore | Statement::FenceAfter => Ok(()),
+            Statement::WaitLd => {
+                self.ledger.wait_for_loads(warp);
+                Ok(())
+            }
+            Statement::WaitSt => {
+                self.ledger.wait_for_stores(warp);
+                Ok(())
+            }
+            Statement::FenceBefore | Statement::FenceAfter => Ok(()),
         }
     }
 
@@ -154,6 +162,18 @@ impl Judge {
         }
         let start = self.ledger.alloc(warp, name, columns)?;
         self.starts.push(start as u16);
+        Ok(())
+    }
+
+    fn load(&mut self, warp: u8, shape: Shape, num: u32, address: &Address) -> Result<(), u32> {
+        self.access(warp, shape, num, address)?;
+        self.ledger.load(warp, &address.name);
+        Ok(())
+    }
+
+    fn store(&mut self, warp: u8, shape: Shape, num: u32, address: &Address) -> Result<(), u32> {
+        self.access(warp, shape, num, address)?;
+        self.ledger.store(warp, &address.name);
         Ok(())
     }
 

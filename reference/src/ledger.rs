@@ -1,5 +1,6 @@
-//! The books of a sheet while it is judged: live holdings, the warp that books,
-//! the permit to allocate, and the values that were moved.
+//! The books of a sheet while it is judged: live holdings and what is outstanding
+//! on them, the warp that books, the permit to allocate, and the values that were
+//! moved.
 //!
 //! A refused booking changes nothing.
 
@@ -16,6 +17,8 @@ pub const BAD_WARP: u32 = 8;
 pub const NO_PERMIT: u32 = 10;
 /// No free run is long enough.
 pub const NO_RUN: u32 = 11;
+/// A load or a store on the holding is outstanding.
+pub const OUTSTANDING: u32 = 18;
 
 /// Columns of the memory.
 pub const COLUMNS: u32 = 512;
@@ -25,12 +28,28 @@ const UNIT: u32 = 32;
 const MOST_HOLDINGS: usize = (COLUMNS / UNIT) as usize;
 /// No more values than this can be bound.
 const MOST_VALUES: usize = 128;
+/// Warps that load and store.
+const WARPS: usize = 4;
 
 #[derive(Clone, Copy)]
 pub struct Holding {
     pub name: Name,
     pub start: u32,
     pub columns: u32,
+    /// For each warp, whether a load of it is outstanding.
+    loads: [bool; WARPS],
+    /// The same of stores.
+    stores: [bool; WARPS],
+}
+
+impl Holding {
+    fn new(name: Name, start: u32, columns: u32) -> Self {
+        Holding { name, start, columns, loads: [false; WARPS], stores: [false; WARPS] }
+    }
+
+    fn has_outstanding(&self) -> bool {
+        self.loads.contains(&true) || self.stores.contains(&true)
+    }
 }
 
 pub struct Ledger {
@@ -48,7 +67,7 @@ pub struct Ledger {
 
 impl Ledger {
     pub fn new() -> Self {
-        let none = Holding { name: Name::EMPTY, start: 0, columns: 0 };
+        let none = Holding::new(Name::EMPTY, 0, 0);
         Ledger { holdings: [none; MOST_HOLDINGS], live: 0, taken: 0, held: 0, warp: None, relinquished: false }
     }
 
@@ -59,6 +78,10 @@ impl Ledger {
     /// The live holding of this name.
     pub fn holding(&self, name: &Name) -> Option<&Holding> {
         self.holdings[..self.live].iter().find(|holding| holding.name == *name)
+    }
+
+    fn holding_mut(&mut self, name: &Name) -> Option<&mut Holding> {
+        self.holdings[..self.live].iter_mut().find(|holding| holding.name == *name)
     }
 
     /// Books columns and answers their start. The caller has seen to it that the
@@ -72,7 +95,7 @@ impl Ledger {
             return Err(NO_PERMIT);
         }
         let start = self.lowest_start(columns).ok_or(NO_RUN)?;
-        self.holdings[self.live] = Holding { name, start, columns };
+        self.holdings[self.live] = Holding::new(name, start, columns);
         self.live += 1;
         self.taken |= units(start, columns);
         self.held += columns;
@@ -80,7 +103,7 @@ impl Ledger {
         Ok(start)
     }
 
-    /// Gives a whole holding back.
+    /// Gives a whole holding back, if no load or store on it is outstanding.
     pub fn dealloc(&mut self, warp: u8, name: &Name, columns: u32) -> Result<(), u32> {
         let live = &self.holdings[..self.live];
         let place = live.iter().position(|holding| holding.name == *name).ok_or(BAD_NAME)?;
@@ -88,6 +111,9 @@ impl Ledger {
         let holding = self.holdings[place];
         if holding.columns != columns {
             return Err(BAD_REQUEST);
+        }
+        if holding.has_outstanding() {
+            return Err(OUTSTANDING);
         }
         self.live -= 1;
         self.holdings[place] = self.holdings[self.live];
@@ -101,6 +127,34 @@ impl Ledger {
         self.warp = Some(warp);
         self.relinquished = true;
         Ok(())
+    }
+
+    /// From now on a load of the warp is outstanding on the holding of this name.
+    pub fn load(&mut self, warp: u8, name: &Name) {
+        if let Some(holding) = self.holding_mut(name) {
+            holding.loads[usize::from(warp)] = true;
+        }
+    }
+
+    /// The same of a store.
+    pub fn store(&mut self, warp: u8, name: &Name) {
+        if let Some(holding) = self.holding_mut(name) {
+            holding.stores[usize::from(warp)] = true;
+        }
+    }
+
+    /// Of this warp no load is outstanding any more, on any holding.
+    pub fn wait_for_loads(&mut self, warp: u8) {
+        for holding in &mut self.holdings[..self.live] {
+            holding.loads[usize::from(warp)] = false;
+        }
+    }
+
+    /// The same of stores.
+    pub fn wait_for_stores(&mut self, warp: u8) {
+        for holding in &mut self.holdings[..self.live] {
+            holding.stores[usize::from(warp)] = false;
+        }
     }
 
     fn check_warp(&self, warp: u8) -> Result<(), u32> {

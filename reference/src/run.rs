@@ -1,7 +1,8 @@
 //! The run of a list of statements under a list of starts.
 //!
 //! It knows nothing of the judge: it keeps its own holdings and numbers, looks at
-//! columns one by one, and notes after each line what can be seen.
+//! columns one by one, and notes after each line what can be seen. What is
+//! outstanding on a holding it finds by looking back, and does not stop for it.
 
 use crate::name::Name;
 use crate::sheet::Step;
@@ -26,6 +27,13 @@ pub enum End {
     Ended,
 }
 
+/// A load or a store of this warp that was not waited for.
+#[derive(Clone, Copy, PartialEq, Eq, Debug)]
+pub enum Outstanding {
+    Load(u8),
+    Store(u8),
+}
+
 /// What can be seen after a line that was done.
 #[derive(Clone, PartialEq, Eq, Debug)]
 pub struct Seen {
@@ -39,12 +47,16 @@ pub struct Seen {
     pub given_back: u64,
     /// The cells that the line booked, if any, were inside the holdings they name.
     pub inside: bool,
+    /// What was outstanding on the holding that the line gave back, if it gave one
+    /// back: the latest first.
+    pub outstanding: Vec<Outstanding>,
 }
 
 impl Seen {
-    /// Do the columns add up, with no overlap and nothing outside?
+    /// Do the columns add up, with no overlap, nothing outside, and nothing
+    /// outstanding on what was given back?
     pub fn is_good(&self) -> bool {
-        self.disjoint && self.inside && self.asked == u64::from(self.held) + self.given_back
+        self.disjoint && self.inside && self.outstanding.is_empty() && self.asked == u64::from(self.held) + self.given_back
     }
 }
 
@@ -65,10 +77,10 @@ pub fn run(steps: &[Step], starts: &[u32]) -> Outcome {
     let mut peak = 0;
     for (place, step) in steps.iter().enumerate() {
         let line = place + 2;
-        let Some(accesses) = machine.step(&step.statement) else {
+        let Some(done) = machine.step(step) else {
             return Outcome { end: End::Stopped(line), peak, seen };
         };
-        let now = machine.look(line, &accesses);
+        let now = machine.look(line, done);
         peak = peak.max(now.held);
         seen.push(now);
         if step.statement == Statement::Exit {
@@ -94,7 +106,7 @@ pub fn choose_starts(steps: &[Step], mut choose: impl FnMut(&[u32]) -> u32) -> V
                 chosen.push(start);
                 machine.alloc_at(name, *columns, start)
             }
-            other => machine.step(other).map(|_| ()),
+            _ => machine.step(step).map(|_| ()),
         };
         if done.is_none() {
             return chosen;
@@ -108,6 +120,8 @@ struct Holding {
     name: Name,
     start: u32,
     length: u32,
+    /// How many notes there were when it was taken.
+    notes_before: usize,
 }
 
 /// Cells that a line books, and the holding that it names for them.
@@ -120,44 +134,67 @@ struct Access {
     columns: u32,
 }
 
+/// What the run remembers of a line that loaded, stored or waited.
+enum Note {
+    /// On the holding of this name.
+    Access(Name, Outstanding),
+    /// For what is outstanding so, on all holdings.
+    Wait(Outstanding),
+}
+
+/// What a line did.
+#[derive(Default)]
+struct Done {
+    accesses: Vec<Access>,
+    /// On the holding that it gave back.
+    outstanding: Vec<Outstanding>,
+}
+
 struct Machine<'a> {
     starts: std::slice::Iter<'a, u32>,
     live: Vec<Holding>,
     /// The number last moved to each name.
     numbers: Vec<(Name, u64)>,
+    notes: Vec<Note>,
     asked: u64,
     given_back: u64,
 }
 
 impl<'a> Machine<'a> {
     fn new(starts: &'a [u32]) -> Self {
-        Machine { starts: starts.iter(), live: Vec::new(), numbers: Vec::new(), asked: 0, given_back: 0 }
+        Machine { starts: starts.iter(), live: Vec::new(), numbers: Vec::new(), notes: Vec::new(), asked: 0, given_back: 0 }
     }
 
-    /// Does one line and answers the cells it booked. `None`, and nothing changed
-    /// but the place in the list of starts, when it cannot be done.
-    fn step(&mut self, statement: &Statement) -> Option<Vec<Access>> {
-        match statement {
+    /// Does one line. `None`, and nothing changed but the place in the list of
+    /// starts, when it cannot be done.
+    fn step(&mut self, step: &Step) -> Option<Done> {
+        let mut done = Done::default();
+        match &step.statement {
             Statement::Mov { name, value, .. } => self.mov(name, *value),
             Statement::Alloc { name, columns } => {
                 let start = *self.starts.next()?;
                 self.alloc_at(name, *columns, start)?;
             }
-            Statement::Dealloc { name, columns } => self.dealloc(name, *columns)?,
-            Statement::Ld { shape, num, address, .. } | Statement::St { shape, num, address, .. } => {
-                return Some(vec![self.warp_access(*shape, *num, address)?]);
+            Statement::Dealloc { name, columns } => done.outstanding = self.dealloc(name, *columns)?,
+            Statement::Ld { shape, num, address, .. } => {
+                done.accesses.push(self.warp_access(*shape, *num, address)?);
+                self.notes.push(Note::Access(address.name, Outstanding::Load(step.warp)));
             }
-            Statement::Mma { d, a, meta, idesc, .. } => {
-                return self.mma(d, a, meta.as_ref(), idesc);
+            Statement::St { shape, num, address, .. } => {
+                done.accesses.push(self.warp_access(*shape, *num, address)?);
+                self.notes.push(Note::Access(address.name, Outstanding::Store(step.warp)));
             }
+            Statement::WaitLd => self.notes.push(Note::Wait(Outstanding::Load(step.warp))),
+            Statement::WaitSt => self.notes.push(Note::Wait(Outstanding::Store(step.warp))),
+            Statement::Mma { d, a, meta, idesc, .. } => done.accesses = self.mma(d, a, meta.as_ref(), idesc)?,
             Statement::Exit => {
                 if self.held() != 0 {
                     return None;
                 }
             }
-            Statement::Relinquish | Statement::WaitLd | Statement::WaitSt | Statement::FenceBefore | Statement::FenceAfter => {}
+            Statement::Relinquish | Statement::FenceBefore | Statement::FenceAfter => {}
         }
-        Some(Vec::new())
+        Some(done)
     }
 
     fn mov(&mut self, name: &Name, value: u64) {
@@ -171,17 +208,31 @@ impl<'a> Machine<'a> {
         if self.holding(name).is_some() || !self.is_usable(start, columns) {
             return None;
         }
-        self.live.push(Holding { name: *name, start, length: columns });
+        self.live.push(Holding { name: *name, start, length: columns, notes_before: self.notes.len() });
         self.asked += u64::from(columns);
         Some(())
     }
 
-    fn dealloc(&mut self, name: &Name, columns: u32) -> Option<()> {
+    /// Answers what is outstanding on the holding.
+    fn dealloc(&mut self, name: &Name, columns: u32) -> Option<Vec<Outstanding>> {
         let is_it = |holding: &Holding| holding.name == *name && holding.length == columns;
         let place = self.live.iter().position(is_it)?;
-        self.live.remove(place);
+        let holding = self.live.remove(place);
         self.given_back += u64::from(columns);
-        Some(())
+        Some(self.outstanding(&holding))
+    }
+
+    /// The loads and stores on a holding that no wait of their own warp follows.
+    fn outstanding(&self, holding: &Holding) -> Vec<Outstanding> {
+        let (mut waited_for, mut outstanding) = (Vec::new(), Vec::new());
+        for note in self.notes[holding.notes_before..].iter().rev() {
+            match note {
+                Note::Wait(what) => waited_for.push(what),
+                Note::Access(name, what) if *name == holding.name && !waited_for.contains(&what) => outstanding.push(*what),
+                Note::Access(..) => {}
+            }
+        }
+        outstanding
     }
 
     fn warp_access(&self, shape: Shape, num: u32, address: &Address) -> Option<Access> {
@@ -245,7 +296,7 @@ impl<'a> Machine<'a> {
         self.holders().iter().filter(|&&holders| holders > 0).count() as u32
     }
 
-    fn look(&self, line: usize, accesses: &[Access]) -> Seen {
+    fn look(&self, line: usize, done: Done) -> Seen {
         let disjoint = self.holders().iter().all(|&holders| holders <= 1);
         let is_live = |access: &Access| self.holding(&access.holding.name).is_some();
         Seen {
@@ -254,7 +305,8 @@ impl<'a> Machine<'a> {
             held: self.held(),
             asked: self.asked,
             given_back: self.given_back,
-            inside: accesses.iter().all(|access| is_live(access) && access.is_inside()),
+            inside: done.accesses.iter().all(|access| is_live(access) && access.is_inside()),
+            outstanding: done.outstanding,
         }
     }
 }

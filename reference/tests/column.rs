@@ -10,6 +10,8 @@ const A64: &str = "0|@alloc [t], 64;";
 const B: &str = "0|mov.b64 b, 0x0000400800100000;";
 const I: &str = "0|mov.b32 i, 0x08100010;";
 const EXIT: &str = "0|exit;";
+/// Nothing waits for it.
+const LOAD: &str = "0|@ld(32x32b.x1) {r}, [t];";
 
 /// Reason, line, column, held, peak of the lines behind a good first one.
 fn answer(lines: &[&str]) -> [usize; 5] {
@@ -166,6 +168,17 @@ fn others_have_the_opcode() {
     gives(&["0|@relinquish;", A32], [10, 3, 3, 0, 0]);
     gives(&["0|@alloc [t], 512;", "0|@alloc [u], 32;"], [11, 3, 3, 512, 512]);
     gives(&["0|@ld(32x32b.x2) {r}, [t];"], [5, 2, 3, 0, 0]);
+    gives(&[A32, LOAD, D32], [18, 4, 3, 32, 32]);
+    gives(&[A32, LOAD, "0|@dealloc   t , 32 ;"], [18, 4, 3, 32, 32]);
+}
+
+#[test]
+fn reasons_before_outstanding() {
+    gives(&[A32, LOAD, "1|@dealloc u, 64;"], [6, 4, 49, 32, 32]);
+    gives(&[A32, LOAD, "1|@dealloc t, 64;"], [8, 4, 1, 32, 32]);
+    gives(&[A32, LOAD, "0|@dealloc t, 64;"], [9, 4, 52, 32, 32]);
+    gives(&[A32, LOAD, EXIT], [15, 4, 1, 32, 32]);
+    gives(&[EXIT, D32], [15, 3, 1, 0, 0]);
 }
 
 #[test]
@@ -318,6 +331,7 @@ fn operands() {
     points_at(&[A32, "0|@alloc [u], 512;"], 11, None);
     points_at(&[A32, "0|@ld(32x32b.x1) {r}, [t+32];"], 14, Some(1));
     points_at(&[A32, EXIT], 15, None);
+    points_at(&[A32, LOAD, D32], 18, None);
     points_at(&["0|nothing;"], 3, None);
     points_at(&["0|@ld(32x32b.x2) {r}, [t];"], 5, None);
     points_at(&["9|exit;"], 2, None);

@@ -17,7 +17,7 @@ fn foot(sheet: &[u8]) -> (String, Option<i32>) {
 fn a_pass_prints_every_holding() {
     let entries = all();
     let whole = entries.iter().find(|entry| entry.name == "given-whole").unwrap();
-    let want = "0\t9\t0\t0\t96\nt0\t0\t64\nt1\t64\t32\nt2\t0\t32\n";
+    let want = "0\t10\t0\t0\t96\nt0\t0\t64\nt1\t64\t32\nt2\t0\t32\n";
     assert_eq!(foot(&whole.sheet), (want.into(), Some(0)));
 }
 
@@ -60,6 +60,8 @@ fn a_pass_without_allocs_prints_one_line() {
 fn a_refusal_prints_one_line() {
     let held = sheet(&["0|@alloc [t], 32;", "0|exit;"]);
     assert_eq!(foot(&held), ("15\t3\t1\t32\t32\n".into(), Some(1)));
+    let outstanding = all().into_iter().find(|entry| entry.name == "given-whole-without-wait").unwrap();
+    assert_eq!(foot(&outstanding.sheet), ("18\t7\t3\t64\t96\n".into(), Some(1)));
     assert_eq!(foot(b""), ("2\t1\t1\t0\t0\n".into(), Some(1)));
 }
 

@@ -1,5 +1,6 @@
 //! The run: where it stops, what it sees after each line, and that it agrees with
-//! the judge on every entry that passes.
+//! the judge on every entry that passes. What is outstanding at a dealloc has its
+//! own file.
 
 use staplehorn_reference::entries::{all, sheet};
 use staplehorn_reference::judge::judge;
@@ -102,11 +103,11 @@ fn dealloc_needs_name_and_length() {
 fn warps_widths_and_permits_are_not_looked_at() {
     exits(&[A32, "3|@dealloc t, 32;", "2|@relinquish;", "1|@alloc [u], 96;", "0|@dealloc u, 96;", EXIT], &[0, 32]);
     // warp 1 at lane 0
-    exits(&[A32, "1|@ld(32x32b.x1) {r}, [t];", D32, EXIT], &[0]);
+    exits(&[A32, "1|@ld(32x32b.x1) {r}, [t];", "1|@wait::ld;", D32, EXIT], &[0]);
     // lane 96 is the last for 32 lanes, 112 for 16
-    exits(&[A32, "0|@ld(32x32b.x1) {r}, [t+6291456];", D32, EXIT], &[0]);
+    exits(&[A32, "0|@ld(32x32b.x1) {r}, [t+6291456];", "0|@wait::ld;", D32, EXIT], &[0]);
     stops(&[A32, "0|@ld(32x32b.x1) {r}, [t+6356992];"], &[0], 3);
-    exits(&[A32, "0|@ld(16x64b.x1) {r}, [t+7340032];", D32, EXIT], &[0]);
+    exits(&[A32, "0|@ld(16x64b.x1) {r}, [t+7340032];", "0|@wait::ld;", D32, EXIT], &[0]);
     stops(&[A32, "0|@ld(16x64b.x1) {r}, [t+7405568];"], &[0], 3);
 }
 
@@ -125,7 +126,7 @@ fn a_request_for_nothing() {
 
 #[test]
 fn accesses_stay_in_their_holding() {
-    exits(&[A32, "0|@ld(32x32b.x32) {#32}, [t];", D32, EXIT], &[480]);
+    exits(&[A32, "0|@ld(32x32b.x32) {#32}, [t];", "0|@wait::ld;", D32, EXIT], &[480]);
     stops(&[A32, "0|@ld(32x32b.x32) {#32}, [t+1];"], &[0], 3);
     stops(&["0|@ld(32x32b.x1) {r}, [t];"], &[], 2);
     // the next holding does not help

@@ -59,16 +59,19 @@ fn names_of_entries_are_file_names_and_differ() {
 #[test]
 fn every_reason_has_entries() {
     let entries = all();
-    for reason in (0..=16).chain([20, 21]) {
+    for reason in (0..=16).chain([18, 20, 21]) {
         let count = entries.iter().filter(|entry| entry.answer[0] == reason).count();
         assert!(count >= 2, "reason {reason} has {count}");
     }
 }
 
 #[test]
-fn report_of_the_sheet_given_whole() {
+fn reports_of_the_sheet_given_whole() {
     let entries = all();
-    let whole = entries.iter().find(|entry| entry.name == "given-whole").unwrap();
-    let want = "0\t9\t0\t0\t96\nt0\t0\t64\nt1\t64\t32\nt2\t0\t32\n";
-    assert_eq!(String::from_utf8(report(&whole.sheet)).unwrap(), want);
+    let report_of = |name: &str| {
+        let entry = entries.iter().find(|entry| entry.name == name).unwrap();
+        String::from_utf8(report(&entry.sheet)).unwrap()
+    };
+    assert_eq!(report_of("given-whole-without-wait"), "18\t7\t3\t64\t96\n");
+    assert_eq!(report_of("given-whole"), "0\t10\t0\t0\t96\nt0\t0\t64\nt1\t64\t32\nt2\t0\t32\n");
 }

@@ -278,6 +278,7 @@ fn sheet_given_whole() {
         "tcgen05.dealloc.cta_group::1.sync.aligned.b32 t0, 64;",
         "tcgen05.alloc.cta_group::1.sync.aligned.b32 [t2], 32;",
         "tcgen05.ld.sync.aligned.32x32b.x2.b32 {r0, r1}, [t1+2097152];",
+        "tcgen05.wait::ld.sync.aligned;",
         "tcgen05.dealloc.cta_group::1.sync.aligned.b32 t1, 32;",
         "tcgen05.dealloc.cta_group::1.sync.aligned.b32 t2, 32;",
         "exit;",

@@ -139,19 +139,28 @@ fn sheet(kind: &str, bytes: usize) -> Option<Vec<u8>> {
         _ => return None,
     };
     let mut sheet = format!("sheet\t1\tsm_100a\n{opening}");
-    let end = format!("{closing}0\texit;\n");
+    let mut end = format!("{closing}0\texit;\n");
     for turn in 0.. {
         let more = lines(turn);
-        if sheet.len() + more.len() + end.len() > bytes {
+        let wait = if kind == "loads" { WAITS.get(turn).copied().unwrap_or("") } else { "" };
+        if sheet.len() + more.len() + wait.len() + end.len() > bytes {
             break;
         }
         sheet.push_str(&more);
+        end.insert_str(0, wait);
     }
     Some((sheet + &end).into_bytes())
 }
 
 const ALLOC: &str = "0\ttcgen05.alloc.cta_group::1.sync.aligned.b32 [taddr], 256;\n";
 const DEALLOC: &str = "0\ttcgen05.dealloc.cta_group::1.sync.aligned.b32 taddr, 256;\n";
+/// The wait of each warp that `load_lines` has: warps 0 and 2 load, 1 and 3 store.
+const WAITS: [&str; 4] = [
+    "0\ttcgen05.wait::ld.sync.aligned;\n",
+    "1\ttcgen05.wait::st.sync.aligned;\n",
+    "2\ttcgen05.wait::ld.sync.aligned;\n",
+    "3\ttcgen05.wait::st.sync.aligned;\n",
+];
 
 fn alloc_lines(turn: usize) -> String {
     let (name, columns) = (turn % 100, 32 << (turn % 5));
