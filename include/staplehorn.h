@@ -29,8 +29,8 @@ extern "C" {
 #endif
 
 /* The version of this header, and the same as major * 10,000 + minor * 100 + patch. */
-#define STAPLEHORN_VERSION "0.5.1"
-#define STAPLEHORN_VERSION_NUMBER 501
+#define STAPLEHORN_VERSION "0.6.0"
+#define STAPLEHORN_VERSION_NUMBER 600
 
 /* Bytes of stack that are enough for any call. */
 #define STAPLEHORN_STACK 32768
@@ -57,6 +57,7 @@ enum staplehorn_reason {
     STAPLEHORN_REASON_CELLS = 14,
     STAPLEHORN_REASON_EXIT = 15,
     STAPLEHORN_REASON_STARTS = 16,
+    STAPLEHORN_REASON_OUTSTANDING = 18, /* asked directly after 15 */
     STAPLEHORN_REASON_ROOM = 19,
     STAPLEHORN_REASON_SHAPE_N = 20, /* 20 and 21 are asked directly after 13 */
     STAPLEHORN_REASON_TYPES = 21,
@@ -84,7 +85,7 @@ static inline const char *staplehorn_reason_text(uint32_t reason) {
         "exit while columns are held, a line after exit, or no exit",
         "the lent list has fewer places than there are allocs",
         NULL,
-        NULL,
+        "dealloc while a load or store of any warp is outstanding on its allocation",
         "the lent room is too short",
         "the descriptor's N is not listed",
         "the descriptor's types are not listed",
@@ -98,7 +99,7 @@ static inline const char *staplehorn_reason_text(uint32_t reason) {
 
 /* The answer for a sheet. */
 enum staplehorn_answer_field {
-    STAPLEHORN_REASON, /* 0 passed, else 1 to 16, 20 or 21 */
+    STAPLEHORN_REASON, /* 0 passed, else 1 to 16, 18, 20 or 21 */
     STAPLEHORN_LINE,   /* the line of the reason, from 1; the last line on a pass; 0 for reason 1 */
     STAPLEHORN_COLUMN, /* the byte of that line to which the reason points, from 1; 0 on a pass and for reason 1 */
     STAPLEHORN_HELD,   /* columns held before that line (after it where exit is missing); 0 on a pass and 16 */

@@ -14,7 +14,7 @@ import enum
 import os
 from typing import List, NamedTuple
 
-SONAME = "libstaplehorn.so.0.5"
+SONAME = "libstaplehorn.so.0.6"
 REPORT_ROOM = 102391
 STATEMENT_ROOM = 2560
 MOST_ALLOCS = 4095
@@ -22,7 +22,7 @@ ANSWER_FIELDS = 6
 
 
 class Reason(enum.IntEnum):
-    """Why something is refused. 20 and 21 are asked directly after 13."""
+    """Why something is refused. 20 and 21 are asked directly after 13, 18 directly after 15."""
 
     PASSED = 0
     SIZE = 1
@@ -41,6 +41,7 @@ class Reason(enum.IntEnum):
     CELLS = 14
     EXIT = 15
     STARTS = 16
+    OUTSTANDING = 18
     ROOM = 19
     SHAPE_N = 20
     TYPES = 21
@@ -64,6 +65,7 @@ TEXTS = {
     14: "the lane of an mma is not 0, or columns go past the end of the allocation",
     15: "exit while columns are held, a line after exit, or no exit",
     16: "the lent list has fewer places than there are allocs",
+    18: "dealloc while a load or store of any warp is outstanding on its allocation",
     19: "the lent room is too short",
     20: "the descriptor's N is not listed",
     21: "the descriptor's types are not listed",

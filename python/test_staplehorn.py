@@ -22,7 +22,7 @@ class Module(unittest.TestCase):
 
     def test_sheets(self):
         given = contents("crates/foot/stdin")
-        self.assertEqual(s.judge(given), s.Passed(9, 96, [0, 64, 0]))
+        self.assertEqual(s.judge(given), s.Passed(10, 96, [0, 64, 0]))
         self.assertEqual(s.judge(bytearray(given)).starts, [0, 64, 0])
         self.assertEqual(s.judge(b"sheet\t1\tsm_100a\n0\texit;\n").starts, [])
         self.assertEqual(s.report(given), contents("crates/foot/stdout"))
@@ -36,6 +36,19 @@ class Module(unittest.TestCase):
         self.refused(2, s.judge, b"sheet\t1\tsm_100a\n0\texit;\0\n")
         number = self.refused(4, s.judge, b"sheet\t1\tsm_100a\n0\tmov.b32 x, 4294967296;\n")
         self.assertEqual((number.line, number.column, number.held, number.peak), (2, 14, 0, 0))
+
+    def test_outstanding(self):
+        """A load or store is outstanding until its own warp's wait of its kind; a dealloc before that is 18."""
+        load, store = b"1\ttcgen05.ld.sync.aligned.32x32b.x1.b32 {r}, [t+2097152];\n", b"1\ttcgen05.st.sync.aligned.32x32b.x1.b32 [t+2097152], {r};\n"
+        alloc, dealloc = b"0\ttcgen05.alloc.cta_group::1.sync.aligned.b32 [t], 32;\n", b"0\ttcgen05.dealloc.cta_group::1.sync.aligned.b32 t, 32;\n"
+        sheet = b"sheet\t1\tsm_100a\n" + alloc + b"%b" + dealloc + b"0\texit;\n"
+        wait = b"%d\ttcgen05.wait::%b.sync.aligned;\n"
+        for use, kind, other in ((load, b"ld", b"st"), (store, b"st", b"ld")):
+            self.assertEqual(s.judge(sheet % (use + use + wait % (1, kind))), s.Passed(7, 32, [0]))
+            for line, uses in ((4, use), (5, use + wait % (0, kind)), (5, use + wait % (1, other)), (5, wait % (1, kind) + use)):
+                early = self.refused(s.Reason.OUTSTANDING, s.judge, sheet % uses)
+                self.assertEqual((early.line, early.column, early.held, early.peak), (line, 3, 32, 32), uses)
+        self.assertEqual(str(early), "line 5, column 3: dealloc while a load or store of any warp is outstanding on its allocation")
 
     def test_data(self):
         names = sorted(n for n in os.listdir(os.path.join(ROOT, "data")) if n.endswith(".sheet"))

@@ -277,6 +277,29 @@ static void passed(void) {
     is(answer[STAPLEHORN_STARTS], 0, "count on 16");
 }
 
+/* A dealloc while a load by another warp is outstanding; with the wait of that warp the sheet passes. */
+static void outstanding(void) {
+    const char *head = "sheet\t1\tsm_100a\n0\ttcgen05.alloc.cta_group::1.sync.aligned.b32 [t], 32;\n"
+                       "1\ttcgen05.ld.sync.aligned.32x32b.x1.b32 {r}, [t+2097152];\n";
+    const char *tail = "0\ttcgen05.dealloc.cta_group::1.sync.aligned.b32 t, 32;\n0\texit;\n";
+    const char *waits[] = {"", "0\ttcgen05.wait::ld.sync.aligned;\n", "1\ttcgen05.wait::st.sync.aligned;\n",
+                           "1\ttcgen05.wait::ld.sync.aligned;\n"};
+    uint32_t answer[STAPLEHORN_ANSWER_FIELDS];
+    uint16_t starts[1] = {7};
+    for (size_t i = 0; i < 4; ++i) {
+        char sheet[512];
+        size_t length = (size_t)snprintf(sheet, sizeof sheet, "%s%s%s", head, waits[i], tail);
+        uint32_t wanted = i < 3 ? STAPLEHORN_REASON_OUTSTANDING : STAPLEHORN_REASON_PASSED;
+        is(staplehorn_judge((const uint8_t *)sheet, length, starts, 1, answer), wanted, waits[i]);
+        is(answer[STAPLEHORN_LINE], i == 0 ? 4 : i < 3 ? 5 : 6, "line, outstanding");
+        is(answer[STAPLEHORN_COLUMN], i < 3 ? 3 : 0, "column, outstanding");
+        is(answer[STAPLEHORN_HELD], i < 3 ? 32 : 0, "held, outstanding");
+        is(answer[STAPLEHORN_PEAK], 32, "peak, outstanding");
+        is(answer[STAPLEHORN_STARTS], i < 3 ? 0 : 1, "count, outstanding");
+        is(starts[0], i < 3 ? 7 : 0, "start, outstanding");
+    }
+}
+
 /* Null is allowed where the length is 0. */
 static void nothing(void) {
     uint32_t answer[STAPLEHORN_ANSWER_FIELDS];
@@ -308,6 +331,7 @@ int main(void) {
     numbers();
     spelled();
     sheets();
+    outstanding();
     printf("%d answers right, %d wrong\n", right, wrong);
-    return wrong != 0 || right < 374;
+    return wrong != 0 || right < 402;
 }

@@ -1,4 +1,4 @@
-//! What the accepted lines of a sheet did: allocations, values, accesses. It judges nothing; each line that it is given was accepted by
+//! What the accepted lines of a sheet did: allocations, values, accesses, waits. It judges nothing; each line that it is given was accepted by
 //! the library, and what it makes of them is compared with the library's answer before anybody sees it.
 
 use crate::sheet::Sheet;
@@ -33,10 +33,22 @@ pub enum Use {
     Mma,
 }
 
+impl Use {
+    /// Its opcode in short, as a wait has it too.
+    pub fn word(self) -> &'static str {
+        match self {
+            Use::Load => "ld",
+            Use::Store => "st",
+            Use::Mma => "mma",
+        }
+    }
+}
+
 /// Columns of an allocation that a line uses, counted from its start.
 #[derive(Clone, PartialEq, Eq, Debug)]
 pub struct Access {
     pub line: usize,
+    pub warp: u32,
     /// Its place in `allocations`.
     pub allocation: usize,
     pub column: u32,
@@ -51,12 +63,20 @@ pub struct By {
     pub warp: u32,
 }
 
+/// A wait of a warp for its loads, or for its stores.
+#[derive(Clone, Copy, PartialEq, Eq, Debug)]
+pub struct Wait {
+    pub by: By,
+    pub kind: Use,
+}
+
 #[derive(Clone, Default, Debug)]
 pub struct History {
     /// In the order of their allocs, those that were given back included.
     pub allocations: Vec<Allocation>,
     pub values: Vec<Value>,
     pub accesses: Vec<Access>,
+    pub waits: Vec<Wait>,
     /// The first alloc or relinquish: it fixed the warp.
     pub booker: Option<By>,
     /// The first relinquish.
@@ -99,26 +119,41 @@ impl History {
                 self.relinquished.get_or_insert(line);
             }
             Statement::Access { store, shape, num, address, .. } => {
-                self.access(line, address, shape.columns * num, if *store { Use::Store } else { Use::Load });
+                self.access(By { line, warp }, address, shape.columns * num, if *store { Use::Store } else { Use::Load });
             }
-            Statement::Mma(mma) => self.mma(line, mma),
+            Statement::Mma(mma) => self.mma(By { line, warp }, mma),
+            Statement::Wait { store } => {
+                self.waits.push(Wait { by: By { line, warp }, kind: if *store { Use::Store } else { Use::Load } });
+            }
             Statement::Exit => self.exit = Some(line),
-            Statement::Other => {}
+            Statement::Fence => {}
         }
     }
 
-    fn mma(&mut self, line: usize, mma: &Mma) {
+    fn mma(&mut self, by: By, mma: &Mma) {
         for operand in 0..4 {
             if let Some((address, columns, _)) = self.cells(mma, operand) {
-                self.access(line, address, columns, Use::Mma);
+                self.access(by, address, columns, Use::Mma);
             }
         }
     }
 
-    fn access(&mut self, line: usize, address: &Address, columns: u32, kind: Use) {
+    fn access(&mut self, By { line, warp }: By, address: &Address, columns: u32, kind: Use) {
         if let Some(allocation) = self.live_at(&address.name) {
-            self.accesses.push(Access { line, allocation, column: address.column(), columns, kind });
+            self.accesses.push(Access { line, warp, allocation, column: address.column(), columns, kind });
         }
+    }
+
+    /// The line of a warp's last wait for its loads, or for its stores; 0 where there is none.
+    fn waited(&self, warp: u32, kind: Use) -> usize {
+        self.waits.iter().rev().find(|wait| (wait.by.warp, wait.kind) == (warp, kind)).map_or(0, |wait| wait.by.line)
+    }
+
+    /// The loads, or the stores, by a warp from or to the live allocation of a name, after its last wait for them.
+    pub fn outstanding(&self, name: &str, warp: u32, kind: Use) -> Vec<&Access> {
+        let (at, after) = (self.live_at(name), self.waited(warp, kind));
+        let is = |a: &&Access| Some(a.allocation) == at && (a.warp, a.kind) == (warp, kind) && a.line > after;
+        self.accesses.iter().filter(is).collect()
     }
 
     /// The N of an mma: the library reads it from the number under idesc; 0 where it does not.
@@ -245,6 +280,35 @@ mod tests {
         assert_eq!(history.allocation("t").map(|a| a.line), Some(9));
         assert_eq!(history.ended("t").map(|a| a.line), Some(2));
         assert_eq!(history.value("i").map(|v| (v.number, v.line)), Some((0x0810_0010, 4)));
+    }
+
+    /// A load is outstanding until its own warp's `wait::ld`, which ends all of them; an mma never is.
+    #[test]
+    fn what_is_outstanding() {
+        let sheet = b"sheet\t1\tsm_100a\n\
+            0\ttcgen05.alloc.cta_group::1.sync.aligned.b32 [t], 64;\n\
+            0\ttcgen05.alloc.cta_group::1.sync.aligned.b32 [u], 32;\n\
+            *\ttcgen05.ld.sync.aligned.32x32b.x1.b32 {a}, [t];\n\
+            0\ttcgen05.ld.sync.aligned.32x32b.x1.b32 {a}, [t+1];\n\
+            0\ttcgen05.ld.sync.aligned.32x32b.x1.b32 {a}, [u];\n\
+            1\ttcgen05.ld.sync.aligned.32x32b.x1.b32 {a}, [t+2097152];\n\
+            0\ttcgen05.st.sync.aligned.32x32b.x1.b32 [t], {a};\n\
+            0\ttcgen05.wait::ld.sync.aligned;\n\
+            0\ttcgen05.ld.sync.aligned.32x32b.x1.b32 {a}, [t];\n\
+            0\ttcgen05.dealloc.cta_group::1.sync.aligned.b32 t, 64;\n\
+            0\ttcgen05.alloc.cta_group::1.sync.aligned.b32 [t], 64;\n";
+        let lines = |last: usize, name: &str, warp: u32, kind: Use| {
+            let history = History::of(&Sheet::new(sheet), last);
+            history.outstanding(name, warp, kind).iter().map(|a| a.line).collect::<Vec<_>>()
+        };
+        assert_eq!((lines(8, "t", 0, Use::Load), lines(8, "u", 0, Use::Load)), (vec![4, 5], vec![6]));
+        assert_eq!((lines(9, "t", 0, Use::Load), lines(9, "u", 0, Use::Load)), (vec![], vec![]));
+        assert_eq!(
+            (lines(10, "t", 0, Use::Load), lines(10, "t", 1, Use::Load), lines(10, "t", 0, Use::Store)),
+            (vec![10], vec![7], vec![8])
+        );
+        // given back, and taken again
+        assert_eq!((lines(11, "t", 1, Use::Load), lines(12, "t", 1, Use::Load)), (vec![], vec![]));
     }
 
     #[test]

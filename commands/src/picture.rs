@@ -116,6 +116,8 @@ struct Plan<'a> {
     peak: Option<(usize, f64)>,
     /// The columns that the refused line asks for.
     asked: Option<Asked>,
+    /// The alloc of what the refused line gives back too early.
+    early: Option<usize>,
 }
 
 /// Columns of the memory, from one that may be past its end, and what is said of them.
@@ -140,14 +142,21 @@ impl<'a> Plan<'a> {
         let row = row_height(drawn);
         let history = e.history.as_ref();
         let lines = sheet.count();
-        let mut plan = Plan { answer, history, placed: None, lines, drawn, row, bottom: 0.0, stop: None, peak: None, asked: None };
+        let mut plan =
+            Plan { answer, history, placed: None, lines, drawn, row, bottom: 0.0, stop: None, peak: None, asked: None, early: None };
         plan.bottom = plan.top(drawn.max(1) + 1);
         plan.stop = answer.reason.map(|_| plan.bottom - if plan.is_without_exit(sheet) { 0.0 } else { row / 2.0 });
         let peak = history.and_then(|history| peak_line(history, answer.peak));
         plan.peak = peak.map(|line| (line, plan.top(line + 1).min(plan.bottom)));
         plan.placed = history.and_then(|history| plan.place(history));
         plan.asked = history.filter(|_| plan.placed.is_some()).and_then(|history| asked(sheet, history, &answer));
+        plan.early = history.and_then(|history| early(sheet, history, &answer));
         plan
+    }
+
+    /// A block that is at fault: it is held at exit, or given back too early.
+    fn is_at_fault(&self, a: &Allocation) -> bool {
+        a.end.is_none() && (self.answer.reason == Some(Reason::Exit) || self.early == Some(a.line))
     }
 
     /// The blocks of all allocations with their marks; none unless each has its start. Blocks of one name have one tint.
@@ -269,6 +278,14 @@ fn asked(sheet: &Sheet, history: &History, answer: &Answer) -> Option<Asked> {
     }
 }
 
+/// The line that took what a dealloc gives back while a load or store of it is outstanding.
+fn early(sheet: &Sheet, history: &History, answer: &Answer) -> Option<usize> {
+    match (answer.reason?, statement::read(sheet.statement(answer.line as usize))?) {
+        (Reason::Outstanding, Statement::Dealloc { name, .. }) => history.allocation(&name).map(|a| a.line),
+        _ => None,
+    }
+}
+
 fn asked_run(name: &str, columns: u32, free: &[(u32, u32)]) -> Asked {
     let columns = columns.min(COLUMNS);
     let longest = free.iter().copied().max_by_key(|&(start, length)| (length, COLUMNS - start.min(COLUMNS)));
@@ -349,14 +366,6 @@ fn marks(history: &History, bundle: usize) -> Vec<Mark> {
         }
     }
     merged
-}
-
-fn word(kind: Use) -> &'static str {
-    match kind {
-        Use::Load => "ld",
-        Use::Store => "st",
-        Use::Mma => "mma",
-    }
 }
 
 #[cfg(test)]

@@ -30,8 +30,11 @@ pub enum Statement {
         address: Address,
     },
     Mma(Mma),
-    /// A wait or a fence.
-    Other,
+    /// For the loads of its warp, or for its stores.
+    Wait {
+        store: bool,
+    },
+    Fence,
     Exit,
 }
 
@@ -163,7 +166,9 @@ fn tcgen05(head: &str, parts: &[&str], rest: &str) -> Option<Statement> {
             let a = address(a).map_or_else(|| Operand::Descriptor((*a).into()), Operand::Address);
             Some(Statement::Mma(Mma { opcode, d: address(d)?, a, b: (*b).into(), metadata, idesc: (*idesc).into() }))
         }
-        _ => Some(Statement::Other),
+        ("wait::ld" | "wait::st", []) => Some(Statement::Wait { store: first == "wait::st" }),
+        ("fence::before_thread_sync" | "fence::after_thread_sync", []) => Some(Statement::Fence),
+        _ => None,
     }
 }
 
@@ -215,7 +220,10 @@ mod tests {
             Mma { opcode: Opcode { kind: Kind::F16, ws: false, sp: false }, a: Operand::Descriptor("a".into()), metadata: None, ..mma };
         assert_eq!(read("tcgen05.mma.cta_group::1.kind::f16 [d], a, b, i, p;"), Some(Statement::Mma(dense)));
         assert_eq!(read("exit;"), Some(Statement::Exit));
-        assert_eq!(read("tcgen05.wait::ld.sync.aligned;"), Some(Statement::Other));
+        assert_eq!(read("tcgen05.wait::ld.sync.aligned;"), Some(Statement::Wait { store: false }));
+        assert_eq!(read("tcgen05.wait::st.sync.aligned ;"), Some(Statement::Wait { store: true }));
+        assert_eq!(read("tcgen05.fence::before_thread_sync;"), Some(Statement::Fence));
+        assert_eq!(read("tcgen05.fence::after_thread_sync;"), Some(Statement::Fence));
         assert_eq!(read("tcgen05.relinquish_alloc_permit.cta_group::1.sync.aligned;"), Some(Statement::Relinquish));
         assert_eq!(read("exit"), None);
     }

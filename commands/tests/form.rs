@@ -19,7 +19,8 @@ fn sheet(statement: &str) -> Vec<u8> {
 }
 
 const TAKEN: &str = "0\ttcgen05.alloc.cta_group::1.sync.aligned.b32 [t], 128;\n";
-const FREED: &str = "0\ttcgen05.dealloc.cta_group::1.sync.aligned.b32 t, 128;\n";
+const FREED: &str = "0\ttcgen05.wait::ld.sync.aligned;\n0\ttcgen05.wait::st.sync.aligned;\n\
+    0\ttcgen05.dealloc.cta_group::1.sync.aligned.b32 t, 128;\n";
 
 fn said(statement: &str) -> Explanation {
     let bytes = sheet(statement);
@@ -417,7 +418,8 @@ fn a_place_that_moves_is_not_further() {
 /// A kernel with a statement, and lines before it.
 fn kernel(before: &str, word: &str, statement: &str) -> Vec<u8> {
     let (alloc, dealloc) = ("0\ttcgen05.alloc.cta_group::1.sync.aligned.b32", "0\ttcgen05.dealloc.cta_group::1.sync.aligned.b32");
-    let given = if statement.contains("dealloc") { String::new() } else { format!("{dealloc} t, 64;\n") };
+    let wait = "0\ttcgen05.wait::ld.sync.aligned;\n";
+    let given = if statement.contains("dealloc") { String::new() } else { format!("{wait}{dealloc} t, 64;\n") };
     let value = "0x0000400800100000";
     format!(
         "sheet\t1\tsm_100a\n{alloc} [t], 64;\n0\tmov.b32 i, {word};\n0\tmov.b64 a, {value};\n0\tmov.b64 b, {value};\n{before}\

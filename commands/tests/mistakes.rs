@@ -1,4 +1,4 @@
-//! Sixteen single mistakes in three sheets that pass: each is refused, and its explanation has what is needed to mend it. Where an edit is
+//! Nineteen single mistakes in three sheets that pass: each is refused, and its explanation has what is needed to mend it. Where an edit is
 //! offered, the sheet with it passes.
 
 use commands::explain::{explain, Explanation};
@@ -25,6 +25,12 @@ fn line_of(sheet: &str, text: &str) -> u32 {
 fn with(sheet: &str, old: &str, new: &str) -> String {
     assert!(sheet.contains(old), "no {old}");
     sheet.replacen(old, new, 1)
+}
+
+/// The sheet with the last occurrence of a text replaced; it must be there.
+fn with_last(sheet: &str, old: &str, new: &str) -> String {
+    let (head, tail) = sheet.rsplit_once(old).unwrap_or_else(|| panic!("no {old}"));
+    format!("{head}{new}{tail}")
 }
 
 fn check(name: &str, bytes: &[u8], expected: &Expected) -> Explanation {
@@ -227,5 +233,65 @@ fn an_alloc_after_relinquish() {
         let bad = [before.concat(), relinquish, after.concat()].concat();
         let says = ["relinquish", &format!("{} |", alloc)[..], &format!("`{name}`")];
         check("relinquish", bad.as_bytes(), &Expected { reason: 10, line: alloc + 1, says: &says, mended: true });
+    }
+}
+
+/// A sheet, its last wait of a warp and a kind, and what is given back while that is missing.
+const WAITS: [(&str, u32, &str, &str, &str); 4] = [
+    (GEMM, 3, "ld", "acc1", "loads by warp 3 are"),
+    (ATTENTION, 2, "ld", "out", "loads by warp 2 are"),
+    (SPARSE, 3, "st", "meta", "a store by warp 3 is"),
+    (SPARSE, 0, "ld", "acc", "loads by warp 0 are"),
+];
+
+fn wait(warp: u32, kind: &str) -> String {
+    format!("{warp}\ttcgen05.wait::{kind}.sync.aligned;\n")
+}
+
+#[test]
+fn a_wait_dropped() {
+    for (sheet, warp, kind, name, what) in WAITS {
+        let bad = with_last(sheet, &wait(warp, kind), "");
+        let says = [&format!("`{name}` is given back while {what} outstanding")[..], &wait(warp, kind)];
+        let e = check(
+            "wait dropped",
+            bad.as_bytes(),
+            &Expected { reason: 18, line: line_of(&bad, &format!("b32 {name}, ")), says: &says, mended: true },
+        );
+        assert_eq!(e.helps[0].edit.as_ref().map(|edit| edit.text.clone()), Some(wait(warp, kind).into_bytes()));
+    }
+}
+
+#[test]
+fn a_wait_by_another_warp() {
+    for (sheet, warp, kind, name, what) in WAITS {
+        let other = (warp + 1) % 4;
+        let bad = with_last(sheet, &wait(warp, kind), &wait(other, kind));
+        let word = if kind == "st" { "stores" } else { "loads" };
+        let says = [
+            &format!("`{name}` is given back while {what} outstanding")[..],
+            &format!("this waits for the {word} of warp {other} alone"),
+            &format!("is meant, let it be by warp {warp}: "),
+        ];
+        let line = line_of(&bad, &format!("b32 {name}, "));
+        let e = check("wait by another warp", bad.as_bytes(), &Expected { reason: 18, line, says: &says, mended: true });
+        // the second edit takes the mistake back
+        assert_eq!(Sheet::new(bad.as_bytes()).edited(e.helps[1].edit.as_ref().unwrap()), sheet.as_bytes());
+    }
+}
+
+#[test]
+fn a_wait_of_the_other_kind() {
+    for (sheet, warp, kind, name, what) in WAITS {
+        let (other, word) = if kind == "st" { ("ld", "loads") } else { ("st", "stores") };
+        let bad = with_last(sheet, &wait(warp, kind), &wait(warp, other));
+        let says = [
+            &format!("`{name}` is given back while {what} outstanding")[..],
+            &format!("this waits for the {word} of warp {warp} alone"),
+            &format!("is meant, write `wait::{kind}`: "),
+        ];
+        let line = line_of(&bad, &format!("b32 {name}, "));
+        let e = check("wait of the other kind", bad.as_bytes(), &Expected { reason: 18, line, says: &says, mended: true });
+        assert_eq!(Sheet::new(bad.as_bytes()).edited(e.helps[1].edit.as_ref().unwrap()), sheet.as_bytes());
     }
 }

@@ -181,9 +181,10 @@ fn sheets() {
     assert_eq!(judge(&sheet(&given)), Err(Refused { reason: Reason::Columns, line: 3, column: 52, held: 64, peak: 64 }));
     // 040 is column 32, past the end of 32; 037 is the last; 010000000 is lane 32, which is warp 1's
     let one = |warp: u32, offset: &str| {
-        sheet(&[line(0, format!("{ALLOC} [t], 32")), line(warp, ld(offset)), line(0, format!("{DEALLOC} t, 32"))])
+        let wait = line(warp, "tcgen05.wait::ld.sync.aligned".into());
+        sheet(&[line(0, format!("{ALLOC} [t], 32")), line(warp, ld(offset)), wait, line(0, format!("{DEALLOC} t, 32"))])
     };
-    let passed = Ok(Passed { line: 5, peak: 32, starts: vec![0] });
+    let passed = Ok(Passed { line: 6, peak: 32, starts: vec![0] });
     assert_eq!(judge(&one(0, "037")), passed);
     assert_eq!(judge(&one(0, "040")), Err(Refused { reason: Reason::Cells, line: 3, column: 46, held: 32, peak: 32 }));
     assert_eq!(judge(&one(1, "010000000")), passed);

@@ -13,6 +13,7 @@ fn sheet(word: &str, statement: &str) -> Vec<u8> {
     format!(
         "sheet\t1\tsm_100a\n0\ttcgen05.alloc.cta_group::1.sync.aligned.b32 [t], 64;\n0\tmov.b32 i, {word};\n\
          0\tmov.b64 a, 0x0000400800100000;\n0\tmov.b64 b, 0x0000400800100000;\n0\t{statement}\n\
+         0\ttcgen05.wait::ld.sync.aligned;\n0\ttcgen05.wait::st.sync.aligned;\n\
          0\ttcgen05.dealloc.cta_group::1.sync.aligned.b32 t, 64;\n0\ttcgen05.relinquish_alloc_permit.cta_group::1.sync.aligned;\n0\texit;\n"
     )
     .into_bytes()

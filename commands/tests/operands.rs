@@ -380,12 +380,15 @@ fn exchanged_and_others() {
     assert_eq!((s.words().len(), s.fixes()), (1, vec![]));
 }
 
-/// A sheet with one load or store of 64 columns of `t`.
+/// A sheet with one load or store of 64 columns of `t`, and a wait for it by each warp, as a fix may change its warp.
 fn access(line: &str, reason: Reason) -> Said {
+    let kind = if line.contains(".st.") { "st" } else { "ld" };
+    let waits = [0, 1, 2, 3].map(|warp| format!("{warp}\ttcgen05.wait::{kind}.sync.aligned;"));
     said(
         sheet(&[
             "0\ttcgen05.alloc.cta_group::1.sync.aligned.b32 [t], 64;",
             line,
+            &waits.join("\n"),
             "0\ttcgen05.dealloc.cta_group::1.sync.aligned.b32 t, 64;",
         ]),
         reason,
@@ -461,7 +464,7 @@ fn columns_past_the_end() {
         s.words(),
         [
             "take fewer: from column 60 on `.16x64b.x2` fits, 4 columns with 2 registers",
-            "allocate more: 128 columns for `t`, in its alloc (line 2) and in its dealloc (line 4)"
+            "allocate more: 128 columns for `t`, in its alloc (line 2) and in its dealloc (line 8)"
         ]
     );
     let s = access(&load(0, "[t+64]"), Reason::Cells);

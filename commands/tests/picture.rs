@@ -1,6 +1,6 @@
 //! The picture of a sheet.
 
-use commands::explain::{explain, Explanation};
+use commands::explain::{answer_of, explain, Explanation};
 use commands::history::Use;
 use commands::picture::svg;
 use commands::sheet::Sheet;
@@ -50,6 +50,12 @@ impl Writer {
         }
     }
 
+    /// Each of the four warps waits for its loads, or for its stores.
+    fn wait(&mut self, store: bool) {
+        let kind = if store { "st" } else { "ld" };
+        (0..4).for_each(|warp| self.line(warp, &format!("tcgen05.wait::{kind}.sync.aligned;")));
+    }
+
     fn fence(&mut self) {
         self.line(0, "tcgen05.fence::before_thread_sync;");
         self.line(0, "tcgen05.fence::after_thread_sync;");
@@ -75,10 +81,10 @@ fn attention() -> Vec<u8> {
         for half in 0..2 {
             w.access(false, "scores", 64, 64 * half);
         }
-        w.line(0, "tcgen05.wait::ld.sync.aligned;");
+        w.wait(false);
         w.access(true, "row_max", 2, 0);
         w.access(true, "probs", 64, 0);
-        w.line(0, "tcgen05.wait::st.sync.aligned;");
+        w.wait(true);
         w.fence();
         for k in 0..4 {
             w.line(0, &format!("tcgen05.mma.cta_group::1.kind::f16 [out], [probs+{}], v, pv_desc, p;", 16 * k));
@@ -87,9 +93,12 @@ fn attention() -> Vec<u8> {
     w.dealloc("scores", 128);
     w.alloc("stage", 64);
     w.access(false, "row_max", 2, 0);
+    w.wait(false);
     w.dealloc("row_max", 32);
     w.access(false, "out", 64, 0);
     w.access(true, "stage", 32, 16);
+    w.wait(false);
+    w.wait(true);
     w.dealloc("stage", 64);
     w.line(0, "tcgen05.relinquish_alloc_permit.cta_group::1.sync.aligned;");
     w.dealloc("out", 128);
@@ -98,17 +107,17 @@ fn attention() -> Vec<u8> {
     w.0.into_bytes()
 }
 
-/// 4,000 lines that pass: moves, and now and then an allocation, a use of it or its end.
+/// Some 3,900 lines that pass: moves, and now and then an allocation, a use of it or its end.
 fn full() -> Vec<u8> {
     let mut w = Writer::new();
     let mut live: Vec<(String, u32)> = Vec::new();
     w.line(0, "mov.b32 i, 0x08080010;");
     w.line(0, "mov.b64 b, 0x0000400800100000;");
-    for step in 0..3_996_usize {
+    for step in 0..3_846_usize {
         let at = step / 31;
-        if step % 31 != 0 || step > 3_850 {
+        if step % 31 != 0 || step > 3_700 {
             match live.pop() {
-                Some((name, columns)) if step > 3_850 && step % 9 == 0 => w.dealloc(&name, columns),
+                Some((name, columns)) if step > 3_700 && step % 9 == 0 => w.dealloc(&name, columns),
                 Some(last) => {
                     live.push(last);
                     w.line(0, "mov.b32 a,1;");
@@ -130,8 +139,14 @@ fn full() -> Vec<u8> {
             k => {
                 let (name, _) = &live[at % live.len()];
                 match k % 3 {
-                    0 => w.line(0, &format!("tcgen05.ld.sync.aligned.16x256b.x1.b32{{a,b,c,d}},[{name}+{}];", k * 2)),
-                    1 => w.line(0, &format!("tcgen05.st.sync.aligned.16x64b.x2.b32[{name}+{}],{{a,b}};", k * 2)),
+                    0 => {
+                        w.line(0, &format!("tcgen05.ld.sync.aligned.16x256b.x1.b32{{a,b,c,d}},[{name}+{}];", k * 2));
+                        w.line(0, "tcgen05.wait::ld.sync.aligned;");
+                    }
+                    1 => {
+                        w.line(0, &format!("tcgen05.st.sync.aligned.16x64b.x2.b32[{name}+{}],{{a,b}};", k * 2));
+                        w.line(0, "tcgen05.wait::st.sync.aligned;");
+                    }
                     _ => w.line(0, &format!("tcgen05.mma.cta_group::1.kind::f16[{name}],b,b,i,p;")),
                 }
             }
@@ -187,6 +202,13 @@ fn crowded() -> Vec<u8> {
 /// The sheets of which pictures are looked at.
 fn sheets() -> [(&'static str, Vec<u8>); 5] {
     [("leak", LEAK.to_vec()), ("attention", attention()), ("full", full()), ("dense", dense()), ("churn", churn())]
+}
+
+/// Each goes as far as it is meant to.
+#[test]
+fn reasons_of_the_sheets() {
+    let found = sheets().map(|(name, sheet)| (name, answer_of(&sheet).reason.map_or(0, |reason| reason.number())));
+    assert_eq!(found, [("leak", 15), ("attention", 9), ("full", 0), ("dense", 15), ("churn", 15)]);
 }
 
 /// Accepted lines that leave 128 to 191 and 320 to 383 held.
@@ -327,6 +349,22 @@ fn the_leak() {
     // nothing from outside, and nothing that runs
     assert!(["href", "url(", "@import", "<script", " on"].iter().all(|word| !picture.contains(word)));
     assert_eq!(picture.matches("://").count(), 1, "the namespace");
+}
+
+/// What is given back while a load of it is outstanding has a red edge, and nothing else has.
+#[test]
+fn given_back_too_early() {
+    let mut w = Writer::new();
+    w.alloc("t0", 64);
+    w.alloc("t1", 32);
+    w.access(false, "t0", 1, 0);
+    w.dealloc("t0", 64);
+    w.line(0, "exit;");
+    let (picture, _) = drawn("x", w.0.as_bytes());
+    let all = elements(&picture);
+    let blocks = all.iter().filter(|e| e.is("rect", "block") && e.get("y") != "-6");
+    assert_eq!(blocks.map(|e| e.is("rect", "leak")).collect::<Vec<_>>(), [true, false]);
+    assert!(picture.contains("reason 18: `t0` is given back while loads by warps 0, 1, 2 and 3 are outstanding</text>"), "{picture}");
 }
 
 #[test]

@@ -1,12 +1,14 @@
-//! Over many sheets, good and damaged: an explanation always ends, never panics, says the library's answer in its first line, and lists
-//! allocations that add up to the columns held.
+//! Over many sheets, good and damaged: an explanation always ends, never panics, says the library's answer in its first line, lists
+//! allocations that add up to the columns held, and offers only edits with which the library answers something else. The waits that it offers for
+//! reason 18 are those that are missing, all of them and no other.
 
-use commands::explain::{explain, Explanation};
+use commands::explain::{answer_of, explain, Explanation};
 use commands::picture;
 use commands::render::{json, sarif, text};
 use commands::sheet::Sheet;
 use serde_json::Value;
-use std::collections::BTreeMap;
+use staplehorn::{Answer, Reason};
+use std::collections::{BTreeMap, BTreeSet};
 
 /// xorshift64*
 struct Random(u64);
@@ -145,6 +147,19 @@ fn holds(bytes: &[u8], e: &Explanation, shown: &str) -> u64 {
     wanted[0]
 }
 
+/// With each edit the library answers something else than before, also if the line that is refused has moved.
+fn edits_help(sheet: &Sheet, e: &Explanation) {
+    for edit in e.helps.iter().filter_map(|help| help.edit.as_ref()) {
+        let (old, new) = (e.answer, answer_of(&sheet.edited(edit)));
+        let place = |a: &Answer, moved: i64| (a.reason, i64::from(a.line) - moved, a.column);
+        assert!(
+            new.reason.is_none() || place(&new, sheet.moved(edit)) != place(&old, 0),
+            "{edit:?}\n{}",
+            String::from_utf8_lossy(sheet.bytes)
+        );
+    }
+}
+
 /// JSON, SARIF and the picture have the library's figures too, and the allocations that JSON lists add up to what is held.
 fn other_forms(sheet: &Sheet, e: &Explanation) {
     let a = e.answer;
@@ -184,18 +199,83 @@ fn every_explanation_agrees_with_the_report() {
         counts.2 += usize::from(e.helps.iter().any(|help| help.edit.is_some()));
         if i % 8 == 0 {
             other_forms(&sheet, &e);
+            edits_help(&sheet, &e);
         }
         if i % 500 == 0 {
             assert!(!text::render("k.sheet", &sheet, &e, true).is_empty());
         }
     }
     println!("reason: sheets, with what the lines did, with an edit\n{reasons:#?}");
-    for reason in [0, 2, 3, 4, 5, 6, 8, 9, 10, 11, 12, 13, 14, 15, 20, 21] {
+    for reason in [0, 2, 3, 4, 5, 6, 8, 9, 10, 11, 12, 13, 14, 15, 18, 20, 21] {
         let (sheets, known, _) = reasons.get(&reason).copied().unwrap_or_default();
         assert!(sheets >= 50, "reason {reason}: {sheets} sheets");
         // the allocations that the lines left add up to what is held, so that they are listed
         assert_eq!(sheets, known, "reason {reason}");
     }
+}
+
+/// What is outstanding: the warp, whether it is a store, and the name.
+type Marks = BTreeSet<(usize, bool, &'static str)>;
+
+/// A line of a sheet of two allocations, and what it does to the marks: a load or store sets one, a wait takes those of its warp and kind.
+fn use_or_wait(r: &mut Random, marks: &mut Marks) -> String {
+    let (warp, store, name) = (r.below(4), r.below(2) == 1, ["t", "u"][r.below(2)]);
+    let kind = if store { "st" } else { "ld" };
+    let field = if warp == 0 && r.below(4) == 0 { "*".into() } else { warp.to_string() };
+    let at = format!("[{name}+{}]", warp * 32 * 65_536 + r.below(32));
+    match r.below(8) {
+        0 => format!("{field}\ttcgen05.fence::before_thread_sync;\n"),
+        1..=4 => {
+            marks.retain(|&(w, s, _)| (w, s) != (warp, store));
+            format!("{field}\ttcgen05.wait::{kind}.sync.aligned;\n")
+        }
+        _ => {
+            marks.insert((warp, store, name));
+            let operands = if store { format!("{at}, {{r}}") } else { format!("{{r}}, {at}") };
+            format!("{field}\ttcgen05.{kind}.sync.aligned.32x32b.x1.b32 {operands};\n")
+        }
+    }
+}
+
+/// Loads, stores and waits at random before a dealloc: it is reason 18 exactly if a mark is left, the waits that are offered are one for each
+/// warp and kind of the marks, and without any one of them it is 18 again.
+#[test]
+fn the_waits_that_are_missing() {
+    let alloc = |name: &str| format!("0\ttcgen05.alloc.cta_group::1.sync.aligned.b32 [{name}], 32;\n");
+    let dealloc = |name: &str| format!("0\ttcgen05.dealloc.cta_group::1.sync.aligned.b32 {name}, 32;\n");
+    let mut r = Random(18);
+    let mut counts = BTreeMap::<usize, usize>::new();
+    for _ in 0..20_000 {
+        let mut marks = Marks::new();
+        let uses = (0..r.below(12)).map(|_| use_or_wait(&mut r, &mut marks)).collect::<String>();
+        let head = format!("sheet\t1\tsm_100a\n{}{}{uses}", alloc("t"), alloc("u"));
+        // its name is taken again: nothing is outstanding on the new one
+        let rest = format!("{}{}{}", dealloc("t"), alloc("t"), dealloc("t"));
+        let bytes = (head.clone() + &rest).into_bytes();
+        let e = explain(&bytes, bytes.len());
+        let pairs: BTreeSet<(usize, bool)> = marks.iter().filter(|mark| mark.2 == "t").map(|&(warp, store, _)| (warp, store)).collect();
+        let line = head.lines().count();
+        *counts.entry(pairs.len()).or_default() += 1;
+        if pairs.is_empty() {
+            assert_eq!((e.answer.reason, e.answer.line as usize), (Some(Reason::Exit), line + 3), "{head}");
+            continue;
+        }
+        let found = (e.answer.reason, e.answer.line as usize, e.answer.column, e.answer.held, e.answer.peak);
+        assert_eq!(found, (Some(Reason::Outstanding), line + 1, 3, 64, 64), "{head}");
+        let kind = |store: bool| if store { "st" } else { "ld" };
+        let waits: Vec<String> = pairs.iter().map(|&(w, store)| format!("{w}\ttcgen05.wait::{}.sync.aligned;\n", kind(store))).collect();
+        let edit = e.helps[0].edit.as_ref().expect("an edit");
+        assert_eq!(String::from_utf8_lossy(&edit.text), waits.concat(), "{head}");
+        let mended = answer_of(&Sheet::new(&bytes).edited(edit));
+        assert_eq!((mended.reason, mended.line as usize), (Some(Reason::Exit), line + waits.len() + 3), "{head}");
+        for i in 0..waits.len() {
+            let fewer = [&waits[..i], &waits[i + 1..]].concat().concat();
+            assert_eq!(answer_of((head.clone() + &fewer + &rest).as_bytes()).reason, Some(Reason::Outstanding), "{head}{fewer}");
+        }
+        edits_help(&Sheet::new(&bytes), &e);
+    }
+    println!("waits that are missing: sheets\n{counts:#?}");
+    assert!((0..4).all(|n| counts.get(&n).is_some_and(|&sheets| sheets >= 200)), "{counts:?}");
 }
 
 /// Sheets at their limits, and what is over them.
@@ -232,6 +312,7 @@ fn time() {
         (loads, "0\texit;\n"),
         (short, "0\texit;\n"),
         (loads, "0\ttcgen05.dealloc.cta_group::1.sync.aligned.b32 s, 256;\n"),
+        (loads, "0\ttcgen05.dealloc.cta_group::1.sync.aligned.b32 t, 256;\n"),
         (short, "0\tmov.b32 x 1;\n"),
     ] {
         let room = 65_536 - header.len() - alloc.len() - end.len();

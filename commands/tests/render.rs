@@ -368,7 +368,7 @@ fn a_log() {
     assert_eq!((log["version"].as_str(), run["tool"]["driver"]["name"].as_str()), (Some("2.1.0"), Some("foot")));
     // a rule for each reason of a sheet, and for no other
     let rules: Vec<_> = run["tool"]["driver"]["rules"].as_array().unwrap().iter().map(|r| r["id"].as_str().unwrap()).collect();
-    assert_eq!(rules, (1..=15).chain([20, 21]).map(|n| format!("SH{n:04}")).collect::<Vec<_>>());
+    assert_eq!(rules, (1..=15).chain([18, 20, 21]).map(|n| format!("SH{n:04}")).collect::<Vec<_>>());
     let uris: Vec<_> = run["artifacts"].as_array().unwrap().iter().map(|a| a["location"]["uri"].as_str().unwrap()).collect();
     assert_eq!(uris, ["my%20sheets/%C3%A9%3A1%25.sheet", "b", "stdin"]);
     let results = run["results"].as_array().unwrap();

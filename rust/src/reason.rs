@@ -38,6 +38,8 @@ pub enum Reason {
     Exit,
     /// 16
     Starts,
+    /// 18, asked directly after 15
+    Outstanding,
     /// 19
     Room,
     /// 20
@@ -51,7 +53,7 @@ pub enum Reason {
 }
 
 /// Each reason with its number and a sentence.
-const TABLE: [(Reason, u32, &str); 20] = [
+const TABLE: [(Reason, u32, &str); 21] = [
     (Reason::Size, 1, "the sheet has over 65,536 bytes or 4,096 lines"),
     (Reason::Layout, 2, "line 1 is not the header, or a line's layout is wrong"),
     (Reason::Form, 3, "the statement matches no form"),
@@ -68,6 +70,7 @@ const TABLE: [(Reason, u32, &str); 20] = [
     (Reason::Cells, 14, "the lane of an mma is not 0, or columns go past the end of the allocation"),
     (Reason::Exit, 15, "exit while columns are held, a line after exit, or no exit"),
     (Reason::Starts, 16, "the lent list has fewer places than there are allocs"),
+    (Reason::Outstanding, 18, "dealloc while a load or store of any warp is outstanding on its allocation"),
     (Reason::Room, 19, "the lent room is too short"),
     (Reason::ShapeN, 20, "the descriptor's N is not listed"),
     (Reason::Types, 21, "the descriptor's types are not listed"),

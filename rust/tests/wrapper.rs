@@ -10,9 +10,9 @@ const LEAK: &[u8] = include_bytes!("../../examples/leak.sheet");
 
 #[test]
 fn a_pass_has_its_starts() {
-    assert_eq!(judge(PASSED), Ok(Passed { line: 9, peak: 96, starts: vec![0, 64, 0] }));
+    assert_eq!(judge(PASSED), Ok(Passed { line: 10, peak: 96, starts: vec![0, 64, 0] }));
     let mut starts = [7; 5];
-    assert_eq!(judge_into(PASSED, &mut starts), Answer { reason: None, line: 9, column: 0, held: 0, peak: 96, starts: 3 });
+    assert_eq!(judge_into(PASSED, &mut starts), Answer { reason: None, line: 10, column: 0, held: 0, peak: 96, starts: 3 });
     assert_eq!(starts, [0, 64, 0, 7, 7]);
 }
 
@@ -31,7 +31,7 @@ fn a_refusal_writes_nothing() {
     assert_eq!(leak.to_string(), "line 6, column 1: exit while columns are held, a line after exit, or no exit");
     let exit = Answer { reason: Some(Reason::Exit), line: 6, column: 1, held: 32, peak: 96, starts: 0 };
     assert_eq!(judge_into(LEAK, &mut starts), exit);
-    let short = Answer { reason: Some(Reason::Starts), line: 9, column: 1, held: 0, peak: 96, starts: 0 };
+    let short = Answer { reason: Some(Reason::Starts), line: 10, column: 1, held: 0, peak: 96, starts: 0 };
     assert_eq!(judge_into(PASSED, &mut starts[..2]), short);
     let empty = Answer { reason: Some(Reason::Layout), line: 1, column: 1, held: 0, peak: 0, starts: 0 };
     assert_eq!(judge_into(b"", &mut []), empty);
@@ -39,6 +39,28 @@ fn a_refusal_writes_nothing() {
     assert_eq!(judge(&[b'x'; 65_537]), Err(large));
     assert_eq!(large.to_string(), "the sheet has over 65,536 bytes or 4,096 lines");
     assert_eq!(starts, [7; MOST_ALLOCS]);
+}
+
+/// Columns given back while a load or a store of any warp is outstanding; only a wait of that warp and kind ends it.
+#[test]
+fn given_back_too_early() {
+    let sheet = |lines: &str| {
+        let (alloc, dealloc) = ("tcgen05.alloc.cta_group::1.sync.aligned.b32 [t]", "tcgen05.dealloc.cta_group::1.sync.aligned.b32 t");
+        judge(format!("sheet\t1\tsm_100a\n0\t{alloc}, 32;\n{lines}0\t{dealloc}, 32;\n0\texit;\n").as_bytes())
+    };
+    let (load, store) =
+        ("tcgen05.ld.sync.aligned.32x32b.x1.b32 {r}, [t+2097152];", "tcgen05.st.sync.aligned.32x32b.x1.b32 [t+2097152], {r};");
+    let refused = |line: u32| Err(Refused { reason: Reason::Outstanding, line, column: 3, held: 32, peak: 32 });
+    let passed = |line: u32| Ok(Passed { line, peak: 32, starts: vec![0] });
+    for (statement, kind, other) in [(load, "ld", "st"), (store, "st", "ld")] {
+        let wait = |warp: u32, kind: &str| format!("1\t{statement}\n{warp}\ttcgen05.wait::{kind}.sync.aligned;\n");
+        assert_eq!(sheet(&format!("1\t{statement}\n")), refused(4));
+        assert_eq!(sheet(&wait(1, kind)), passed(6));
+        assert_eq!((sheet(&wait(0, kind)), sheet(&wait(1, other))), (refused(5), refused(5)));
+        assert_eq!(sheet(&format!("1\t{statement}\n{}", wait(1, kind))), passed(7));
+    }
+    let text = sheet(&format!("1\t{load}\n")).unwrap_err().to_string();
+    assert_eq!(text, "line 4, column 3: dealloc while a load or store of any warp is outstanding on its allocation");
 }
 
 #[test]
@@ -229,7 +251,7 @@ fn reasons_have_numbers_and_words() {
     for number in 1..40 {
         let reason = Reason::from_number(number).unwrap();
         assert_eq!(reason.number(), number);
-        let known = matches!(number, 1..=16 | 19..=22);
+        let known = matches!(number, 1..=16 | 18..=22);
         assert_eq!(matches!(reason, Reason::Other(_)), !known);
         assert_eq!(reason.to_string() == format!("reason {number}"), !known);
     }

@@ -2,16 +2,29 @@
 
 use super::names::{self, some_of, Sort};
 use super::numbers::cut;
+use super::outstanding::{missing, once, waits};
 use super::{counted, listed, shown, Context, Explanation};
 use crate::history::{Allocation, By, History};
-use crate::sheet::Edit;
+use crate::sheet::{Edit, Sheet};
 use crate::statement::{self, Statement, MEMORY};
-use staplehorn::Reason;
+use staplehorn::{Answer, Reason};
 
-/// The line that gives an allocation back, with its LF.
-pub fn dealloc(c: &Context, a: &Allocation) -> String {
+/// The lines that give some allocations back, each with its LF, and what is said of the waits that come first.
+fn returned(c: &Context, all: &[&Allocation]) -> (String, String) {
     let warp = c.history.booker.map_or(0, |by| by.warp);
-    format!("{warp}\ttcgen05.dealloc.cta_group::1.sync.aligned.b32 {}, {};\n", a.name, a.columns)
+    let names: Vec<&str> = all.iter().map(|a| a.name.as_str()).collect();
+    let missing = missing(c, &names);
+    let dealloc = |a: &&Allocation| format!("{warp}\ttcgen05.dealloc.cta_group::1.sync.aligned.b32 {}, {};\n", a.name, a.columns);
+    (waits(&missing) + &all.iter().map(dealloc).collect::<String>(), once(&missing))
+}
+
+/// What is said of a line's warp where it is not written as a number.
+pub fn star(c: &Context, line: usize) -> &'static str {
+    if c.sheet.line(line).first() == Some(&b'*') {
+        " (`*` is read as warp 0)"
+    } else {
+        ""
+    }
 }
 
 fn word(statement: &Option<Statement>) -> &'static str {
@@ -26,10 +39,9 @@ pub fn warp(c: &Context, e: &mut Explanation) {
     let Some(By { line, warp }) = c.history.booker else { return };
     let (found, verb) = (c.warp(), word(&c.statement));
     e.title(format!("this {verb} is by warp {found}, but all booking of columns is by warp {warp} since line {line}"));
-    let star = |line: usize| if c.sheet.line(line).first() == Some(&b'*') { " (`*` is read as warp 0)" } else { "" };
-    e.point(2, format!("warp {found}{}", star(c.line())));
+    e.point(2, format!("warp {found}{}", star(c, c.line())));
     let first = word(&statement::read(c.sheet.statement(line)));
-    e.related(line, (1, 2), format!("the first {first} fixes warp {warp}{}", star(line)));
+    e.related(line, (1, 2), format!("the first {first} fixes warp {warp}{}", star(c, line)));
     e.note("every alloc, dealloc and relinquish of a sheet is by the warp of the first alloc or relinquish");
     let edit = Edit { line: c.line(), from: 1, to: 2, text: warp.to_string().into() };
     e.fix(c.sheet, format!("let warp {warp} do the {verb}"), edit);
@@ -130,7 +142,8 @@ fn part(c: &Context, e: &mut Explanation, name: &str, columns: u32) {
     e.point(to, label);
     e.related(a.line, c.span(a.line, 1), format!("`{name}` takes {} here", counted(a.columns, "column")));
     e.note("an allocation is given back whole: its dealloc has the number of columns that its alloc took");
-    e.fix(c.sheet, format!("give all {} back", counted(a.columns, "column")), number(c, a.columns));
+    let once = once(&missing(c, &[name]));
+    e.fix(c.sheet, format!("give all {} back{once}", counted(a.columns, "column")), number(c, a.columns));
     let others: Vec<String> = c.history.live().filter(|a| a.columns == columns).map(|a| format!("`{}`", a.name)).collect();
     if !others.is_empty() {
         e.help(format!("or name the allocation that has {}: {}", counted(columns, "column"), some_of(others)));
@@ -283,9 +296,10 @@ fn room(c: &Context, e: &mut Explanation, blocking: &[Vec<&Allocation>]) {
         used.dedup();
         let all = some_of(used.iter().map(usize::to_string).collect());
         let lines = if used.len() == 1 { format!("line {all}, which uses {it}") } else { format!("lines {all}, which use {it}") };
+        let once = returned(c, set).1;
         match set[..] {
             [a] if used.is_empty() => unused(c, e, a, or),
-            _ if used.is_empty() => e.help(format!("{or}give {names} back before line {line}: no later line uses {it}")),
+            _ if used.is_empty() => e.help(format!("{or}give {names} back before line {line}{once}: no later line uses {it}")),
             _ => e.help(format!("{or}give {names} back before line {line}: {lines}, would have to come before line {line} too")),
         }
     }
@@ -294,12 +308,13 @@ fn room(c: &Context, e: &mut Explanation, blocking: &[Vec<&Allocation>]) {
 /// An allocation that would make room, and that no later line uses.
 fn unused(c: &Context, e: &mut Explanation, a: &Allocation, or: &str) {
     let (name, line) = (&a.name, c.line());
+    let (lines, once) = returned(c, &[a]);
     match back(c, name) {
         None => {
-            e.fix(c.sheet, format!("{or}give `{name}` back first: no later line uses it"), Edit::before(line, dealloc(c, a)));
+            e.fix(c.sheet, format!("{or}give `{name}` back first{once}: no later line uses it"), Edit::before(line, lines));
         }
         Some(end) => e.help(format!(
-            "{or}give `{name}` back first: move its dealloc, line {end}, up before line {line}; no line between them uses it"
+            "{or}give `{name}` back first{once}: move its dealloc, line {end}, up before line {line}; no line between them uses it"
         )),
     }
 }
@@ -337,7 +352,7 @@ fn smaller(e: &mut Explanation, longest: Option<(u32, u32)>) {
 pub fn exit(c: &Context, e: &mut Explanation) {
     match c.history.exit {
         Some(line) => after_exit(c, e, line),
-        None if is_without_exit(c) => no_exit(c, e),
+        None if is_without_exit(c.sheet, &c.answer) => no_exit(c, e),
         None => held(c, e),
     }
 }
@@ -374,7 +389,8 @@ fn held(c: &Context, e: &mut Explanation) {
     }
     let names: Vec<String> = never.iter().map(|a| format!("`{}`", a.name)).collect();
     if !names.is_empty() {
-        add(c, e, &format!("give {} back before exit", listed(&names, "and")), c.line(), &deallocs(c, &never));
+        let (lines, once) = returned(c, &never);
+        add(c, e, &format!("give {} back before exit{once}", listed(&names, "and")), c.line(), &lines);
     }
 }
 
@@ -388,15 +404,17 @@ fn too_late(c: &Context, e: &mut Explanation, late: &[&Allocation]) {
     }
 }
 
-/// The lines that give some allocations back.
-fn deallocs(c: &Context, all: &[&Allocation]) -> String {
-    all.iter().map(|a| dealloc(c, a)).collect()
-}
-
 /// Offers lines to add; in words where the library gets no further with them.
 pub fn add(c: &Context, e: &mut Explanation, text: &str, line: usize, lines: &str) {
     if !e.fix(c.sheet, text, Edit::before(line, lines)) {
-        let statements: Vec<String> = lines.lines().map(|line| format!("`{}`", line.get(2..).unwrap_or_default())).collect();
+        let mut statements: Vec<String> = Vec::new();
+        for line in lines.lines() {
+            let statement = format!("`{}`", line.get(2..).unwrap_or_default());
+            // a wait of several warps
+            if !statements.contains(&statement) {
+                statements.push(statement);
+            }
+        }
         e.help(format!("{text}: {}", listed(&statements, "and")));
     }
 }
@@ -439,15 +457,17 @@ fn no_exit(c: &Context, e: &mut Explanation) {
     } else {
         e.note("the last line of a sheet is `exit;`, by any warp");
     }
-    let text = if held > 0 { "give the columns back, and end with exit" } else { "end with exit" };
     let live: Vec<&Allocation> = c.history.live().collect();
-    add(c, e, text, c.sheet.count() + 1, &(deallocs(c, &live) + "0\texit;\n"));
+    let (lines, once) = returned(c, &live);
+    let text = if held > 0 { format!("give the columns back{once}, and end with exit") } else { "end with exit".into() };
+    add(c, e, &text, c.sheet.count() + 1, &(lines + "0\texit;\n"));
 }
 
 /// The last line is accepted, and no exit was seen: reason 15 is asked after it.
-pub fn is_without_exit(c: &Context) -> bool {
-    let is_exit = |line: usize| statement::opcode(c.sheet.statement(line)) == b"exit";
-    c.answer.reason == Some(Reason::Exit) && c.line() == c.sheet.count() && !(2..=c.line()).any(is_exit)
+pub fn is_without_exit(sheet: &Sheet, answer: &Answer) -> bool {
+    let line = answer.line as usize;
+    let is_exit = |line: usize| statement::opcode(sheet.statement(line)) == b"exit";
+    answer.reason == Some(Reason::Exit) && line == sheet.count() && !(2..=line).any(is_exit)
 }
 
 /// Sheets in short, and what is told of them, for tests.
@@ -457,7 +477,7 @@ pub mod short {
     use crate::sheet::Sheet;
     use staplehorn::Answer;
 
-    const OPCODES: [(&str, &str); 8] = [
+    const OPCODES: [(&str, &str); 10] = [
         ("alloc", "tcgen05.alloc.cta_group::1.sync.aligned.b32"),
         ("dealloc", "tcgen05.dealloc.cta_group::1.sync.aligned.b32"),
         ("relinquish;", "tcgen05.relinquish_alloc_permit.cta_group::1.sync.aligned;"),
@@ -466,6 +486,8 @@ pub mod short {
         ("mma", "tcgen05.mma.cta_group::1.kind::f16"),
         ("sparse", "tcgen05.mma.sp.cta_group::1.kind::f16"),
         ("wait;", "tcgen05.wait::ld.sync.aligned;"),
+        ("wait::st;", "tcgen05.wait::st.sync.aligned;"),
+        ("fence;", "tcgen05.fence::before_thread_sync;"),
     ];
 
     /// The sheet of some lines: a warp, a space, and a statement whose opcode may be one of the short ones.
@@ -757,6 +779,52 @@ mod tests {
             "help: give `u` back before exit: `tcgen05.dealloc.cta_group::1.sync.aligned.b32 u, 32;`\n",
         ];
         tells(&[late[0], "0 alloc [u], 32;", late[1], late[2]], &parts);
+    }
+
+    /// A dealloc that is offered comes after the waits that it needs: one for each warp and kind.
+    #[test]
+    fn what_is_outstanding_is_waited_for_first() {
+        let (dealloc, wait) = ("0\ttcgen05.dealloc.cta_group::1.sync.aligned.b32", |warp: u32, kind: &str| {
+            format!("{warp}\ttcgen05.wait::{kind}.sync.aligned;\n")
+        });
+        let exit = ["0 alloc [t], 64;", "0 alloc [u], 32;", "1 ld {r}, [u+2097152];", "0 dealloc t, 64;", EXIT];
+        tells(&exit, &["help: give `u` back before exit, once warp 1 has waited for its load\n"]);
+        assert_eq!(mended(&exit), wait(1, "ld") + &format!("{dealloc} u, 32;\n"));
+        let both =
+            ["0 alloc [t], 64;", "0 alloc [u], 32;", "2 st [t+4194304], {r};", "1 ld {r}, [u+2097152];", "1 ld {r}, [t+2097152];", EXIT];
+        tells(&both, &["help: give `t` and `u` back before exit, once warps 1 and 2 have waited for their loads and stores\n"]);
+        assert_eq!(mended(&both), wait(1, "ld") + &wait(2, "st") + &format!("{dealloc} t, 64;\n{dealloc} u, 32;\n"));
+        // exit is missing
+        let end = ["0 alloc [t], 64;", "* st [t], {r};", "0 st [t+1], {r};"];
+        tells(&end, &["help: give the columns back, once warp 0 has waited for its stores, and end with exit\n"]);
+        assert_eq!(mended(&end), wait(0, "st") + &format!("{dealloc} t, 64;\n0\texit;\n"));
+        // another number of columns is given back
+        let part = ["0 alloc [t], 64;", "1 ld {r}, [t+2097152];", "0 dealloc t, 32;"];
+        tells(&part, &["help: give all 64 columns back, once warp 1 has waited for its load\n"]);
+        // there is no room
+        let full = ["0 alloc [t], 512;", "3 ld {r}, [t+6291456];", "0 alloc [u], 32;", "0 dealloc u, 32;", EXIT];
+        tells(&full, &["help: give `t` back first, once warp 3 has waited for its load: no later line uses it\n"]);
+        assert_eq!(mended(&full), wait(3, "ld") + &format!("{dealloc} t, 512;\n"));
+        let late = [&full[..4], &["3 wait;", "0 dealloc t, 512;", EXIT]].concat();
+        tells(
+            &late,
+            &["help: give `t` back first, once warp 3 has waited for its load: move its dealloc, line 7, up before line 4; no line"],
+        );
+        let halves = ["0 alloc [a], 256;", "0 alloc [b], 256;", "0 ld {r}, [a];", "0 alloc [e], 512;"];
+        tells(&halves, &["help: give `a` and `b` back before line 5, once warp 0 has waited for its load: no later line uses them\n"]);
+        // no room for the lines: each statement once
+        let mut lines = vec!["0 alloc [t], 64;", "0 ld {r}, [t];", "1 ld {r}, [t+2097152];"];
+        lines.resize(4_094, "0 mov.b32 x,1;");
+        lines.push(EXIT);
+        let e = told(&lines).0;
+        assert_eq!(
+            (e.helps[0].text.as_str(), &e.helps[0].edit),
+            (
+                "give `t` back before exit, once warps 0 and 1 have waited for their loads: `tcgen05.wait::ld.sync.aligned;` and \
+                `tcgen05.dealloc.cta_group::1.sync.aligned.b32 t, 64;`",
+                &None
+            )
+        );
     }
 
     #[test]

@@ -9,6 +9,7 @@ mod form;
 mod layout;
 mod names;
 mod numbers;
+mod outstanding;
 
 use crate::history::History;
 use crate::sheet::{Edit, Sheet};
@@ -208,22 +209,28 @@ impl Explanation {
     }
 }
 
-/// The order in which the reasons of a line are asked.
-const ASKED: [u32; 17] = [1, 2, 3, 4, 5, 6, 7, 8, 9, 10, 11, 12, 13, 20, 21, 14, 15];
+/// The order in which the reasons of a line are asked; that exit is missing is asked after all of them.
+const ASKED: [u32; 18] = [1, 2, 3, 4, 5, 6, 7, 8, 9, 10, 11, 12, 13, 20, 21, 14, 15, 18];
 
 /// The library passes a sheet after an edit, or refuses it later than it did: at a later line, for a reason that is asked later, or further
 /// right.
 fn gets_further(sheet: &Sheet, old: &Answer, edit: &Edit) -> bool {
-    let new = answer_of(&sheet.edited(edit));
-    let place = |answer: &Answer, moved: i64, shifted: i64| {
-        let rank = answer.reason.map(|r| ASKED.iter().position(|&n| n == r.number()).unwrap_or(ASKED.len()));
-        (i64::from(answer.line) - moved, rank, i64::from(answer.column) - shifted)
+    let edited = sheet.edited(edit);
+    let new = answer_of(&edited);
+    let place = |sheet: &Sheet, answer: &Answer, moved: i64, shifted: i64| {
+        (i64::from(answer.line) - moved, rank(sheet, answer), i64::from(answer.column) - shifted)
     };
     match new.reason {
         None => true,
         Some(Reason::Size) => false,
-        Some(_) => place(&new, sheet.moved(edit), shifted(old, edit)) > place(old, 0, 0),
+        Some(_) => place(&Sheet::new(&edited), &new, sheet.moved(edit), shifted(old, edit)) > place(sheet, old, 0, 0),
     }
+}
+
+/// When a refusal was asked in its line.
+fn rank(sheet: &Sheet, answer: &Answer) -> usize {
+    let asked = ASKED.iter().position(|&n| answer.reason.is_some_and(|reason| reason.number() == n));
+    asked.filter(|_| !booking::is_without_exit(sheet, answer)).unwrap_or(ASKED.len())
 }
 
 /// By how many columns an edit moves what was refused to the right: one that stands before it in its line.
@@ -262,7 +269,7 @@ fn told(sheet: &Sheet, answer: Answer, size: usize) -> Explanation {
     }
     e.point(token_end(c.bytes(), c.column()), "");
     c.statement = statement::read(sheet.statement(c.line()));
-    let accepted = if booking::is_without_exit(&c) { c.line() } else { c.line().saturating_sub(1) };
+    let accepted = if booking::is_without_exit(sheet, &answer) { c.line() } else { c.line().saturating_sub(1) };
     c.history = History::of(sheet, accepted);
     if c.history.held() != answer.held {
         // says no more than what is proved
@@ -293,6 +300,7 @@ fn say(reason: Reason, c: &Context, e: &mut Explanation) {
         Reason::Descriptor | Reason::ShapeM | Reason::ShapeN | Reason::Types => descriptors::explain(c, e),
         Reason::Cells => cells::explain(c, e),
         Reason::Exit => booking::exit(c, e),
+        Reason::Outstanding => outstanding::explain(c, e),
         _ => {}
     }
 }

@@ -1,6 +1,7 @@
 //! Reasons 6 and 7: a name that is not bound, is something else, or is taken; and a 129th value name.
 
 use super::booking::{add, any_legal, back, given, uses_of};
+use super::outstanding::{missing as waits, once};
 use super::{counted, listed, nearest, Context, Explanation};
 use crate::history::Allocation;
 use crate::sheet::Edit;
@@ -54,7 +55,7 @@ pub fn roles(statement: &Statement) -> Vec<Option<Role<'_>>> {
             all.extend([role("idesc of the mma", &mma.idesc, Value(32)), None]);
             all
         }
-        Statement::Relinquish | Statement::Other | Statement::Exit => Vec::new(),
+        Statement::Relinquish | Statement::Wait { .. } | Statement::Fence | Statement::Exit => Vec::new(),
     }
 }
 
@@ -254,7 +255,9 @@ fn given_back(c: &Context, e: &mut Explanation, role: &Role, (taken, line): (usi
         None => {
             let own = |line: &usize| next.is_none_or(|next| *line < next);
             let last = uses_of(c, name).into_iter().take_while(own).last().unwrap_or(c.line());
-            e.help(format!("move the dealloc of line {line} down, after line {last}, the last that uses `{name}`"));
+            let is_access = matches!(statement::read(c.sheet.statement(last)), Some(Statement::Access { .. }));
+            let wait = if is_access { ", and after the wait for it" } else { "" };
+            e.help(format!("move the dealloc of line {line} down, after line {last}, the last that uses `{name}`{wait}"));
             if let Some(next) = next {
                 e.help(format!("or, if the `{name}` of line {next} is meant, move line {next} up, before line {}", c.line()));
             }
@@ -549,8 +552,8 @@ fn taken(c: &Context, e: &mut Explanation, role: &Role) {
     ));
     let needed = if alloc { returns.len() > 1 } else { c.later().any(|(_, s)| uses(s, name, Sort::Allocation)) };
     if let Some(a) = c.history.allocation(name).filter(|_| !needed) {
-        let columns = counted(a.columns, "column");
-        e.help(format!("or, if no later line means the {columns} of line {}, give `{name}` back before this line", a.line));
+        let (columns, once) = (counted(a.columns, "column"), once(&waits(c, &[name])));
+        e.help(format!("or, if no later line means the {columns} of line {}, give `{name}` back before this line{once}", a.line));
     }
 }
 
@@ -682,13 +685,13 @@ mod tests {
 
     #[test]
     fn a_misspelt_name() {
-        let lines = ["0 alloc [accu], 64;", "0 ld {r}, [ acu +1];", "0 dealloc accu, 64;", EXIT];
+        let lines = ["0 alloc [accu], 64;", "0 ld {r}, [ acu +1];", "0 wait;", "0 dealloc accu, 64;", EXIT];
         let (e, _) = told(&lines);
         assert_eq!(e.title, "the address of the ld is `acu`, which is not bound; it must be a live allocation");
         assert_eq!(label(&e), "no line up to here binds it");
         assert_eq!(e.helps[0].text, "use `accu`, the nearest name that would do (64 columns, taken at line 2)");
         assert_eq!(mended(&lines), "accu");
-        assert_eq!(mended(&["0 alloc [accu], 64;", "0 st [Accu], {r};", "0 dealloc accu, 64;", EXIT]), "accu");
+        assert_eq!(mended(&["0 alloc [accu], 64;", "0 st [Accu], {r};", "0 wait::st;", "0 dealloc accu, 64;", EXIT]), "accu");
         assert_eq!(mended(&["0 mov.b32 idesc, 0x08100010;", "0 mov.b32 desc, 1;", A, D, "0 mma [d], a, a, idsc, p;", BACK, EXIT]), "idesc");
         // only names of the right sort and width
         let told = text(&["0 mov.b64 idesc, 1;", "0 mov.b32 desc_i, 1;", A, D, "0 mma [d], a, a, idsc, p;"]);
@@ -727,12 +730,15 @@ mod tests {
             "4:47-48 given back at line 3\n",
             "2:47-50 `d` is taken here\n",
             "3:49-50 and given back here: from here on `d` names nothing\n",
-            "help: move the dealloc of line 3 down, after line 4, the last that uses `d`\n",
+            "help: move the dealloc of line 3 down, after line 4, the last that uses `d`, and after the wait for it\n",
         ] {
             assert!(told.contains(part), "{told}");
         }
         let told = text(&[D, BACK, "0 ld {r}, [d];", D, BACK, EXIT]);
         assert!(told.contains("help: or, if the `d` of line 5 is meant, move line 5 up, before line 4\n"), "{told}");
+        // an mma is not waited for
+        let told = text(&[I, A, D, BACK, "0 mma [d], a, a, i, p;", EXIT]);
+        assert!(told.ends_with("help: move the dealloc of line 5 down, after line 6, the last that uses `d`\n"), "{told}");
     }
 
     /// A name that was an allocation, where a value is wanted: to give it back later would not help.
@@ -810,16 +816,19 @@ mod tests {
             help: or, if no later line means the 64 columns of line 2, give `d` back before this line\n";
         assert!(told.ends_with(end), "{told}");
         // a line that was pasted: the same request, given back once
-        let pasted = [D, D, "0 ld {r}, [d];", BACK, D, BACK, EXIT];
+        let pasted = [D, D, "0 ld {r}, [d];", "0 wait;", BACK, D, BACK, EXIT];
         assert_eq!(
             (mended(&pasted), told_help(&pasted)),
-            (String::new(), "take this line out: line 2 asks for the same, and it is given back once, at line 5".into())
+            (String::new(), "take this line out: line 2 asks for the same, and it is given back once, at line 6".into())
         );
         assert!(text(&pasted).contains("help: or, if a second one is meant, use another name here, and in the lines that mean this one\n"));
         let twice = text(&[D, D, BACK, BACK, EXIT]);
         assert!(twice.ends_with("help: use another name here, and in the lines that mean this one\n"), "{twice}");
         // the name that the lines after it mean
-        let other = [D, "0 alloc [d], 32;", "0 ld {r}, [e];", BACK, "0 dealloc e, 32;", EXIT];
+        // what is outstanding is waited for first
+        let told = text(&[D, "1 st [d+2097152], {r};", "0 alloc [d], 32;", "0 dealloc d, 32;", EXIT]);
+        assert!(told.ends_with("line 2, give `d` back before this line, once warp 1 has waited for its store\n"), "{told}");
+        let other = [D, "0 alloc [d], 32;", "0 ld {r}, [e];", "0 wait;", BACK, "0 dealloc e, 32;", EXIT];
         assert_eq!((mended(&other), told_help(&other)), ("e".into(), "use `e`: line 4 needs it, and nothing binds it".into()));
         let told = text(&["0 mov.b64 i, 1;", I, "0 alloc [i], 32;", EXIT]);
         assert!(told.starts_with("6: the alloc takes the name `i`, which a value has, moved at line 3\n"), "{told}");
@@ -931,7 +940,7 @@ mod tests {
         );
         helped(
             &put(&without(GEMM, "b32 acc1, 128"), 30, line),
-            "help: move the dealloc of line 30 down, after line 107, the last that uses `acc1`\n",
+            "help: move the dealloc of line 30 down, after line 107, the last that uses `acc1`, and after the wait for it\n",
         );
         // of another size
         let told = text(&[D, BACK, "0 ld {r}, [d];", "0 dealloc d, 32;", EXIT]);

@@ -285,7 +285,7 @@ mod tests {
         let list = |n: usize| vec!["r"; n].join(", ");
         let ld = |n: usize| format!("0 tcgen05.ld.sync.aligned.16x256b.x64.b32 {{{}}}, [t];", list(n));
         for (registers, helps, offered) in [(64, 2, 1), (4, 2, 1), (63, 1, 0), (12, 1, 0)] {
-            let (e, answers) = told(&["0 alloc [t], 512;", &ld(registers), "0 dealloc t, 512;", "0 exit;"]);
+            let (e, answers) = told(&["0 alloc [t], 512;", &ld(registers), "0 wait;", "0 dealloc t, 512;", "0 exit;"]);
             assert_eq!((e.helps.len(), answers.len()), (helps, offered), "{registers}");
             assert!(e.helps[0].text.starts_with("write 2 statements with `.x32`"));
             assert!(answers.iter().all(|answer| answer.reason.is_none()));

@@ -55,11 +55,10 @@ impl Page {
     pub fn blocks(&mut self, plan: &Plan) {
         for p in plan.placed.iter().flatten() {
             let (a, b) = (p.allocation, &p.block);
-            let leaks = a.end.is_none() && plan.answer.reason == Some(Reason::Exit);
             self.put(format_args!(
                 "<rect class=\"block b{}{}\" x=\"{}\" y=\"{}\" width=\"{}\" height=\"{}\" rx=\"{}\">{}</rect>",
                 p.tint,
-                if leaks { " leak" } else { "" },
+                if plan.is_at_fault(a) { " leak" } else { "" },
                 n(b.x),
                 n(b.y),
                 n(b.width),
@@ -81,7 +80,7 @@ impl Page {
                 let title = titled(&said(mark, p.allocation, sheet));
                 // what is narrow is higher, so that it can be seen
                 let narrow = if !many && width < NARROW { " narrow" } else { "" };
-                let (class, x, width) = (word(mark.kind), n(x), n(width));
+                let (class, x, width) = (mark.kind.word(), n(x), n(width));
                 match mark.kind {
                     Use::Mma => self.put(format_args!(
                         "<rect class=\"{class}\" x=\"{x}\" y=\"{}\" width=\"{width}\" height=\"{}\">{title}</rect>",

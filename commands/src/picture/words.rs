@@ -32,9 +32,9 @@ pub fn said(mark: &Mark, a: &Allocation, sheet: &Sheet) -> String {
     let (first, last) = mark.lines;
     let columns = format!("{} of {}", columns_of(mark.from, mark.to), a.name);
     if first == last {
-        format!("line {}, warp {}: {}, {columns}", grouped(first as u64), sheet.warp(first), word(mark.kind))
+        format!("line {}, warp {}: {}, {columns}", grouped(first as u64), sheet.warp(first), mark.kind.word())
     } else {
-        format!("lines {} to {}: {} {}, {columns}", grouped(first as u64), grouped(last as u64), mark.count, word(mark.kind))
+        format!("lines {} to {}: {} {}, {columns}", grouped(first as u64), grouped(last as u64), mark.count, mark.kind.word())
     }
 }
 
