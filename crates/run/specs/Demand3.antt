@@ -104,10 +104,10 @@ module _ (sheet : Sheet) (starts : List ℕ) where
     pub inside : (k : ℕ) → Reached k → (at (suc k) .phase ≡ stoppedAt (k + 2) → ⊥) → Fallen k
     -- the columns held, counted one by one, are those asked for less those given back
     pub counted : (k : ℕ) → heldColumns (at k .live) + at k .returned ≡ at k .asked
-    -- at each dealloc that is reached nothing is outstanding on that holding, no load and no store of any warp (what is noted: `NotesExact`)
-    pub waited : (k : ℕ) → Reached k → (n : Name) → Releases (actAt k) n → (w : ℕ) (x : Transfer) → at k .pending n w x ≡ false
     -- at the exit that is nothing
     pub nothing : Outcome exited → heldColumns (at (sheet .count) .live) ≡ 0
+    -- at each dealloc that is reached nothing is outstanding on that holding, no load and no store of any warp (what is noted: `NotesExact`)
+    pub waited : (k : ℕ) → Reached k → (n : Name) → Releases (actAt k) n → (w : ℕ) (x : Transfer) → at k .pending n w x ≡ false
 
   -- ---- demand 3, for the list that we answer
   pub record Placed : Type 0 where
