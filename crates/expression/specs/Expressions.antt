@@ -1,0 +1,105 @@
+-- Constant expressions as they are read: chains of chains of factors, each factor with so many levels left. Assumes nothing.
+use Rattle.tokens.specs.Text.{byte}
+use Prim.Native.Nat.{ℕ, zero, suc, _-_, _^_}
+use mathlib.Core.List.{List, [], _∷_}
+use mathlib.Core.Bool.{Bool, true, false, not, _&&_, _||_, cond}
+use lib.ListN.{length}
+use lib.Dec.{leb, eqb}
+use Rattle.tokens.specs.Bytes.{afterBlanks}
+use Rattle.tokens.specs.Cursors.{Rest, Took, seen, markC, numberC}
+use Rattle.expression.specs.declared.Amount.{Amount}
+use Rattle.expression.specs.declared.AmountRead.{AmountRead}
+use Rattle.expression.specs.declared.Operator.{Operator}
+use Rattle.expression.specs.declared.Operator.the-variants as o
+use Rattle.expression.specs.declared.OperatorRead.{OperatorRead}
+use Rattle.expression.specs.Amounts.{negated, apply}
+
+-- ---- what stands in an expression
+-- no number was too large yet
+abbrev pub fresh : Rest → Rest
+fresh r = record { rest = r .rest; ok = r .ok; over = false; far = r .far }
+
+-- where the second stands, with what the first has of numbers too large
+abbrev pub keeping : Rest → Rest → Rest
+keeping r d = record { rest = d .rest; ok = d .ok; over = r .over; far = r .far }
+
+-- past a number, which blanks may precede; one over 2^63 - 1 is out of range
+unfoldable pub plainC : Rest → Took Amount
+plainC r =
+    let n = numberC (2 ^ 63 - 1) (fresh r) in
+    record { value = record { over = n .next .over; minus = false; size = n .value }; next = keeping r (n .next) }
+
+-- past a + or a -
+unfoldable pub sumC : Rest → Took Operator
+sumC r =
+    let p = markC (byte "+") r in
+    cond (p .ok) (record { value = o.Plus; next = p }) (record { value = o.Minus; next = markC (byte "-") r })
+
+-- past a *
+unfoldable pub productC : Rest → Took Operator
+productC r = record { value = o.Times; next = markC (byte "*") r }
+
+-- ---- chains and factors
+-- after t, up to n more, each behind an operator, taken in from left to right
+unfoldable pub moreC : (Rest → Took Operator) → (Rest → Took Amount) → ℕ → Took Amount → Took Amount
+moreC op f zero t = t
+moreC op f (suc n) t =
+    let d = op (t .next) in
+    cond (d .next .ok) (moreC op f n (record { value = apply (d .value) (t .value) (f (d .next) .value); next = f (d .next) .next })) t
+
+-- as many as there are: each takes a byte at least
+unfoldable pub chainC : (Rest → Took Operator) → (Rest → Took Amount) → Rest → Took Amount
+chainC op f r = moreC op f (length (f r .next .rest)) (f r)
+
+abbrev pub termBy : (Rest → Took Amount) → Rest → Took Amount
+termBy f = chainC productC f
+
+abbrev pub exprBy : (Rest → Took Amount) → Rest → Took Amount
+exprBy f = chainC sumC (termBy f)
+
+-- an expression in parentheses, a minus and a factor, or a number; with no level left a number alone
+unfoldable pub factorC : ℕ → Rest → Took Amount
+factorC zero r = plainC r
+factorC (suc d) r =
+    let p = markC (byte "(") r in
+    let m = markC (byte "-") r in
+    let e = exprBy (factorC d) p in
+    let f = factorC d m in
+    cond (p .ok) (record { value = e .value; next = markC (byte ")") (e .next) })
+    (cond (m .ok) (record { value = negated (f .value); next = f .next }) (plainC r))
+
+-- ---- where a number stands
+-- the value fits: it is in range, not below 0 and at most the limit
+abbrev pub fitsIn : ℕ → Amount → Bool
+fitsIn limit a = not (a .over) && (not (a .minus) && leb (a .size) limit)
+
+-- the amount as a number up to a limit; 0 stands for one that does not fit, which started at l
+abbrev pub settled : ℕ → Rest → List ℕ → Took Amount → Took ℕ
+settled limit r l t =
+    cond (t .next .ok)
+    (cond (fitsIn limit (t .value)) (record { value = t .value .size; next = t .next }) (record { value = 0; next = record { rest = t .next .rest; ok = true; over = true; far = cond (r .over) (r .far) l } }))
+    (record { value = 0; next = t .next })
+
+unfoldable pub expressionC : ℕ → Rest → Took ℕ
+expressionC limit r = settled limit r (afterBlanks (r .rest)) (exprBy (factorC 16) r)
+
+-- an operator comes next
+abbrev pub operatorFirst : List ℕ → Bool
+operatorFirst [] = false
+operatorFirst (x ∷ l) = eqb x (byte "+") || eqb x (byte "-") || eqb x (byte "*")
+
+unfoldable pub goesOn : List ℕ → Bool
+goesOn l = operatorFirst (afterBlanks l)
+
+-- a number alone, up to the limit, however large that is; or an expression
+unfoldable pub quantityC : ℕ → Rest → Took ℕ
+quantityC limit r =
+    let n = numberC limit r in
+    cond (n .next .ok && not (goesOn (n .next .rest))) n (expressionC limit r)
+
+-- ---- views of what the functions return
+abbrev pub amountSeen : List ℕ → AmountRead → Took Amount
+amountSeen s r = record { value = r .value; next = seen s (r .next) }
+
+abbrev pub operatorSeen : List ℕ → OperatorRead → Took Operator
+operatorSeen s r = record { value = r .value; next = seen s (r .next) }

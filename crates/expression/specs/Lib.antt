@@ -1,0 +1,4 @@
+pub mod Amounts
+pub mod Claims
+pub mod Expressions
+pub mod Integers
