@@ -1,4 +1,8 @@
 pub mod Lexing
+pub mod Along
+pub mod Expressions
+pub mod Quantities
+pub mod QuantityRow
 pub mod Slots
 pub mod Rows
 pub mod Exact
@@ -6,10 +10,11 @@ pub mod Back
 pub mod Trip
 pub mod Readers
 pub mod Stops
-pub mod Overs
 pub mod PlanTokens
 pub mod Places
+pub mod Overs
 pub mod OnePlace
 pub mod Operands
 pub mod Theorems
 pub mod Examples
+pub mod WorkedExpressions

@@ -7,7 +7,6 @@ use mathlib.Core.Bool.{Bool, true, false, cond}
 use lib.ListN.{length, getD, take, drop, length-append, length-drop, take-append-drop}
 use lib.Seq.{take-at}
 use Rattle.tokens.specs.Bytes.{letter, wordByte, runLen, tokenLen, tokenOf, afterToken}
-use Rattle.statement.specs.declared.Statement.{Statement}
 use Rattle.statement.specs.Reading.{opcodeLen}
 use Rattle.grammar.specs.Spells.{Spells}
 use Rattle.grammar.specs.Claims.{After, here, past, Stops, One}
@@ -56,7 +55,7 @@ cut-front q text front e h =
     let z : take q (front ++ drop q text) ≡ front = take-at front (drop q text) q n in
     ap (take q) e ∙ z
 
-module _ (fits : Statement → Bool) (text : List ℕ) (p q : ℕ) (a : Stops fits text p) (b : Stops fits text q) where
+module _ (text : List ℕ) (p q : ℕ) (a : Stops text p) (b : Stops text q) where
   -- no later place stops too
   not-later : (x : ℕ) (l : List ℕ) → drop p text ≡ x ∷ l → After (afterToken (x ∷ l)) (drop q text) → ⊥
   not-later x l e k =
@@ -67,7 +66,7 @@ module _ (fits : Statement → Bool) (text : List ℕ) (p q : ℕ) (a : Stops fi
       sym (take-append-drop p text) ∙ (ap (λ (w : List ℕ). take p text ++ w) (e ∙ (token-parts (x ∷ l) ∙ ap (λ (w : List ℕ). tokenOf (x ∷ l) ++ w) (m .1))) ∙ simp append-assoc) in
       let front : take q text ≡ take p text ++ (tokenOf (x ∷ l) ++ m .0) = cut-front q text (take p text ++ (tokenOf (x ∷ l) ++ m .0)) whole (b .inside) in
       let s : Spells (b .goes .0) (take p text ++ t) = rw (front, append-assoc, append-assoc) at (b .goes .1) in
-      a .stuck t same (b .goes .0) s (b .goes .2)
+      a .stuck t same (b .goes .0) s
 
   same-place : drop p text ≡ drop q text → p ≡ q
   same-place e = omega (arith, ap length e, length-drop p text, length-drop q text, a .inside, b .inside)
@@ -77,12 +76,12 @@ module _ (fits : Statement → Bool) (text : List ℕ) (p q : ℕ) (a : Stops fi
   ordered [] l e f (past k) = same-place (e ∙ sym (f ∙ nil-after l k))
   ordered (x ∷ m) l e f (past k) = absurd (not-later x m e (rw f k))
 
-one-place : (fits : Statement → Bool) (text : List ℕ) (p q : ℕ) → Stops fits text p → Stops fits text q → p ≡ q
-one-place fits text p q a b = go (compare (drop (opcodeLen text) text) (drop p text) (drop q text) (a .reached) (b .reached))
+one-place : (text : List ℕ) (p q : ℕ) → Stops text p → Stops text q → p ≡ q
+one-place text p q a b = go (compare (drop (opcodeLen text) text) (drop p text) (drop q text) (a .reached) (b .reached))
   where
     go : (After (drop p text) (drop q text)) ⊎ (After (drop q text) (drop p text)) → p ≡ q
-    go (inl k) = ordered fits text p q a b (drop p text) (drop q text) refl refl k
-    go (inr k) = sym (ordered fits text q p b a (drop q text) (drop p text) refl refl k)
+    go (inl k) = ordered text p q a b (drop p text) (drop q text) refl refl k
+    go (inr k) = sym (ordered text q p b a (drop q text) (drop p text) refl refl k)
 
-pub ones : (fits : Statement → Bool) (text : List ℕ) → One fits text
-ones fits text = record { place = one-place fits text }
+pub ones : (text : List ℕ) → One text
+ones text = record { place = one-place text }

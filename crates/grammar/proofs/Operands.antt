@@ -21,8 +21,10 @@ use Rattle.statement.specs.Forms.{Slot, name, number, inBrackets, address, oper
 use Rattle.statement.specs.Canonical.{opcodeOf, valuesOf}
 use Rattle.statement.specs.Reading.{opcodeLen}
 use Rattle.statement.specs.Positions.{within, afterComma, afterCommas, operandFrom, afterBracket, nameFrom, operandPlace, namePlace, slotName, rowNames, namesOf}
-use Rattle.grammar.specs.Spells.{spaces, Mark, Word, NameText, NumberText, BracketText, OffsetText, bare, plus, AddressText, OperandText, byName, byAddress, MoreNames, closes, comma, NamesText, opens, SlotText, MoreRow, RowText, Spells}
-use Rattle.grammar.specs.Operands.{Part, moreParts, rowParts, partsOf, nameIn, NameAt, NumberAt, MarkAt, Shows, Placed, AllPlaced, AllShown, OperandsPlaced}
+use Rattle.expression.specs.Integers.{Result}
+use Rattle.grammar.proofs.Along.{Along, quantity-along}
+use Rattle.grammar.specs.Spells.{spaces, Mark, Word, NameText, NumberText, group, minus, plain, FactorText, QuantityText, alone, composed, BracketText, OffsetText, bare, plus, AddressText, OperandText, byName, byAddress, MoreNames, closes, comma, NamesText, opens, SlotText, MoreRow, RowText, Spells}
+use Rattle.grammar.specs.Operands.{Part, moreParts, rowParts, partsOf, nameIn, NameAt, MarkAt, Shows, Placed, AllPlaced, AllShown, OperandsPlaced}
 use Rattle.statement.proofs.Each.{each-opcode, each-statement}
 use Rattle.laws.proofs.BoolLaws.{never, and-split}
 use Rattle.grammar.proofs.Lexing.{blanks-parts, starts, whole, whole-head, other, word-at, token-is, name-whole, number-whole, mark-at}
@@ -70,10 +72,25 @@ at-comma : {l r : List ℕ} → Mark (byte ",") l r → afterComma false l ≡ r
 unfolding afterComma
 at-comma k = to-mark false k
 
+-- an expression has none of the three marks
+pass-mark : (b : Bool) (m : ℕ) {l r : List ℕ} → eqb m (byte ",") ≡ false → eqb m (byte "{") ≡ false → eqb m (byte "}") ≡ false → Mark m l r → afterComma b l ≡ afterComma b r
+pass-mark b m {l} {r} c o e k = to-mark b k ∙ pass b m r c o e
+
+passes : Along (λ l r. (b : Bool) → afterComma b l ≡ afterComma b r)
+passes = record {
+  here = λ b. refl;
+  then = λ p q b. p b ∙ q b;
+  mark = λ m c o e k b. pass-mark b m c o e k;
+  number = λ k b. pass-number b k;
+}
+
+pass-quantity : (b : Bool) {limit v : ℕ} {l r : List ℕ} → QuantityText limit v l r → afterComma b l ≡ afterComma b r
+pass-quantity b t = quantity-along (λ l r. (b : Bool) → afterComma b l ≡ afterComma b r) passes t b
+
 -- ---- an operand has no comma of the row
 pass-offset : {v : ℕ} {l r : List ℕ} → OffsetText v l r → afterComma false l ≡ afterComma false r
 pass-offset bare = refl
-pass-offset (plus {l₁ = l₁} m n) = to-mark false m ∙ (pass false (byte "+") l₁ refl refl refl ∙ pass-number false n)
+pass-offset (plus {l₁ = l₁} m n) = to-mark false m ∙ (pass false (byte "+") l₁ refl refl refl ∙ pass-quantity false n)
 
 pass-bracket : {n : Name} {l r : List ℕ} → BracketText n l r → afterComma false l ≡ afterComma false r
 pass-bracket {n} {l} {r} k =
@@ -99,7 +116,7 @@ pass-names (opens h m n i) = to-mark false m ∙ (pass-name true n ∙ pass-more
 
 pass-slot : (k : Slot) (v : Value k) (l r : List ℕ) → SlotText k v l r → afterComma false l ≡ afterComma false r
 pass-slot name v l r t = pass-name false t
-pass-slot (number limit) v l r t = pass-number false t
+pass-slot (number limit) v l r t = pass-quantity false t
 pass-slot inBrackets v l r t = pass-bracket t
 pass-slot address v l r t = pass-address t
 pass-slot operand v l r t = pass-operand t
@@ -192,14 +209,33 @@ word-token {w} {l} {r} g k = ap tokenOf (word-at w l r g k) ∙ token-is w r g (
 name-at : {n : Name} {l r : List ℕ} → NameText n l r → NameAt n (afterBlanks l)
 name-at k = let e = word-token (name-whole (k .bytes) (k .good)) (k .spelled) in (rw e (k .good), rw e (k .value))
 
-number-at : {v : ℕ} {l r : List ℕ} → NumberText v l r → NumberAt v (afterBlanks l)
-number-at k = let e = word-token (number-whole (k .bytes) (k .good)) (k .spelled) in (rw e (k .good), rw e (k .value))
-
 name-some : {n : Name} {l r : List ℕ} → NameText n l r → Some (afterBlanks l)
 name-some k = word-some (name-whole (k .bytes) (k .good)) (k .spelled)
 
 mark-some : {m : ℕ} {l r : List ℕ} → blank m ≡ false → Mark m l r → Some (afterBlanks l)
 mark-some {m} {l} {r} d k = (m, r, mark-at m d k)
+
+-- ---- the first byte of an expression is no bracket, and spaces before it may be left out
+record First (l : List ℕ) : Type 0 where
+  some : Some (afterBlanks l)
+  bare : afterBracket (afterBlanks l) ≡ afterBlanks l
+
+mark-opens : (m : ℕ) {l r : List ℕ} → blank m ≡ false → eqb m (byte "[") ≡ false → Mark m l r → First l
+mark-opens m {l} {r} d e k = record { some = mark-some d k; bare = rw (mark-at m d k, e) }
+
+number-opens : {v : ℕ} {l r : List ℕ} → NumberText v l r → First l
+number-opens t = let g = number-whole (t .bytes) (t .good) in record { some = word-some g (t .spelled); bare = word-bare g (t .spelled) }
+
+factor-opens : (d : ℕ) (u : Result) (l r : List ℕ) → FactorText d u l r → First l
+unfolding blank
+factor-opens zero a l r t = number-opens (t .spelled)
+factor-opens (suc d) a l r (group m e c) = mark-opens (byte "(") refl refl m
+factor-opens (suc d) a l r (minus m t) = mark-opens (byte "-") refl refl m
+factor-opens (suc d) a l r (plain t) = number-opens (t .spelled)
+
+quantity-opens : (limit v : ℕ) (l r : List ℕ) → QuantityText limit v l r → First l
+quantity-opens limit v l r (alone t n m) = number-opens t
+quantity-opens limit v l r (composed t h) = factor-opens 16 (t .head .v) l (t .head .l₁) (t .head .head)
 
 -- a bracket, and what is inside it
 open-at : {l r : List ℕ} → Mark (byte "[") l r → MarkAt (byte "[") (afterBlanks l)
@@ -222,9 +258,8 @@ seen-slot : (k : Slot) (v : Value k) (l r : List ℕ) (t : SlotText k v l r) →
 unfolding blank
 seen-slot name v l r t = record { some = name-some t; someName = name-some t; inner = word-bare (name-whole (t .bytes) (t .good)) (t .spelled); shows = (refl, name-at t) }
 seen-slot (number limit) v l r t =
-    let g = number-whole (t .bytes) (t .good) in
-    let s = word-some g (t .spelled) in
-    record { some = s; someName = s; inner = word-bare g (t .spelled); shows = number-at t }
+    let q = quantity-opens limit v l r t in
+    record { some = q .some; someName = q .some; inner = q .bare; shows = (l, r, t, refl) }
 seen-slot inBrackets v l r t = record { some = mark-some refl (t .opens); someName = name-some (t .inner); inner = open-inner (t .opens); shows = (open-at (t .opens), name-at (t .inner)) }
 seen-slot address v l r t = record { some = mark-some refl (t .opens); someName = name-some (t .base); inner = open-inner (t .opens); shows = (open-at (t .opens), name-at (t .base)) }
 seen-slot operand (operand.Descriptor n) l r (byName t) =

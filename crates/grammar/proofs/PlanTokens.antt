@@ -1,47 +1,24 @@
--- A plan is a row of tokens: the readers of marks, names and numbers are readers of one token each. Reading is looked at in two ways, with numbers of
--- any size, or as if it had stopped at the first that is too large. Assumes nothing.
+-- A plan is a row of tokens: the readers of marks and names are readers of one token each, that of numbers and expressions one of a factor and a chain. Assumes nothing.
 use Prim.Native.Nat.{ℕ, zero, suc}
-use native.Mathlib.Omega.{arith}
 use mathlib.Core.Path.{_≡_, refl, sym, ap, _∙_}
 use mathlib.Core.List.{List, [], _∷_}
 use mathlib.Core.Bool.{Bool, true, false, _&&_, cond}
 use lib.ListN.{length, getD, drop}
-use lib.Dec.{leb, eqb}
-use borrow.Author.Tests.{eq-eqb, eqb-true, le-leb}
+use lib.Dec.{eqb}
+use borrow.Author.Tests.{eq-eqb, eqb-true}
 use Rattle.tokens.specs.declared.Name.{Name}
-use Rattle.tokens.specs.Text.{byte, bytes}
+use Rattle.tokens.specs.Text.{byte}
 use Rattle.tokens.specs.Bytes.{letter, wordByte, blank, runLen, afterBlanks, tokenLen, tokenOf, afterToken}
 use Rattle.tokens.specs.Names.{isName, packed, noName}
-use Rattle.tokens.specs.Numbers.{spells, worth, isNumber, valueOf}
-use Rattle.tokens.specs.Cursors.{Rest, on, off, Took, markHere, markC, endC, nameC, numberC}
+use Rattle.tokens.specs.Cursors.{Rest, on, off, Took, markHere, markC, endC, nameC}
 use Rattle.statement.specs.Forms.{Slot, name, number, inBrackets, address, operand, names}
-use Rattle.laws.proofs.BoolLaws.{never}
 use Rattle.grammar.proofs.Lexing.{starts}
-use Rattle.grammar.proofs.Readers.{Sign, comma, opening, closing, plus, brace, unbrace, semicolon, code, Plan, ends, marked, named, numbered, either, runs, insidePlan, operandPlan, morePlan, slotPlan, morePlans, rowPlan, Kept, mark-kept, name-kept}
-use Rattle.grammar.proofs.Stops.{Stand, good, bad, Kind, Row, end, one, branch, reads, Good, one-yes, branch-yes, branch-no}
+use Rattle.grammar.proofs.Readers.{Sign, comma, opening, closing, plus, brace, unbrace, semicolon, code, Plan, ends, marked, named, numbered, either, runs, insidePlan, operandPlan, morePlan, slotPlan, morePlans, rowPlan}
+use Rattle.expression.specs.Expressions.{quantityC}
+use Rattle.grammar.proofs.Stops.{Stand, good, bad, Kind, Row, end, one, branch, factor, chain, signs, reads, Good, one-yes, branch-yes, branch-no, reads-end}
+use Rattle.grammar.proofs.QuantityRow.{stand, run, first, sticky, fold-at, quantity-row}
 
 -- ---- a reader of one token, and a row of them
-abbrev pub stand : Rest → Stand
-stand r = record { rest = r .rest; ok = r .ok }
-
-abbrev first : Kind → List ℕ → Stand
-first f b = cond (f .test (tokenOf b)) (good (afterToken b)) (bad b)
-
-abbrev sticky : Kind → Stand → Stand
-sticky f r = cond (r .ok) (first f (afterBlanks (r .rest))) r
-
-abbrev pub run : Row → Stand → Stand
-run g r = cond (r .ok) (reads g (r .rest)) r
-
-fold-by : (g : Row) (v : Bool) (x y : List ℕ) → run g (cond v (good x) (bad y)) ≡ cond v (reads g x) (bad y)
-fold-by g true x y = refl
-fold-by g false x y = refl
-
-fold-at : (f : Kind) (g : Row) (l : List ℕ) (b : Bool) → run g (sticky f (record { rest = l; ok = b })) ≡ run (one f g) (record { rest = l; ok = b })
-unfolding reads
-fold-at f g l true = fold-by g (f .test (tokenOf (afterBlanks l))) (afterToken (afterBlanks l)) (afterBlanks l)
-fold-at f g l false = refl
-
 tested : (v b : Bool) (x y : List ℕ) → cond v (good x) (bad y) .ok ≡ b → v ≡ b
 tested true b x y e = e
 tested false b x y e = e
@@ -106,142 +83,88 @@ name-token r = go (r .ok) (isName (tokenOf b))
     go true false = refl
     go false v = refl
 
--- ---- with numbers of any size, or, strict, as if reading had stopped at the first number that is too large
-numberTest : Bool → ℕ → List ℕ → Bool
-numberTest strict limit w = cond (isNumber w) (cond strict (leb (valueOf w) limit) true) false
-
-module _ (strict : Bool) where
-  abbrev pub view : Rest → Stand
-  view r = cond (strict && r .over) (bad (r .far)) (stand r)
-
-  -- a reader of one token of a kind
-  abbrev Token : (Rest → Rest) → Kind → Type 0
-  Token x f = (r : Rest) → view (x r) ≡ sticky f (view r)
-
-  kept-token : (f : Kind) (x : Rest → Rest) → ((r : Rest) → stand (x r) ≡ sticky f (stand r)) → ((r : Rest) → Kept r (x r)) → Token x f
-  kept-token f x law kept r = ap (λ (o : Bool). cond (strict && o) (bad (x r .far)) (stand (x r))) (kept r .over) ∙ go (strict && r .over)
-    where
-      go : (c : Bool) → cond c (bad (x r .far)) (stand (x r)) ≡ sticky f (cond c (bad (r .far)) (stand r))
-      go true = ap bad (kept r .far)
-      go false = law r
-
-  mark-reads : (m : Sign) → Token (markC (code m)) (markKind m)
-  mark-reads m = kept-token (markKind m) (markC (code m)) (mark-token m) (mark-kept (code m))
-
-  name-reads : Token (λ r. nameC r .next) nameKind
-  name-reads = kept-token nameKind (λ r. nameC r .next) name-token name-kept
-
-  number-fits : (limit : ℕ) → numberTest strict limit (bytes "0") ≡ true
-  unfolding numberTest isNumber spells valueOf worth
-  number-fits limit = go strict
-    where
-      go : (s : Bool) → cond s (leb 0 limit) true ≡ true
-      go true = le-leb 0 limit (omega arith)
-      go false = refl
-
-  pub numberKind : ℕ → Kind
-  unfolding numberTest isNumber spells blank
-  numberKind limit = record { test = numberTest strict limit; none = refl; wit = byte "0"; fits = number-fits limit; dark = refl }
-
-number-at : (s k o n c : Bool) (limit : ℕ) (l f : List ℕ) → isNumber (tokenOf (afterBlanks l)) ≡ n → leb (valueOf (tokenOf (afterBlanks l))) limit ≡ c
-    → view s (numberC limit (record { rest = l; ok = k; over = o; far = f }) .next) ≡ sticky (numberKind s limit) (view s (record { rest = l; ok = k; over = o; far = f }))
-unfolding numberC numberKind numberTest
-number-at false false o n c limit l f p q = refl
-number-at false true o false c limit l f p q = rw p
-number-at false true o true true limit l f p q = rw (p, q)
-number-at false true o true false limit l f p q = rw (p, q)
-number-at true false true n c limit l f p q = refl
-number-at true false false n c limit l f p q = refl
-number-at true true true false c limit l f p q = rw p
-number-at true true true true true limit l f p q = rw (p, q)
-number-at true true true true false limit l f p q = rw (p, q)
-number-at true true false false c limit l f p q = rw p
-number-at true true false true true limit l f p q = rw (p, q)
-number-at true true false true false limit l f p q = rw (p, q)
-
 end-by : (l : List ℕ) (b c : Bool) → _≡_ {A = Stand} (record { rest = l; ok = b && c }) (cond b (cond c (good l) (bad l)) (record { rest = l; ok = b }))
 end-by l true true = refl
 end-by l true false = refl
 end-by l false c = refl
 
 -- ---- a plan is a row of tokens
-module _ (s : Bool) where
-  number-reads : (limit : ℕ) → Token s (λ r. numberC limit r .next) (numberKind s limit)
-  number-reads limit r =
-      let w = tokenOf (afterBlanks (r .rest)) in
-      number-at s (r .ok) (r .over) (isNumber w) (leb (valueOf w) limit) limit (r .rest) (r .far) refl refl
+-- a reader of one token of a kind
+abbrev Token : (Rest → Rest) → Kind → Type 0
+Token x f = (r : Rest) → stand (x r) ≡ sticky f (stand r)
 
-  abbrev pub rowOf : Plan → Row
-  rowOf ends = one (markKind semicolon) end
-  rowOf (marked m p) = one (markKind m) (rowOf p)
-  rowOf (named p) = one nameKind (rowOf p)
-  rowOf (numbered limit p) = one (numberKind s limit) (rowOf p)
-  rowOf (either m p q) = branch (markKind m) (rowOf p) (rowOf q)
+abbrev pub rowOf : Plan → Row
+rowOf ends = one (markKind semicolon) end
+rowOf (marked m p) = one (markKind m) (rowOf p)
+rowOf (named p) = one nameKind (rowOf p)
+rowOf (numbered limit p) = factor 16 (chain 16 (rowOf p))
+rowOf (either m p q) = branch (markKind m) (rowOf p) (rowOf q)
 
-  -- a token, and then g
-  then : (f : Kind) (x : Rest → Rest) → Token s x f → (g : Row) (r : Rest) → run g (view s (x r)) ≡ run (one f g) (view s r)
-  then f x law g r = ap (run g) (law r) ∙ fold-at f g (view s r .rest) (view s r .ok)
+-- a token, and then g
+then : (f : Kind) (x : Rest → Rest) → Token x f → (g : Row) (r : Rest) → run g (stand (x r)) ≡ run (one f g) (stand r)
+then f x law g r = ap (run g) (law r) ∙ fold-at f g (r .rest) (r .ok)
 
-  end-row : (r : Rest) → view s (endC r) ≡ run (one (markKind semicolon) end) (view s r)
-  unfolding endC reads
-  end-row r = go (s && d .over) ∙ then (markKind semicolon) (markC (byte ";")) (mark-reads s semicolon) end r
-    where
-      d : Rest
-      d = markC (byte ";") r
+end-row : (r : Rest) → stand (endC r) ≡ run (one (markKind semicolon) end) (stand r)
+unfolding endC
+end-row r = go ∙ then (markKind semicolon) (markC (byte ";")) (mark-token semicolon) end r
+  where
+    d : Rest
+    d = markC (byte ";") r
 
-      go : (c : Bool) → cond c (bad (d .far)) (record { rest = d .rest; ok = d .ok && eqb (length (d .rest)) 0 }) ≡ run end (cond c (bad (d .far)) (stand d))
-      go true = refl
-      go false = end-by (d .rest) (d .ok) (eqb (length (d .rest)) 0)
+    go : stand (record { rest = d .rest; ok = d .ok && eqb (length (d .rest)) 0; over = d .over; far = d .far }) ≡ run end (stand d)
+    go = end-by (d .rest) (d .ok) (eqb (length (d .rest)) 0) ∙ ap (λ (x : Stand). cond (d .ok) x (stand d)) (sym (reads-end (d .rest)))
 
-  -- where reading goes on, the mark tells
-  told : (m : Sign) (r : Rest) (b : Bool) → markC (code m) r .ok ≡ b → view s r .ok ≡ true → sticky (markKind m) (view s r) .ok ≡ b
-  told m r b e h = go (s && r .over) h
-    where
-      go : (c : Bool) → cond c (bad (r .far)) (stand r) .ok ≡ true → sticky (markKind m) (cond c (bad (r .far)) (stand r)) .ok ≡ b
-      go true k = never k
-      go false k = sym (ap (λ (x : Stand). x .ok) (mark-token m r)) ∙ e
+-- where reading goes on, the mark tells
+told : (m : Sign) (r : Rest) (b : Bool) → markC (code m) r .ok ≡ b → r .ok ≡ true → sticky (markKind m) (stand r) .ok ≡ b
+told m r b e h = sym (ap (λ (x : Stand). x .ok) (mark-token m r)) ∙ e
 
-  either-row : (m : Sign) (g h : Row) (x y r : Rest) (b : Bool) → markC (code m) r .ok ≡ b → view s x ≡ run g (view s (markC (code m) r)) → view s y ≡ run h (view s r)
-      → view s (cond b x y) ≡ run (branch (markKind m) g h) (view s r)
-  either-row m g h x y r true e p q =
-      p ∙ (then (markKind m) (markC (code m)) (mark-reads s m) g r ∙ branch-at (markKind m) g h (view s r .rest) (view s r .ok) true (told m r true e))
-  either-row m g h x y r false e p q = q ∙ branch-at (markKind m) g h (view s r .rest) (view s r .ok) false (told m r false e)
+either-row : (m : Sign) (g h : Row) (x y r : Rest) (b : Bool) → markC (code m) r .ok ≡ b → stand x ≡ run g (stand (markC (code m) r)) → stand y ≡ run h (stand r)
+    → stand (cond b x y) ≡ run (branch (markKind m) g h) (stand r)
+either-row m g h x y r true e p q =
+    p ∙ (then (markKind m) (markC (code m)) (mark-token m) g r ∙ branch-at (markKind m) g h (r .rest) (r .ok) true (told m r true e))
+either-row m g h x y r false e p q = q ∙ branch-at (markKind m) g h (r .rest) (r .ok) false (told m r false e)
 
-  pub plan-row : (p : Plan) (r : Rest) → view s (runs p r) ≡ run (rowOf p) (view s r)
-  plan-row ends r = end-row r
-  plan-row (marked m p) r = plan-row p (markC (code m) r) ∙ then (markKind m) (markC (code m)) (mark-reads s m) (rowOf p) r
-  plan-row (named p) r = plan-row p (nameC r .next) ∙ then nameKind (λ x. nameC x .next) (name-reads s) (rowOf p) r
-  plan-row (numbered limit p) r = plan-row p (numberC limit r .next) ∙ then (numberKind s limit) (λ x. numberC limit x .next) (number-reads limit) (rowOf p) r
-  plan-row (either m p q) r =
-      let d = markC (code m) r in
-      either-row m (rowOf p) (rowOf q) (runs p d) (runs q r) r (d .ok) refl (plan-row p d) (plan-row q r)
+pub plan-row : (p : Plan) (r : Rest) → stand (runs p r) ≡ run (rowOf p) (stand r)
+plan-row ends r = end-row r
+plan-row (marked m p) r = plan-row p (markC (code m) r) ∙ then (markKind m) (markC (code m)) (mark-token m) (rowOf p) r
+plan-row (named p) r = plan-row p (nameC r .next) ∙ then nameKind (λ x. nameC x .next) name-token (rowOf p) r
+plan-row (numbered limit p) r = plan-row p (quantityC limit r .next) ∙ quantity-row limit (rowOf p) r
+plan-row (either m p q) r =
+    let d = markC (code m) r in
+    either-row m (rowOf p) (rowOf q) (runs p d) (runs q r) r (d .ok) refl (plan-row p d) (plan-row q r)
 
-  -- ---- at each choice the other way begins with another token
-  inside-good : (p : Plan) → Good (rowOf p) → Good (rowOf (insidePlan p))
-  unfolding afterBlanks blank tokenOf tokenLen markKind
-  inside-good p h = (tt, refl, h, h)
+-- ---- at each choice the other way begins with another token
+inside-good : (p : Plan) → Good (rowOf p) → Good (rowOf (insidePlan p))
+unfolding signs afterBlanks blank tokenOf tokenLen markKind
+inside-good p h = (tt, refl, (tt, refl, h), h)
 
-  operand-good : (p : Plan) → Good (rowOf p) → Good (rowOf (operandPlan p))
-  unfolding afterBlanks blank tokenOf tokenLen nameKind markKind
-  operand-good p h = (tt, refl, inside-good p h, h)
+operand-good : (p : Plan) → Good (rowOf p) → Good (rowOf (operandPlan p))
+unfolding afterBlanks blank tokenOf tokenLen nameKind markKind
+operand-good p h = (tt, refl, inside-good p h, h)
 
-  more-good : (k : ℕ) (p : Plan) → Good (rowOf p) → Good (rowOf (morePlan k p))
-  unfolding afterBlanks blank tokenOf tokenLen markKind
-  more-good zero p h = h
-  more-good (suc k) p h = (tt, refl, more-good k p h, h)
+more-good : (k : ℕ) (p : Plan) → Good (rowOf p) → Good (rowOf (morePlan k p))
+unfolding afterBlanks blank tokenOf tokenLen markKind
+more-good zero p h = h
+more-good (suc k) p h = (tt, refl, more-good k p h, h)
 
-  slot-good : (k : Slot) (p : Plan) → Good (rowOf p) → Good (rowOf (slotPlan k p))
-  slot-good name p h = h
-  slot-good (number limit) p h = h
-  slot-good inBrackets p h = h
-  slot-good address p h = inside-good p h
-  slot-good operand p h = operand-good p h
-  slot-good names p h = more-good 127 p h
+-- an operand, before the comma of the next or the end: neither is an operator
+number-good : (ks : List Slot) → Good (rowOf (morePlans ks)) → Good (chain 16 (rowOf (morePlans ks)))
+unfolding signs afterBlanks blank tokenOf tokenLen markKind
+number-good [] h = (tt, refl, h)
+number-good (k ∷ ks) h = (tt, refl, h)
 
-  more-row-good : (ks : List Slot) → Good (rowOf (morePlans ks))
-  more-row-good [] = tt
-  more-row-good (k ∷ ks) = slot-good k (morePlans ks) (more-row-good ks)
+slot-good : (k : Slot) (ks : List Slot) → Good (rowOf (morePlans ks)) → Good (rowOf (slotPlan k (morePlans ks)))
+slot-good name ks h = h
+slot-good (number limit) ks h = number-good ks h
+slot-good inBrackets ks h = h
+slot-good address ks h = inside-good (morePlans ks) h
+slot-good operand ks h = operand-good (morePlans ks) h
+slot-good names ks h = more-good 127 (morePlans ks) h
 
-  pub row-good : (ks : List Slot) → Good (rowOf (rowPlan ks))
-  row-good [] = tt
-  row-good (k ∷ ks) = slot-good k (morePlans ks) (more-row-good ks)
+more-row-good : (ks : List Slot) → Good (rowOf (morePlans ks))
+more-row-good [] = tt
+more-row-good (k ∷ ks) = slot-good k ks (more-row-good ks)
+
+pub row-good : (ks : List Slot) → Good (rowOf (rowPlan ks))
+row-good [] = tt
+row-good (k ∷ ks) = slot-good k ks (more-row-good ks)

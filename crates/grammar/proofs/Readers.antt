@@ -9,7 +9,8 @@ use Rattle.tokens.specs.Text.{byte}
 use Rattle.tokens.specs.declared.Name.{Name}
 use Rattle.tokens.specs.Bytes.{afterBlanks, tokenOf, afterToken}
 use Rattle.tokens.specs.Names.{isName, packed, noName}
-use Rattle.tokens.specs.Cursors.{Rest, on, off, Took, markHere, markC, endC, nameC, numberC}
+use Rattle.tokens.specs.Cursors.{Rest, on, off, Took, markHere, markC, endC, nameC}
+use Rattle.expression.specs.Expressions.{quantityC}
 use Rattle.statement.specs.declared.Operand.the-variants as operand
 use Rattle.statement.specs.Forms.{Slot, name, number, inBrackets, address, operand, names, maxOffset}
 use Rattle.statement.specs.Reading.{inBracketsC, offsetC, insideC, addressC, operandC, moreC, namesC, slotC, moreRowC, rowC}
@@ -45,7 +46,7 @@ abbrev pub runs : Plan → Rest → Rest
 runs ends r = endC r
 runs (marked m p) r = runs p (markC (code m) r)
 runs (named p) r = runs p (nameC r .next)
-runs (numbered limit p) r = runs p (numberC limit r .next)
+runs (numbered limit p) r = runs p (quantityC limit r .next)
 runs (either m p q) r = cond (markC (code m) r .ok) (runs p (markC (code m) r)) (runs q r)
 
 -- ---- an operand, and then p
@@ -86,7 +87,7 @@ runs-cond p false x y = refl
 
 offset-runs : (p : Plan) (r : Rest) → runs p (offsetC r .next) ≡ runs (offsetPlan p) r
 unfolding offsetC
-offset-runs p r = let d = markC (byte "+") r in runs-cond p (d .ok) (numberC maxOffset d) (record { value = 0; next = r })
+offset-runs p r = let d = markC (byte "+") r in runs-cond p (d .ok) (quantityC maxOffset d) (record { value = 0; next = r })
 
 inside-runs : (p : Plan) (r : Rest) → runs p (insideC r .next) ≡ runs (insidePlan p) r
 unfolding insideC

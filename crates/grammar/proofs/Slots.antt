@@ -10,14 +10,16 @@ use borrow.Author.Tests.{eqb-false}
 use Rattle.tokens.specs.Text.{byte}
 use Rattle.tokens.specs.declared.Name.{Name}
 use Rattle.tokens.specs.Bytes.{letter, wordByte, blank, afterBlanks}
-use Rattle.tokens.specs.Cursors.{Rest, Took, markC, nameC, numberC}
+use Rattle.tokens.specs.Cursors.{Rest, Took, markC, nameC}
+use Rattle.expression.specs.Expressions.{quantityC}
 use Rattle.statement.specs.declared.Address.{Address}
 use Rattle.statement.specs.declared.Operand.{Operand}
 use Rattle.statement.specs.declared.Operand.the-variants as operand
 use Rattle.statement.specs.Forms.{Slot, name, number, inBrackets, address, operand, names, Value, maxOffset}
 use Rattle.statement.specs.Reading.{inBracketsC, offsetC, insideC, addressC, operandC, moreC, namesC, slotC}
 use Rattle.grammar.specs.Spells.{Mark, NameText, BracketText, OffsetText, bare, plus, AddressText, OperandText, byName, byAddress, MoreNames, closes, comma, NamesText, opens, SlotText, sizedOperand, sizedSlot}
-use Rattle.grammar.proofs.Lexing.{at, Reads, cut, overBy, whole-head, other, word-at, name-whole, mark-at, mark-none, mark-sound, mark-complete, name-sound, name-complete, number-sound, number-complete, took-one, mark-one, mark-two, name-one, number-one}
+use Rattle.grammar.proofs.Lexing.{at, Reads, cut, overBy, whole-head, other, word-at, name-whole, mark-at, mark-none, mark-sound, mark-complete, name-sound, name-complete, took-one, mark-one, mark-two, name-one}
+use Rattle.grammar.proofs.Quantities.{quantity-sound, quantity-complete, quantity-one}
 
 -- ---- what is read spells an operand
 bracket-sound : (r : Rest) → inBracketsC r .next .ok ≡ true → (r .ok ≡ true) × (v : Name) × BracketText v (r .rest) (inBracketsC r .next .rest)
@@ -35,11 +37,11 @@ unfolding offsetC
 offset-sound r h = go (markC (byte "+") r .ok) refl h
   where
     took : Bool → Took ℕ
-    took b = cond b (numberC maxOffset (markC (byte "+") r)) (record { value = 0; next = r })
+    took b = cond b (quantityC maxOffset (markC (byte "+") r)) (record { value = 0; next = r })
 
     go : (b : Bool) → markC (byte "+") r .ok ≡ b → took b .next .ok ≡ true → (r .ok ≡ true) × (v : ℕ) × OffsetText v (r .rest) (took b .next .rest)
     go true e k =
-        let n = number-sound maxOffset (markC (byte "+") r) k in
+        let n = quantity-sound maxOffset (markC (byte "+") r) k in
         let m = mark-sound (byte "+") r e in
         (m .0, n .1, plus (m .1) (n .2))
     go false e k = (k, 0, bare)
@@ -124,7 +126,7 @@ names-sound r h =
 
 pub slot-sound : (k : Slot) (r : Rest) → slotC k r .next .ok ≡ true → (r .ok ≡ true) × (v : Value k) × SlotText k v (r .rest) (slotC k r .next .rest)
 slot-sound name r h = let n = name-sound r h in (n .0, nameC r .value, n .1)
-slot-sound (number limit) r h = number-sound limit r h
+slot-sound (number limit) r h = quantity-sound limit r h
 slot-sound inBrackets r h = bracket-sound r h
 slot-sound address r h = address-sound r h
 slot-sound operand r h = operand-sound r h
@@ -148,7 +150,7 @@ cutSlot operand v = cutOperand v
 cutSlot names v = v
 
 -- where the mark x comes, no other mark is read
-mark-other : (m x : ℕ) (l r : List ℕ) (o : Bool) (f : List ℕ) → blank x ≡ false → Mark x l r → eqb x m ≡ false → markC m (at l o f) .ok ≡ false
+pub mark-other : (m x : ℕ) (l r : List ℕ) (o : Bool) (f : List ℕ) → blank x ≡ false → Mark x l r → eqb x m ≡ false → markC m (at l o f) .ok ≡ false
 mark-other m x l r o f d k e = mark-none m x l r o f (mark-at x d k) e
 
 -- where a name comes, no bracket is read
@@ -159,7 +161,7 @@ name-head n l r k =
     let h = whole-head (k .bytes) g in
     (h .0, h .1 ++ r, word-at (k .bytes) l r g (k .spelled) ∙ ap (λ (w : List ℕ). w ++ r) (h .2), other (h .0) (byte "[") (h .3) refl)
 
-name-first : (n : Name) (l r : List ℕ) (o : Bool) (f : List ℕ) → NameText n l r → markC (byte "[") (at l o f) .ok ≡ false
+pub name-first : (n : Name) (l r : List ℕ) (o : Bool) (f : List ℕ) → NameText n l r → markC (byte "[") (at l o f) .ok ≡ false
 name-first n l r o f k = let h = name-head n l r k in mark-none (byte "[") (h .0) l (h .1) o f (h .2) (h .3)
 
 name-bracket : (n : Name) (l r s : List ℕ) → NameText n l r → Mark (byte "[") l s → ⊥
@@ -178,7 +180,7 @@ bracket-complete v l r o f k =
 offset-complete : (v : ℕ) (l r : List ℕ) (o : Bool) (f : List ℕ) → OffsetText v l r → markC (byte "+") (at r o f) .ok ≡ false → Reads (offsetC (at l o f)) (cut maxOffset v) r (overBy (leb v maxOffset) o)
 unfolding offsetC blank
 offset-complete v l r o f bare z = record { far = f; is = rw z }
-offset-complete v l r o f (plus {l₁ = l₁} m n) z = rw (mark-complete (byte "+") l l₁ o f refl m) (number-complete maxOffset v l₁ r o f n)
+offset-complete v l r o f (plus {l₁ = l₁} m n) z = rw (mark-complete (byte "+") l l₁ o f refl m) (quantity-complete maxOffset v l₁ r o f n)
 
 inside-complete : (v : Address) (l r : List ℕ) (o : Bool) (f : List ℕ) → Inside v l r → Reads (insideC (at l o f)) (cutAddress v) r (overBy (leb (v .offset) maxOffset) o)
 unfolding insideC blank
@@ -209,14 +211,14 @@ more-complete (suc k) [] l r o f h (closes m) = rw (mark-other (byte ",") (byte 
 more-complete (suc k) (n ∷ ns) l r o f h (comma {l₁ = l₁} {l₂ = l₂} m t i) =
     rw (mark-complete (byte ",") l l₁ o f refl m, name-complete n l₁ l₂ o f t, more-complete k ns l₂ r o f (omega arith) i)
 
-names-complete : (v : List Name) (l r : List ℕ) (o : Bool) (f : List ℕ) → NamesText v l r → namesC (at l o f) ≡ record { value = v; next = at r o f }
+pub names-complete : (v : List Name) (l r : List ℕ) (o : Bool) (f : List ℕ) → NamesText v l r → namesC (at l o f) ≡ record { value = v; next = at r o f }
 unfolding namesC blank
 names-complete (n ∷ ns) l r o f (opens {l₁ = l₁} {l₂ = l₂} h m t i) =
     rw (mark-complete (byte "{") l l₁ o f refl m, name-complete n l₁ l₂ o f t, more-complete 127 ns l₂ r o f h i)
 
 pub slot-complete : (k : Slot) (v : Value k) (l r : List ℕ) (o : Bool) (f : List ℕ) → SlotText k v l r → Reads (slotC k (at l o f)) (cutSlot k v) r (overBy (sizedSlot k v) o)
 slot-complete name v l r o f t = record { far = f; is = name-complete v l r o f t }
-slot-complete (number limit) v l r o f t = number-complete limit v l r o f t
+slot-complete (number limit) v l r o f t = quantity-complete limit v l r o f t
 slot-complete inBrackets v l r o f t = record { far = f; is = bracket-complete v l r o f t }
 slot-complete address v l r o f t = address-complete v l r o f t
 slot-complete operand v l r o f t = operand-complete v l r o f t
@@ -233,7 +235,7 @@ offset-one v u l r s r₁ s₁ bare (plus {l₁ = l₁} m n) a b = absurd (mark-
 offset-one v u l r s r₁ s₁ (plus {l₁ = l₁} m n) bare a b = absurd (mark-two (byte "]") (byte "+") l s₁ l₁ refl refl refl b m)
 offset-one v u l r s r₁ s₁ (plus {l₁ = l₁} m n) (plus {l₁ = l₂} x y) a b =
     let p = mark-one (byte "+") l l₁ l₂ refl m x in
-    number-one v u l₁ r s n (rw p y)
+    quantity-one maxOffset v u l₁ r s n (rw p y)
 
 address-one : (v u : Address) (l r s : List ℕ) → AddressText v l r → AddressText u l s → (v ≡ u) × (r ≡ s)
 unfolding blank
@@ -258,7 +260,7 @@ names-one ns ms l r s a b = took-one (names-complete ns l r false [] a) (names-c
 
 pub slot-one : (k : Slot) (v u : Value k) (l r s : List ℕ) → SlotText k v l r → SlotText k u l s → (v ≡ u) × (r ≡ s)
 slot-one name v u l r s a b = name-one v u l r s a b
-slot-one (number limit) v u l r s a b = number-one v u l r s a b
+slot-one (number limit) v u l r s a b = quantity-one limit v u l r s a b
 slot-one inBrackets v u l r s a b = bracket-one v u l r s a b
 slot-one address v u l r s a b = address-one v u l r s a b
 slot-one operand v u l r s a b = operand-one v u l r s a b

@@ -14,7 +14,8 @@ use Rattle.grammar.specs.Claims.{Theorems}
 use Rattle.grammar.proofs.Back.{name-back}
 use Rattle.grammar.proofs.Exact.{exact, long}
 use Rattle.grammar.proofs.Trip.{trip, writable, canonical}
-use Rattle.grammar.proofs.Places.{places, overs}
+use Rattle.grammar.proofs.Places.{places}
+use Rattle.grammar.proofs.Overs.{overs}
 use Rattle.grammar.proofs.OnePlace.{ones}
 use Rattle.grammar.proofs.Operands.{operands}
 

@@ -9,7 +9,8 @@ use lib.Dec.{ltb, leb, eqb}
 use borrow.Author.Tests.{eq-eqb, eqb-true, leb-true, le-leb, lt-ltb, not-false, ltb-true}
 use Rattle.tokens.specs.Text.{byte}
 use Rattle.tokens.specs.declared.Name.{Name}
-use Rattle.tokens.specs.Bytes.{letter, wordByte, opcodeByte, runLen}
+use Rattle.tokens.specs.Bytes.{letter, wordByte, opcodeByte, runLen, blank, afterBlanks}
+use Rattle.expression.specs.Expressions.{goesOn}
 use Rattle.tokens.specs.Names.{isName, packed, nameBytes, sameName, nameGiven}
 use Rattle.tokens.specs.Numbers.{decimal}
 use Rattle.statement.specs.declared.Address.{Address}
@@ -26,7 +27,8 @@ use Rattle.statement.specs.declared.Opcode.the-variants.{Multiply}
 use Rattle.statement.specs.declared.Reading.the-variants.{Got}
 use Rattle.statement.specs.Forms.{Slot, name, number, inBrackets, address, operand, names, Value, Values, maxOffset, row, Whole, plain, access, make}
 use Rattle.statement.specs.Reading.{readOf, registersOf}
-use Rattle.grammar.specs.Spells.{spaces, Mark, NameText, NumberText, BracketText, OffsetText, bare, plus, AddressText, OperandText, byName, byAddress, MoreNames, closes, comma, NamesText, opens, SlotText, MoreRow, RowText, Spells, sizedOperand, sizedSlot, sized}
+use Rattle.grammar.proofs.Quantities.{ended-by}
+use Rattle.grammar.specs.Spells.{spaces, Mark, NameText, NumberText, QuantityText, alone, BracketText, OffsetText, bare, plus, AddressText, OperandText, byName, byAddress, MoreNames, closes, comma, NamesText, opens, SlotText, MoreRow, RowText, Spells, sizedOperand, sizedSlot, sized}
 use Rattle.statement.specs.Canonical.{sparse, opcodeOf, mmaValues, valuesOf, offsetText, addressText, operandText, moreNamesText, namesText, slotText, moreRowText, rowText, textOf, allNames, addressGiven, operandGiven, slotGiven, rowGiven, countOf, given}
 use Rattle.grammar.specs.Claims.{Reads, Trip, Writable, Canonical}
 use Rattle.tokens.proofs.Names.{same-true}
@@ -79,13 +81,21 @@ bracket-spelled n v r h =
       closes = mark-spelled 0 (byte "]") r;
     }
 
+-- a number with no operator behind it is alone
+alone-spelled : {limit v : ℕ} {l r : List ℕ} → NumberText v l r → goesOn r ≡ false → QuantityText limit v l r
+alone-spelled {r = r} t h = let n = ended-by r h in alone t (n .0) (n .1)
+
+closing-next : (r : List ℕ) → goesOn (byte "]" ∷ r) ≡ false
+unfolding goesOn afterBlanks blank
+closing-next r = refl
+
 offset-spelled : (v : ℕ) (r : List ℕ) → v ≤ maxOffset → OffsetText v (offsetText v ++ (byte "]" ∷ r)) (byte "]" ∷ r)
 unfolding wordByte letter
 offset-spelled v r h = go (eqb v 0) refl
   where
     go : (b : Bool) → eqb v 0 ≡ b → OffsetText v (cond b [] (byte "+" ∷ decimal v) ++ (byte "]" ∷ r)) (byte "]" ∷ r)
     go true e = rw (eqb-true v 0 e) bare
-    go false e = plus (mark-spelled 0 (byte "+") (decimal v ++ (byte "]" ∷ r))) (number-spelled 0 v (byte "]" ∷ r) (omega arith) refl)
+    go false e = plus (mark-spelled 0 (byte "+") (decimal v ++ (byte "]" ∷ r))) (alone-spelled (number-spelled 0 v (byte "]" ∷ r) (omega arith) refl) (closing-next r))
 
 offset-ends : (v : ℕ) (r : List ℕ) → runLen wordByte (offsetText v ++ (byte "]" ∷ r)) ≡ 0
 unfolding wordByte letter
@@ -138,19 +148,25 @@ names-spelled n (v ∷ ns) r h =
     let few : length ns ≤ 127 = omega (arith, names-few (v ∷ ns) h) in
     opens few (mark-spelled n (byte "{") ((nameBytes v ++ moreNamesText ns) ++ r)) t (more-spelled ns r (q .1))
 
-slot-spelled : (k : Slot) (n : ℕ) (v : Value k) (r : List ℕ) → small k ≡ true → slotGiven k v ≡ true → runLen wordByte r ≡ 0 → SlotText k v (spaces n ++ (slotText k v ++ r)) r
-slot-spelled name n v r b h e = name-spelled n v r h e
-slot-spelled (number limit) n v r b h e = number-spelled n v r (omega (arith, leb-true v limit h, ltb-true limit (10 ^ 20) b)) e
-slot-spelled inBrackets n v r b h e = bracket-spelled n v r h
-slot-spelled address n v r b h e = address-spelled n v r h
-slot-spelled operand n v r b h e = operand-spelled n v r h e
-slot-spelled names n v r b h e = names-spelled n v r h
+slot-spelled : (k : Slot) (n : ℕ) (v : Value k) (r : List ℕ) → small k ≡ true → slotGiven k v ≡ true → runLen wordByte r ≡ 0 → goesOn r ≡ false → SlotText k v (spaces n ++ (slotText k v ++ r)) r
+slot-spelled name n v r b h e z = name-spelled n v r h e
+slot-spelled (number limit) n v r b h e z = alone-spelled (number-spelled n v r (omega (arith, leb-true v limit h, ltb-true limit (10 ^ 20) b)) e) z
+slot-spelled inBrackets n v r b h e z = bracket-spelled n v r h
+slot-spelled address n v r b h e z = address-spelled n v r h
+slot-spelled operand n v r b h e z = operand-spelled n v r h e
+slot-spelled names n v r b h e z = names-spelled n v r h
 
 -- ---- rows
 row-ends : (ks : List Slot) (vs : Values ks) → runLen wordByte (moreRowText ks vs) ≡ 0
 unfolding moreRowText wordByte letter
 row-ends [] vs = refl
 row-ends (k ∷ ks) vs = refl
+
+-- no operator follows an operand
+row-next : (ks : List Slot) (vs : Values ks) → goesOn (moreRowText ks vs) ≡ false
+unfolding moreRowText goesOn afterBlanks blank
+row-next [] vs = refl
+row-next (k ∷ ks) vs = refl
 
 more-row-spelled : (ks : List Slot) (vs : Values ks) → smallRow ks ≡ true → rowGiven ks vs ≡ true → MoreRow ks vs (moreRowText ks vs)
 unfolding moreRowText rowGiven
@@ -159,7 +175,7 @@ more-row-spelled (k ∷ ks) vs b h =
     let p = and-split (slotGiven k (vs .0)) (rowGiven ks (vs .1)) h in
     let q = and-split (small k) (smallRow ks) b in
     let rest : List ℕ = moreRowText ks (vs .1) in
-    (byte " " ∷ (slotText k (vs .0) ++ rest), rest, mark-spelled 0 (byte ",") (byte " " ∷ (slotText k (vs .0) ++ rest)), slot-spelled k 1 (vs .0) rest (q .0) (p .0) (row-ends ks (vs .1)), more-row-spelled ks (vs .1) (q .1) (p .1))
+    (byte " " ∷ (slotText k (vs .0) ++ rest), rest, mark-spelled 0 (byte ",") (byte " " ∷ (slotText k (vs .0) ++ rest)), slot-spelled k 1 (vs .0) rest (q .0) (p .0) (row-ends ks (vs .1)) (row-next ks (vs .1)), more-row-spelled ks (vs .1) (q .1) (p .1))
 
 row-spelled : (ks : List Slot) (vs : Values ks) → smallRow ks ≡ true → rowGiven ks vs ≡ true → RowText ks vs (rowText ks vs)
 unfolding rowText rowGiven
@@ -168,7 +184,7 @@ row-spelled (k ∷ ks) vs b h =
     let p = and-split (slotGiven k (vs .0)) (rowGiven ks (vs .1)) h in
     let q = and-split (small k) (smallRow ks) b in
     let rest : List ℕ = moreRowText ks (vs .1) in
-    (rest, slot-spelled k 1 (vs .0) rest (q .0) (p .0) (row-ends ks (vs .1)), more-row-spelled ks (vs .1) (q .1) (p .1))
+    (rest, slot-spelled k 1 (vs .0) rest (q .0) (p .0) (row-ends ks (vs .1)) (row-next ks (vs .1)), more-row-spelled ks (vs .1) (q .1) (p .1))
 
 opcode-ends : (ks : List Slot) (vs : Values ks) → runLen opcodeByte (rowText ks vs) ≡ 0
 unfolding rowText opcodeByte letter

@@ -3,12 +3,13 @@ use Prim.Native.Nat.{ℕ, _<_, _≤_}
 use mathlib.Core.Path.{_≡_}
 use mathlib.Core.Logic.{_↔_}
 use mathlib.Core.List.{List, _++_}
-use mathlib.Core.Bool.{Bool, true, false}
+use mathlib.Core.Bool.{true, false}
+use mathlib.Core.Option.{some}
 use lib.ListN.{length, take, drop}
 use Rattle.tokens.specs.declared.Name.{Name}
-use Rattle.tokens.specs.Bytes.{wordByte, runLen, tokenOf, afterToken}
+use Rattle.tokens.specs.Bytes.{wordByte, runLen, afterBlanks, tokenOf, afterToken}
 use Rattle.tokens.specs.Names.{isName, packed}
-use Rattle.tokens.specs.Numbers.{isNumber, decimal}
+use Rattle.tokens.specs.Numbers.{decimal}
 use Rattle.statement.specs.declared.Statement.{Statement}
 use Rattle.statement.specs.declared.Opcode.{Opcode}
 use Rattle.statement.specs.declared.Reading.the-variants.{Got, NoForm, TooLarge}
@@ -18,7 +19,7 @@ use Rattle.statement.specs.Forms.{numText, word, Whole}
 use Rattle.statement.specs.Cells.{times}
 use Rattle.statement.specs.Reading.{opcodeLen, readOf, reasonOf, registersOf}
 use Rattle.grammar.specs.Spells.{Spells, sized}
-use Rattle.grammar.specs.Operands.{OperandsPlaced}
+use Rattle.grammar.specs.Operands.{partsOf, firstOver, OperandsPlaced}
 use Rattle.statement.specs.Canonical.{textOf, given}
 
 -- ---- reading is exact
@@ -67,39 +68,36 @@ pub data After : List ℕ → List ℕ → Type 0 where
   here : {l : List ℕ} → After l l
   past : {s l : List ℕ} → After (afterToken s) l → After s l
 
--- the place is that of the first token, or byte that starts none, or end, at which no statement that fits can go on
-pub record Stops (fits : Statement → Bool) (text : List ℕ) (place : ℕ) : Type 0 where
+-- the place is that of the first token, or byte that starts none, or end, at which no statement can go on
+pub record Stops (text : List ℕ) (place : ℕ) : Type 0 where
   pub inside : place ≤ length text
   -- No token before it goes on past it.
   pub reached : After (drop (opcodeLen text) text) (drop place text)
   -- What stands before it can be completed, the last token before it as it is,
   pub more : List ℕ
   pub ends : runLen wordByte more ≡ 0
-  pub goes : (w : Whole) × Spells w (take place text ++ more) × (fits (w .statement) ≡ true)
-  -- and no text of a statement that fits has this token there.
-  pub stuck : (t : List ℕ) → tokenOf t ≡ tokenOf (drop place text) → (w : Whole) → Spells w (take place text ++ t) → fits (w .statement) ≡ true → ⊥
-
--- every statement fits
-abbrev pub any : Statement → Bool
-any t = true
+  pub goes : (w : Whole) × Spells w (take place text ++ more)
+  -- and no text of a statement has this token there.
+  pub stuck : (t : List ℕ) → tokenOf t ≡ tokenOf (drop place text) → (w : Whole) → Spells w (take place text ++ t) → ⊥
 
 -- of a text that spells no statement
 pub record Place (text : List ℕ) (place : ℕ) : Type 0 where
   -- Where its first word is no opcode's, the place is 0,
   pub first : ((o : Opcode) → take (opcodeLen text) text ≡ word o → ⊥) → place ≡ 0
   -- and else that of the first token at which no statement can go on.
-  pub later : (o : Opcode) → take (opcodeLen text) text ≡ word o → Stops any text place
+  pub later : (o : Opcode) → take (opcodeLen text) text ≡ word o → Stops text place
 
 -- of a text that reason 4 is given for
 pub record Over (text : List ℕ) (place : ℕ) : Type 0 where
-  -- The place is that of the first token at which no statement with its numbers in range can go on,
-  pub stops : Stops sized text place
-  -- and that token is a number.
-  pub number : isNumber (tokenOf (drop place text)) ≡ true
+  -- It spells a statement,
+  pub whole : Whole
+  pub spelled : Spells whole text
+  -- and in whatever spelling of it, at the place starts, past its spaces, the first number or expression that is out of range.
+  pub starts : (w : Whole) (s : Spells w text) → (from : List ℕ) × (firstOver (partsOf s) ≡ some from) × (drop place text ≡ afterBlanks from)
 
 -- There is one such place at most.
-pub record One (fits : Statement → Bool) (text : List ℕ) : Type 0 where
-  pub place : (a b : ℕ) → Stops fits text a → Stops fits text b → a ≡ b
+pub record One (text : List ℕ) : Type 0 where
+  pub place : (a b : ℕ) → Stops text a → Stops text b → a ≡ b
 
 -- ---- the theorems
 pub record Theorems : Type 0 where
@@ -112,7 +110,7 @@ pub record Theorems : Type 0 where
   -- and in one that spells one in over 4,096 bytes: its end.
   pub long : (text : List ℕ) (w : Whole) → Spells w text → 4096 < length text → readOf text ≡ NoForm (length text)
   pub four : (text : List ℕ) (place : ℕ) → readOf text ≡ TooLarge place → Over text place
-  pub one : (fits : Statement → Bool) (text : List ℕ) → One fits text
+  pub one : (text : List ℕ) → One text
   -- The places of operands and of their names, which columns are counted from, are those of the spelling, wherever spaces stand.
   pub operands : (text : List ℕ) → OperandsPlaced text
   -- Names that are held as equal numbers have the same bytes: so two statements are equal exactly when forms, numbers and the bytes of names are.

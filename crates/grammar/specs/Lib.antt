@@ -2,3 +2,4 @@ pub mod Spells
 pub mod Operands
 pub mod Claims
 pub mod Examples
+pub mod WorkedExpressions

@@ -3,20 +3,19 @@
 use Prim.Native.Nat.{ℕ, suc, _<_, _≤_}
 use mathlib.Core.Path.{_≡_}
 use mathlib.Core.List.{List, [], _∷_}
-use mathlib.Core.Bool.{true}
-use mathlib.Core.Option.{none, some}
+use mathlib.Core.Bool.{true, cond}
+use mathlib.Core.Option.{Option, none, some}
 use lib.ListN.{length, drop, getD}
 use Rattle.tokens.specs.Text.{byte}
 use Rattle.tokens.specs.declared.Name.{Name}
 use Rattle.tokens.specs.Bytes.{afterBlanks, tokenOf}
 use Rattle.tokens.specs.Names.{isName, packed}
-use Rattle.tokens.specs.Numbers.{isNumber, valueOf}
 use Rattle.statement.specs.declared.Operand.{Operand}
 use Rattle.statement.specs.declared.Operand.the-variants as operand
 use Rattle.statement.specs.Forms.{Slot, name, number, inBrackets, address, operand, names, Value, Values, row, Whole}
 use Rattle.statement.specs.Canonical.{opcodeOf, valuesOf}
 use Rattle.statement.specs.Positions.{operandPlace, namePlace, namesOf}
-use Rattle.grammar.specs.Spells.{OperandText, byName, byAddress, SlotText, MoreRow, RowText, Spells}
+use Rattle.grammar.specs.Spells.{QuantityText, OffsetText, bare, plus, OperandText, byName, byAddress, SlotText, MoreRow, RowText, Spells, sizedSlot}
 
 -- ---- the operands of a spelling
 -- one of them: its slot and value, and that `from` starts with its spelling
@@ -52,13 +51,36 @@ nameIn address v l r t = t .l₁
 nameIn operand v l r t = operandNameFrom t
 nameIn names v l r t = l
 
+-- where the number or the expression of an operand starts, spaces before it and all; none for an operand without one
+abbrev pub offsetFrom : {v : ℕ} {l r : List ℕ} → OffsetText v l r → Option (List ℕ)
+offsetFrom bare = none
+offsetFrom (plus {l₁ = l₁} m t) = some l₁
+
+abbrev pub operandNumberFrom : {v : Operand} {l r : List ℕ} → OperandText v l r → Option (List ℕ)
+operandNumberFrom (byName t) = none
+operandNumberFrom (byAddress t) = offsetFrom (t .offset)
+
+abbrev pub numberFrom : (k : Slot) (v : Value k) (l r : List ℕ) → SlotText k v l r → Option (List ℕ)
+numberFrom name v l r t = none
+numberFrom (number limit) v l r t = some l
+numberFrom inBrackets v l r t = none
+numberFrom address v l r t = offsetFrom (t .offset)
+numberFrom operand v l r t = operandNumberFrom t
+numberFrom names v l r t = none
+
+-- that of the first operand whose number is out of range
+abbrev pub firstOver : List Part → Option (List ℕ)
+firstOver [] = none
+firstOver (p ∷ ps) = cond (sizedSlot (p .slot) (p .value)) (firstOver ps) (numberFrom (p .slot) (p .value) (p .from) (p .rest) (p .spelled))
+
 -- ---- what stands at a place
--- the token there is this name, this number, this mark
+-- the token there is this name, this mark
 abbrev pub NameAt : Name → List ℕ → Type 0
 NameAt n l = (isName (tokenOf l) ≡ true) × (packed (tokenOf l) ≡ n)
 
-abbrev pub NumberAt : ℕ → List ℕ → Type 0
-NumberAt v l = (isNumber (tokenOf l) ≡ true) × (valueOf (tokenOf l) ≡ v)
+-- there starts, past its spaces, a number or an expression of this value
+abbrev pub QuantityAt : ℕ → ℕ → List ℕ → Type 0
+QuantityAt limit v here = (l : List ℕ) × (r : List ℕ) × QuantityText limit v l r × (afterBlanks l ≡ here)
 
 abbrev pub MarkAt : ℕ → List ℕ → Type 0
 MarkAt m l = tokenOf l ≡ m ∷ []
@@ -70,7 +92,7 @@ OperandShows (operand.Address a) here inner = MarkAt (byte "[") here × NameAt (
 
 abbrev pub Shows : (k : Slot) → Value k → (here inner : List ℕ) → Type 0
 Shows name v here inner = (here ≡ inner) × NameAt v inner
-Shows (number limit) v here inner = NumberAt v here
+Shows (number limit) v here inner = QuantityAt limit v here
 Shows inBrackets v here inner = MarkAt (byte "[") here × NameAt v inner
 Shows address v here inner = MarkAt (byte "[") here × NameAt (v .base) inner
 Shows operand v here inner = OperandShows v here inner

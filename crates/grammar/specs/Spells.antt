@@ -5,12 +5,17 @@ use Prim.Native.Nat.{ℕ, zero, suc, _≤_}
 use mathlib.Core.Path.{_≡_}
 use mathlib.Core.List.{List, [], _∷_, _++_}
 use mathlib.Core.Bool.{Bool, true, _&&_}
+use mathlib.Core.Option.{none, some}
 use lib.ListN.{length}
 use lib.Dec.{leb}
+use lib.IntN.{pos, negsuc}
 use Rattle.tokens.specs.declared.Name.{Name}
 use Rattle.tokens.specs.Bytes.{wordByte, opcodeByte, runLen}
 use Rattle.tokens.specs.Names.{isName, packed}
 use Rattle.tokens.specs.Numbers.{isNumber, valueOf}
+use Rattle.expression.specs.declared.Operator.{Operator}
+use Rattle.expression.specs.declared.Operator.the-variants as o
+use Rattle.expression.specs.Integers.{Result, resultOf, join, opposite}
 use Rattle.statement.specs.declared.Address.{Address}
 use Rattle.statement.specs.declared.Operand.{Operand}
 use Rattle.statement.specs.declared.Operand.the-variants as operand
@@ -47,6 +52,76 @@ pub record NumberText (v : ℕ) (l r : List ℕ) : Type 0 where
   pub good : isNumber bytes ≡ true
   pub value : valueOf bytes ≡ v
 
+-- ---- expressions
+-- l starts with a spelling of this result, and r is what follows
+abbrev pub Text : Type 1
+Text = Result → List ℕ → List ℕ → Type 0
+
+abbrev pub Sign : Type 1
+Sign = Operator → List ℕ → List ℕ → Type 0
+
+pub data SumSign : Operator → List ℕ → List ℕ → Type 0 where
+  added : {l r : List ℕ} → Mark (byte "+") l r → SumSign o.Plus l r
+  taken : {l r : List ℕ} → Mark (byte "-") l r → SumSign o.Minus l r
+
+pub data ProductSign : Operator → List ℕ → List ℕ → Type 0 where
+  times : {l r : List ℕ} → Mark (byte "*") l r → ProductSign o.Times l r
+
+-- no such operator follows
+abbrev pub Without : Sign → List ℕ → Type 0
+Without S l = (x : Operator) (r : List ℕ) → S x l r → ⊥
+
+-- v, and each that follows behind an operator, joined from left to right, give u
+pub data More (S : Sign) (F : Text) : Result → Result → List ℕ → List ℕ → Type 0 where
+  stops : {v : Result} {l : List ℕ} → Without S l → More S F v v l l
+  next : {x : Operator} {v w u : Result} {l l₁ l₂ r : List ℕ} → S x l l₁ → F w l₁ l₂ → More S F (join x v w) u l₂ r → More S F v u l r
+
+pub record Chain (S : Sign) (F : Text) (u : Result) (l r : List ℕ) : Type 0 where
+  pub v : Result
+  pub l₁ : List ℕ
+  pub head : F v l l₁
+  pub tail : More S F v u l₁ r
+
+-- a term is factors joined by *, an expression terms joined by + and -
+abbrev pub TermOf : Text → Text
+TermOf F = Chain ProductSign F
+
+abbrev pub ExprOf : Text → Text
+ExprOf F = Chain SumSign (TermOf F)
+
+-- a number in an expression
+pub record Plain (u : Result) (l r : List ℕ) : Type 0 where
+  pub number : ℕ
+  pub spelled : NumberText number l r
+  pub value : resultOf (pos number) ≡ u
+
+-- ( expression ), - factor, or a number; what is nested in the first two has one level less
+pub data Nested (E F : Text) : Result → List ℕ → List ℕ → Type 0 where
+  group : {u : Result} {l l₁ l₂ r : List ℕ} → Mark (byte "(") l l₁ → E u l₁ l₂ → Mark (byte ")") l₂ r → Nested E F u l r
+  minus : {u : Result} {l l₁ r : List ℕ} → Mark (byte "-") l l₁ → F u l₁ r → Nested E F (opposite u) l r
+  plain : {u : Result} {l r : List ℕ} → Plain u l r → Nested E F u l r
+
+-- a factor with so many levels left
+abbrev pub FactorText : ℕ → Text
+FactorText zero = Plain
+FactorText (suc d) = Nested (ExprOf (FactorText d)) (FactorText d)
+
+abbrev pub ExprText : Text
+ExprText = ExprOf (FactorText 16)
+
+-- ---- where a number up to a limit stands
+-- the number that an expression stands for; one out of range or below 0 is over every limit
+abbrev pub worthOf : ℕ → Result → ℕ
+worthOf limit (some (pos n)) = n
+worthOf limit (some (negsuc n)) = suc limit
+worthOf limit none = suc limit
+
+pub data QuantityText (limit : ℕ) : ℕ → List ℕ → List ℕ → Type 0 where
+  -- a number alone, of any size
+  alone : {v : ℕ} {l r : List ℕ} → NumberText v l r → Without SumSign r → Without ProductSign r → QuantityText limit v l r
+  -- an expression that is more than a number
+  composed : {u : Result} {l r : List ℕ} → ExprText u l r → ((n : ℕ) → NumberText n l r → ⊥) → QuantityText limit (worthOf limit u) l r
+
 -- ---- operands
 pub record BracketText (n : Name) (l r : List ℕ) : Type 0 where
   pub l₁ : List ℕ
@@ -55,10 +130,10 @@ pub record BracketText (n : Name) (l r : List ℕ) : Type 0 where
   pub inner : NameText n l₁ l₂
   pub closes : Mark (byte "]") l₂ r
 
--- nothing, for 0; or + number
+-- nothing, for 0; or + and what stands where a number may
 pub data OffsetText : ℕ → List ℕ → List ℕ → Type 0 where
   bare : {l : List ℕ} → OffsetText 0 l l
-  plus : {v : ℕ} {l l₁ r : List ℕ} → Mark (byte "+") l l₁ → NumberText v l₁ r → OffsetText v l r
+  plus : {v : ℕ} {l l₁ r : List ℕ} → Mark (byte "+") l l₁ → QuantityText maxOffset v l₁ r → OffsetText v l r
 
 pub record AddressText (a : Address) (l r : List ℕ) : Type 0 where
   pub l₁ : List ℕ
@@ -84,7 +159,7 @@ pub data NamesText : List Name → List ℕ → List ℕ → Type 0 where
 
 abbrev pub SlotText : (k : Slot) → Value k → List ℕ → List ℕ → Type 0
 SlotText name v = NameText v
-SlotText (number limit) v = NumberText v
+SlotText (number limit) v = QuantityText limit v
 SlotText inBrackets v = BracketText v
 SlotText address v = AddressText v
 SlotText operand v = OperandText v

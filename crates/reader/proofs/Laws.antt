@@ -5,13 +5,15 @@ use native.Mathlib.Nat.{sub-self}
 use native.Mathlib.Omega.{arith}
 use mathlib.Core.Path.{_≡_, refl, sym, ap, _∙_}
 use mathlib.Core.List.{List, [], _∷_}
-use mathlib.Core.Bool.{Bool, true, false, _&&_, cond, and-false}
+use mathlib.Core.Bool.{Bool, true, false, not, _&&_, cond, and-false}
 use lib.ListN.{length, set, take, drop}
 use lib.Seq.{sets}
-use lib.Dec.{leb}
+use lib.Dec.{leb, eqb}
 use types.Run.{OneOf}
 use denote.Enum.Declared.{tagOf}
 use borrow.Author.Tests.{leb-true}
+use Rattle.laws.proofs.BoolLaws.{clash, and-split}
+use Rattle.expression.proofs.QuantityLaws.{alone-marked}
 use Rattle.tokens.specs.declared.Name.{Name}
 use Rattle.tokens.specs.declared.Cursor.{Cursor}
 use Rattle.tokens.specs.declared.NameRead.{NameRead}
@@ -19,6 +21,8 @@ use Rattle.tokens.specs.Text.{byte}
 use Rattle.tokens.specs.Bytes.{afterBlanks, tokenOf}
 use Rattle.tokens.specs.Numbers.{isNumber, valueOf}
 use Rattle.tokens.specs.Cursors.{Rest, seen, off, Took, markC, endC, nameC, nameSeen, numberC}
+use Rattle.expression.specs.declared.Amount.{Amount}
+use Rattle.expression.specs.Expressions.{exprBy, factorC, fitsIn, settled, expressionC, goesOn, quantityC}
 use Rattle.instruction.specs.declared.Kind.{Kind}
 use Rattle.statement.specs.declared.Statement.{Statement}
 use Rattle.statement.specs.declared.Statement.the-variants.{Exit, Multiply as Multiplied}
@@ -28,9 +32,9 @@ use Rattle.statement.specs.declared.Found.{Found}
 use Rattle.statement.specs.declared.Found.the-variants.{Is, Nothing}
 use Rattle.statement.specs.declared.Reading.{Reading}
 use Rattle.statement.specs.declared.Reading.the-variants.{Got, NoForm}
-use Rattle.statement.specs.Forms.{name, number, Values, Whole, plain}
+use Rattle.statement.specs.Forms.{name, number, Values, maxOffset, Whole, plain}
 use Rattle.statement.specs.Opcodes.{recognise}
-use Rattle.statement.specs.Reading.{addressC, operandC, moreC, tally, his, los, answerOf, moreRowC, rowC, operandsC, start, opcodeLen, wholeBy, wholeC, longestText, readOf, fine, registersOf, told}
+use Rattle.statement.specs.Reading.{offsetC, addressC, operandC, moreC, tally, his, los, answerOf, moreRowC, rowC, operandsC, start, opcodeLen, wholeBy, wholeC, longestText, readOf, fine, registersOf, told}
 use Rattle.statement.proofs.Readings.{Unread}
 use Rattle.opcode.specs.declared.Head.{Head}
 use Rattle.opcode.specs.Heads.{headSeen, headBy, headOf}
@@ -38,7 +42,7 @@ use Rattle.statement.proofs.Opcode.{enum, the-type}
 use Rattle.statement.proofs.Variants.{allBut, at-each}
 use Rattle.reader.specs.Lists.{listC}
 use Rattle.reader.specs.declared.Paired.{Paired}
-use Rattle.reader.specs.Rows.{pairedOpcode, bracketedOf, limitOf, madeOf, namedC, pairC, metadataC}
+use Rattle.reader.specs.Rows.{pairedOpcode, bracketedOf, limitOf, madeOf, namedC, pairC, plainOffsetC, metadataC}
 
 -- ---- numbers
 under-cond : (limit : ℕ) (b : Bool) (x y : Took ℕ) → (b ≡ true → x .value ≤ limit) → y .value ≤ limit → (cond b x y) .value ≤ limit
@@ -53,6 +57,47 @@ number-under limit r =
     let v = valueOf (tokenOf l) in
     under-cond limit (r .ok) _ _ (λ _. under-cond limit (isNumber (tokenOf l)) _ _ (λ _. under-cond limit (leb v limit) _ _ (λ e. leb-true v limit e) (omega arith)) (omega arith))
     (omega arith)
+
+-- an expression that was read is in range, and so is what stands where a number may
+settled-under : (limit : ℕ) (r : Rest) (l : List ℕ) (t : Took Amount) → settled limit r l t .value ≤ limit
+settled-under limit r l t =
+    under-cond limit (t .next .ok) _ _ (λ _. under-cond limit (fitsIn limit (t .value)) _ _ (λ e. leb-true (t .value .size) limit (fits-leb (t .value .over) (t .value .minus) (leb (t .value .size) limit) e)) (omega arith)) (omega arith)
+  where
+    fits-leb : (o m b : Bool) → (not o && (not m && b)) ≡ true → b ≡ true
+    fits-leb true m b h = absurd (let z : false ≡ true = h in clash z refl)
+    fits-leb false true b h = absurd (let z : false ≡ true = h in clash z refl)
+    fits-leb false false b h = h
+
+pub quantity-under : (limit : ℕ) (r : Rest) → quantityC limit r .value ≤ limit
+unfolding quantityC expressionC
+quantity-under limit r =
+    under-cond limit (numberC limit r .next .ok && not (goesOn (numberC limit r .next .rest))) _ _ (λ _. number-under limit r) (settled-under limit r (afterBlanks (r .rest)) (exprBy (factorC 16) r))
+
+-- an offset with the bracket behind it, and a number with the end behind it, are numbers alone
+pub plain-offset : (r : Rest) → markC (byte "]") (plainOffsetC r .next) .ok ≡ true → offsetC r ≡ plainOffsetC r
+unfolding offsetC plainOffsetC
+plain-offset r h = go (markC (byte "+") r .ok) h
+  where
+    res : Bool → Took ℕ
+    res b = cond b (numberC maxOffset (markC (byte "+") r)) (record { value = 0; next = r })
+
+    go : (b : Bool) → markC (byte "]") (res b .next) .ok ≡ true → cond b (quantityC maxOffset (markC (byte "+") r)) (record { value = 0; next = r }) ≡ res b
+    go true k = alone-marked maxOffset (markC (byte "+") r) (byte "]") refl k
+    go false k = refl
+
+pub plain-number : (limit : ℕ) (r : Rest) → endC (numberC limit r .next) .ok ≡ true → quantityC limit r ≡ numberC limit r
+unfolding endC
+plain-number limit r h =
+    alone-marked limit r (byte ";") refl (and-split (markC (byte ";") (numberC limit r .next) .ok) (eqb (length (markC (byte ";") (numberC limit r .next) .rest)) 0) h .0)
+
+-- in the words of the code
+pub offset-ended : (r : Rest) (v : Took ℕ) (e : Rest) → v ≡ plainOffsetC r → e ≡ markC (byte "]") (v .next) → e .ok ≡ true → v ≡ offsetC r
+offset-ended r v e p q h =
+    p ∙ sym (plain-offset r (sym (ap (λ (x : Rest). x .ok) (q ∙ ap (λ (t : Took ℕ). markC (byte "]") (t .next)) p)) ∙ h))
+
+pub number-ended : (limit : ℕ) (r : Rest) (v : Took ℕ) (e : Rest) → v ≡ numberC limit r → e ≡ endC (v .next) → e .ok ≡ true → v ≡ quantityC limit r
+number-ended limit r v e p q h =
+    p ∙ sym (plain-number limit r (sym (ap (λ (x : Rest). x .ok) (q ∙ ap (λ (t : Took ℕ). endC (t .next)) p)) ∙ h))
 
 -- ---- lists of names
 -- no comma: no name is left
@@ -198,7 +243,7 @@ list-other o r h = at-each enum (λ o. listC o r ≡ []) others o h (search list
 
 -- ---- rows
 -- a name, a comma, a number and the end are the row
-pub pair-row : (b : Bool) (limit : ℕ) (r m e : Rest) (n : Took Name) (v : Took ℕ) → n ≡ namedC b r → m ≡ markC (byte ",") (n .next) → v ≡ numberC limit m → e ≡ endC (v .next)
+pub pair-row : (b : Bool) (limit : ℕ) (r m e : Rest) (n : Took Name) (v : Took ℕ) → n ≡ namedC b r → m ≡ markC (byte ",") (n .next) → v ≡ quantityC limit m → e ≡ endC (v .next)
     → _≡_ {A = Took (Values (name ∷ number limit ∷ []))} (record { value = (n .value, (v .value, tt)); next = e }) (pairC b limit r)
 unfolding rowC moreRowC
 pair-row true limit r m e n v p q t u = rw (u, t, q, p)

@@ -4,14 +4,14 @@ use Prim.Native.Nat.{ℕ}
 use mathlib.Core.List.{List, [], _∷_}
 use mathlib.Core.Bool.{Bool, true, false, cond}
 use Rattle.tokens.specs.declared.Name.{Name}
-use Rattle.tokens.specs.Cursors.{Rest, seen, Took, markC, nameC}
+use Rattle.tokens.specs.Cursors.{Rest, seen, Took, markC, nameC, numberC}
 use Rattle.statement.specs.declared.Metadata.{Metadata}
 use Rattle.statement.specs.declared.Metadata.the-variants.{Dense, Sparse}
 use Rattle.statement.specs.declared.Statement.{Statement}
 use Rattle.statement.specs.declared.Statement.the-variants as s
 use Rattle.statement.specs.declared.Opcode.{Opcode}
 use Rattle.statement.specs.declared.Opcode.the-variants as o
-use Rattle.statement.specs.Forms.{name, number, inBrackets, Values, max32, max64}
+use Rattle.statement.specs.Forms.{name, number, inBrackets, Values, max32, max64, maxOffset}
 use Rattle.statement.specs.Reading.{inBracketsC, addressC, rowC}
 use Rattle.reader.specs.declared.Pair.{Pair}
 use Rattle.reader.specs.declared.Paired.{Paired}
@@ -56,6 +56,10 @@ pairC b limit r = cond b (rowC (inBrackets ∷ number limit ∷ []) r) (rowC (na
 
 abbrev pub pairSeen : List ℕ → (limit : ℕ) → Pair → Took (Values (name ∷ number limit ∷ []))
 pairSeen s limit p = record { value = (p .name, (p .number, tt)); next = seen s (p .next) }
+
+-- + and a number alone, or nothing, which is 0
+unfoldable pub plainOffsetC : Rest → Took ℕ
+plainOffsetC r = let d = markC (byte "+") r in cond (d .ok) (numberC maxOffset d) (record { value = 0; next = r })
 
 -- the metadata's address after a comma, for a sparse a alone
 unfoldable pub metadataC : Bool → Rest → Took Metadata

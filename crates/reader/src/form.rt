@@ -47,7 +47,7 @@ pub fn bare(s: &[u8], k: Cursor, t: Statement) -> Reading
     answer(s, lexer::cursor::end(s, k), t)
 }
 
-// A name, in brackets or not, a number up to a limit, and the end.
+// A name, in brackets or not, a number up to a limit, and the end. Most numbers are alone, which the end behind them tells: these are read once.
 fn name_number(s: &[u8], k: Cursor, bracketed: bool, limit: u64) -> Pair
     ensures read { λ r. ⌜ pairSeen (now (s .entry)) limit r ≡ pairC bracketed limit (seen (now (s .entry)) k) ⌝ }
     ensures under { λ r. ⌜ r .number ≤ limit ⌝ }
@@ -55,10 +55,20 @@ fn name_number(s: &[u8], k: Cursor, bracketed: bool, limit: u64) -> Pair
     let n = crate::operand::named(s, k, bracketed);
     let k1 = n.next;
     let k2 = lexer::cursor::mark(s, k1, b',');
-    let v = lexer::cursor::number(s, k2, limit);
+    let p = lexer::cursor::number(s, k2, limit);
+    let c = p.next;
+    let done = lexer::cursor::end(s, c);
+    let name = n.value;
+    if done.ok {
+        return Pair {
+            name,
+            number: p.value,
+            next: done,
+        };
+    }
+    let v = expression::quantity(s, k2, limit);
     let k3 = v.next;
     let next = lexer::cursor::end(s, k3);
-    let name = n.value;
     Pair {
         name,
         number: v.value,

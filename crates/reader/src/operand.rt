@@ -12,15 +12,29 @@ ghost use lib.ListN.{length};
 ghost use lib.Seq.{sets};
 ghost use Rattle.tokens.specs.Text.{byte};
 ghost use Rattle.tokens.specs.Cursors.{seen, nameSeen, markC, numberC};
+ghost use Rattle.expression.specs.Expressions.{quantityC};
 ghost use Rattle.statement.specs.Forms.{max32};
 ghost use Rattle.statement.specs.Reading.{inBracketsC, offsetC, insideC, addressC, operandC, namesC, offsetSeen, addressSeen, operandSeen, countSeen, tally, his, los};
-ghost use Rattle.reader.specs.Rows.{namedC};
+ghost use Rattle.reader.specs.Rows.{namedC, plainOffsetC};
 
 // The most names that a list has.
 const MOST: usize = statement::NAMES;
 
 // A number of 32 bits.
 pub fn number32(s: &[u8], k: Cursor) -> OffsetRead
+    ensures { λ r. ⌜ offsetSeen (now (s .entry)) r ≡ quantityC max32 (seen (now (s .entry)) k) ⌝ }
+{
+    let n = expression::quantity(s, k, statement::MAX32);
+    let v = n.value;
+    let next = n.next;
+    OffsetRead {
+        value: v as u32,
+        next,
+    }
+}
+
+// A number of 32 bits; what follows it is not looked at.
+fn plain32(s: &[u8], k: Cursor) -> OffsetRead
     ensures { λ r. ⌜ offsetSeen (now (s .entry)) r ≡ numberC max32 (seen (now (s .entry)) k) ⌝ }
 {
     let n = lexer::cursor::number(s, k, statement::MAX32);
@@ -65,16 +79,39 @@ pub fn offset(s: &[u8], k: Cursor) -> OffsetRead
     OffsetRead { value: 0, next: k }
 }
 
-// name ] or name + number ]
+// + and a number alone, or nothing, which is 0.
+fn plain_offset(s: &[u8], k: Cursor) -> OffsetRead
+    ensures { λ r. ⌜ offsetSeen (now (s .entry)) r ≡ plainOffsetC (seen (now (s .entry)) k) ⌝ }
+{
+    let d = lexer::cursor::mark(s, k, b'+');
+    if d.ok {
+        return plain32(s, d);
+    }
+    OffsetRead { value: 0, next: k }
+}
+
+// name ] or name + number ]. Most offsets are numbers alone, which the bracket behind them tells: these are read once.
 pub fn inside(s: &[u8], k: Cursor) -> AddressRead
     ensures { λ r. ⌜ addressSeen (now (s .entry)) r ≡ insideC (seen (now (s .entry)) k) ⌝ }
 {
     let n = lexer::cursor::name(s, k);
     let a = n.next;
+    let p = plain_offset(s, a);
+    let c = p.next;
+    let done = lexer::cursor::mark(s, c, b']');
+    let base = n.value;
+    if done.ok {
+        return AddressRead {
+            value: Address {
+                base,
+                offset: p.value,
+            },
+            next: done,
+        };
+    }
     let v = offset(s, a);
     let b = v.next;
     let next = lexer::cursor::mark(s, b, b']');
-    let base = n.value;
     AddressRead {
         value: Address {
             base,

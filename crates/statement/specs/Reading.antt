@@ -7,7 +7,8 @@ use lib.ListN.{length, take, drop}
 use lib.Dec.{leb}
 use Rattle.tokens.specs.declared.Name.{Name}
 use Rattle.tokens.specs.Bytes.{opcodeByte, runLen}
-use Rattle.tokens.specs.Cursors.{Rest, seen, off, Took, markC, endC, nameC, numberC}
+use Rattle.tokens.specs.Cursors.{Rest, seen, off, Took, markC, endC, nameC}
+use Rattle.expression.specs.Expressions.{quantityC}
 use Rattle.statement.specs.declared.Address.{Address}
 use Rattle.statement.specs.declared.Operand.{Operand}
 use Rattle.statement.specs.declared.Operand.the-variants as operand
@@ -30,9 +31,9 @@ use Rattle.statement.specs.Opcodes.{recognise}
 unfoldable pub inBracketsC : Rest → Took Name
 inBracketsC r = let n = nameC (markC (byte "[") r) in record { value = n .value; next = markC (byte "]") (n .next) }
 
--- + number, or nothing, which is 0
+-- + and a number or an expression, or nothing, which is 0
 unfoldable pub offsetC : Rest → Took ℕ
-offsetC r = let d = markC (byte "+") r in cond (d .ok) (numberC maxOffset d) (record { value = 0; next = r })
+offsetC r = let d = markC (byte "+") r in cond (d .ok) (quantityC maxOffset d) (record { value = 0; next = r })
 
 -- name ] or name + number ]
 unfoldable pub insideC : Rest → Took Address
@@ -70,7 +71,7 @@ namesC r =
 
 abbrev pub slotC : (k : Slot) → Rest → Took (Value k)
 slotC name r = nameC r
-slotC (number limit) r = numberC limit r
+slotC (number limit) r = quantityC limit r
 slotC inBrackets r = inBracketsC r
 slotC address r = addressC r
 slotC operand r = operandC r
