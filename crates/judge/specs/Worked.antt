@@ -199,6 +199,22 @@ mmas =
     (alloc512 ∷ "0\tmov.b32 i, 0x08400024;" ∷ shared ∷ "0\ttcgen05.mma.ws.sp.cta_group::1.kind::i8 [t], a, a, [t], i, p;" ∷ [], (20, 5, 59)) ∷
     []
 
+-- Where a number stands, an expression: 3 at the token at which none can go on, 4 and 9 at its start, 8 and 14 by its value.
+abbrev pub sums : List (List String × (ℕ × ℕ × ℕ))
+sums =
+    ("0\tmov.b32 x, +1;" ∷ [], (3, 2, 14)) ∷
+    ("0\tmov.b32 x, (((((((((((((((((1)))))))))))))))));" ∷ [], (3, 2, 30)) ∷
+    ("0\tmov.b32 x, 4294967296*4294967296*4294967296+;" ∷ [], (3, 2, 47)) ∷
+    ("0\tmov.b32 x, 2*-3;" ∷ [], (4, 2, 14)) ∷
+    ("0\tmov.b32 x,  (9223372036854775807+1)*0;" ∷ [], (4, 2, 15)) ∷
+    ("0\ttcgen05.ld.sync.aligned.32x32b.x1.b32 {r}, [t+(65536)*65536];" ∷ [], (4, 2, 49)) ∷
+    ("0\ttcgen05.alloc.cta_group::1.sync.aligned.b32 [t], 64+32;" ∷ [], (9, 2, 52)) ∷
+    (alloc64 ∷ "0\ttcgen05.dealloc.cta_group::1.sync.aligned.b32 t,  2*16;" ∷ [], (9, 3, 53)) ∷
+    (alloc64 ∷ "1\ttcgen05.ld.sync.aligned.32x32b.x1.b32 {r}, [t+32*65536-1];" ∷ [], (8, 3, 46)) ∷
+    (alloc64 ∷ "0\ttcgen05.ld.sync.aligned.32x32b.x1.b32 {r}, [t+8*8];" ∷ [], (14, 3, 46)) ∷
+    (alloc64 ∷ "1\ttcgen05.ld.sync.aligned.32x32b.x1.b32 {r}, [t+(32*65536)+63];" ∷ "1\ttcgen05.wait::ld.sync.aligned;" ∷ "0\ttcgen05.dealloc.cta_group::1.sync.aligned.b32 t, -(32-96);" ∷ exit ∷ [], (16, 6, 1)) ∷
+    []
+
 -- The sheet of docs/FORMAT.md, 'A sheet and its report': the whole answer with the wait of warp 1 after its load, and without it. 18 is at the opcode, and held is
 -- that before the line.
 abbrev pub upper : List String
@@ -235,5 +251,6 @@ pub record Worked : Type 0 where
   pub requests-are : Gives below requests
   pub accesses-are : Gives below accesses
   pub mmas-are : Gives below mmas
+  pub sums-are : Gives below sums
   pub wholes-are : Gives (λ lines. judgedOf (sheetOf lines) 3) wholes
   pub starts-are : startsAfter (sheetOf (upper ++ ("1\ttcgen05.wait::ld.sync.aligned;" ∷ lower))) (9 ∷ 9 ∷ 9 ∷ 9 ∷ []) ≡ starts ++ (9 ∷ [])
