@@ -133,8 +133,10 @@ pub fn long(line: &str) -> String {
         .replace("@fence", "tcgen05.fence");
     if line.contains("@mma") {
         line.replace("@mma", "tcgen05.mma").replacen('(', ".cta_group::1.kind::", 1).replacen(')', "", 1)
-    } else {
+    } else if line.contains("@ld(") || line.contains("@st(") {
         line.replace("@ld(", "tcgen05.ld.sync.aligned.").replace("@st(", "tcgen05.st.sync.aligned.").replacen(')', ".b32", 1)
+    } else {
+        line
     }
 }
 
@@ -420,7 +422,6 @@ fn numbers(e: &mut Entries) {
     three("over-with-two-ends", "0|mov.b32 x, 4294967296;^;");
     three("number-0x", "0|mov.b32 x, ^0x;");
     three("number-0x1g", "0|mov.b32 x, ^0x1g;");
-    three("number-minus", "0|mov.b32 x, ^-1;");
     three("number-plus", "0|mov.b32 x, ^+1;");
     e.refused("alloc-largest-number", &["0|@alloc [t], ^4294967295;"], [9, 2, 0, 0]);
     e.passed("alloc-hex", &["0|@alloc [t], 0x40;", "0|@dealloc t, 0X040;", "0|exit;"], 64, &[0]);

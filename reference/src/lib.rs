@@ -15,6 +15,7 @@ pub mod run;
 pub mod sheet;
 pub mod statement;
 
+mod expression;
 mod ledger;
 mod reader;
 mod writer;

@@ -2,16 +2,17 @@
 //!
 //! Inside this file `None` means that no form matches; the cursor then stands at
 //! the token, or strange byte, where none can go on, or at the end of the text. A
-//! number that is too large does not stop the reading: it is noted and answered
+//! number that is out of range does not stop the reading: it is noted and answered
 //! at the end, so that a fault of form anywhere in the text comes before it.
 
 use crate::descriptor::Kind;
+use crate::expression::{Expression, Number, Operator};
 use crate::name::{is_name_byte, is_proper, Name};
 use crate::statement::{registers, Address, Operand, Part, Shape, Statement, Verdict};
-use crate::statement::{LONGEST_LIST, LONGEST_STATEMENT, NO_FORM, NUMBER_TOO_LARGE};
+use crate::statement::{LONGEST_LIST, LONGEST_STATEMENT, NO_FORM, OUT_OF_RANGE};
 
 /// Reads one statement. `Err(3)` when no form matches, else `Err(4)` when a
-/// number is too large.
+/// number is out of range.
 pub fn read(text: &[u8]) -> Result<Statement, u32> {
     match read_placed(text) {
         Ok((statement, _)) => Ok(statement),
@@ -22,16 +23,16 @@ pub fn read(text: &[u8]) -> Result<Statement, u32> {
 /// Reads one statement, and where its operands stand. The column of a refusal
 /// counts from 1 at the first byte of the text.
 pub fn read_placed(text: &[u8]) -> Result<(Statement, Vec<Part>), Verdict> {
-    let mut cursor = Cursor { text, at: 0, parts: Vec::new(), too_large: None };
+    let mut cursor = Cursor { text, at: 0, parts: Vec::new(), out_of_range: None };
     let Some(statement) = read_form(&mut cursor) else {
         return Err(Verdict { reason: NO_FORM, column: cursor.at + 1, operand: None });
     };
     if text.len() > LONGEST_STATEMENT {
         return Err(Verdict { reason: NO_FORM, column: text.len() + 1, operand: None });
     }
-    if let Some(operand) = cursor.too_large {
+    if let Some(operand) = cursor.out_of_range {
         let column = cursor.parts[operand].number + 1;
-        return Err(Verdict { reason: NUMBER_TOO_LARGE, column, operand: Some(operand) });
+        return Err(Verdict { reason: OUT_OF_RANGE, column, operand: Some(operand) });
     }
     Ok((statement, cursor.parts))
 }
@@ -219,8 +220,8 @@ struct Cursor<'a> {
     at: usize,
     /// The operands so far, the one that is being read last.
     parts: Vec<Part>,
-    /// The first operand with a number over its limit.
-    too_large: Option<usize>,
+    /// The first operand with a number out of range.
+    out_of_range: Option<usize>,
 }
 
 impl<'a> Cursor<'a> {
@@ -286,23 +287,60 @@ impl<'a> Cursor<'a> {
         }
     }
 
-    /// A number up to the limit; for one over it, which is noted, 0.
+    /// A number, or an expression in its place, from 0 up to the limit; for another
+    /// value, which is noted, 0.
     fn number(&mut self, limit: u64) -> Option<u64> {
-        let word = self.word();
-        let start = self.at - word.len();
-        let Some(number) = read_number(word) else {
-            self.at = start;
-            return None;
-        };
+        self.peek();
         let operand = self.parts.len() - 1;
-        self.parts[operand].number = start;
-        match number {
-            Number::Fits(value) if value <= limit => Some(value),
-            _ => {
-                self.too_large.get_or_insert(operand);
-                Some(0)
-            }
+        self.parts[operand].number = self.at;
+        let value = self.expression()?.value();
+        if value.is_none_or(|value| value > limit) {
+            self.out_of_range.get_or_insert(operand);
+            return Some(0);
         }
+        value
+    }
+
+    /// The longest expression.
+    fn expression(&mut self) -> Option<Expression> {
+        let mut expression = Expression::default();
+        loop {
+            self.operand_of(&mut expression)?;
+            let operator = match self.peek() {
+                Some(b'+') => Operator::Plus,
+                Some(b'-') => Operator::Minus,
+                Some(b'*') => Operator::Times,
+                _ => return expression.is_whole().then_some(expression),
+            };
+            self.at += 1;
+            expression.operator(operator);
+        }
+    }
+
+    /// A number with what is opened right before it and closed right behind it.
+    fn operand_of(&mut self, expression: &mut Expression) -> Option<()> {
+        loop {
+            match self.peek() {
+                Some(b'(') => expression.open_parenthesis()?,
+                Some(b'-') => expression.open_minus()?,
+                _ => break,
+            }
+            self.at += 1;
+        }
+        expression.number(self.number_token()?);
+        while self.peek() == Some(b')') && expression.close().is_some() {
+            self.at += 1;
+        }
+        Some(())
+    }
+
+    fn number_token(&mut self) -> Option<Number> {
+        let word = self.word();
+        let number = read_number(word);
+        if number.is_none() {
+            self.at -= word.len();
+        }
+        number
     }
 
     fn number64(&mut self) -> Option<u64> {
@@ -323,7 +361,7 @@ impl<'a> Cursor<'a> {
         self.name()
     }
 
-    /// `[name]` or `[name+number]`
+    /// `[name]` or `[name+expression]`
     fn address(&mut self) -> Option<Address> {
         let name = self.bracketed_name()?;
         let offset = if self.mark(b'+').is_some() { self.number32()? } else { 0 };
@@ -351,14 +389,6 @@ impl<'a> Cursor<'a> {
             }
         }
     }
-}
-
-/// A number that was read, in any base.
-enum Number {
-    /// Its value.
-    Fits(u64),
-    /// It is over 2^64-1.
-    TooLarge,
 }
 
 /// The number that the whole word spells, if it spells one. What stands before the

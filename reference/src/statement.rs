@@ -7,8 +7,8 @@ pub use crate::writer::write;
 
 /// No form matches the text.
 pub const NO_FORM: u32 = 3;
-/// The form matches, but a number in it is too large.
-pub const NUMBER_TOO_LARGE: u32 = 4;
+/// The form matches, but a number in it is out of range.
+pub const OUT_OF_RANGE: u32 = 4;
 /// N is over the shape's largest, or the number of registers is another.
 pub const BAD_REGISTERS: u32 = 5;
 /// Writing: too little room, or a statement that no text could give.

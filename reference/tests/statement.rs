@@ -337,6 +337,7 @@ fn what_a_space_is() {
         let want = match byte {
             // 01 is octal, and 1 too
             b'0'..=b'9' => Ok(mov32("x", u64::from(byte - b'0') * 10 + 1)),
+            b'-' => Err(4),
             _ => Err(3),
         };
         assert_eq!(read(&text), want, "{byte}");
@@ -414,8 +415,7 @@ fn numbers() {
         reads(&format!("mov.b32 x, {text};"), mov32("x", value));
     }
     for bad in [
-        "08", "0x", "0X", "64u", "0b2", "-1", "+1", "", "1_0", "0x_1", "0xg", "x1", "1.0", "1e3", "0 x1", "$1", "%1", "0x1.0", "00x1",
-        "'1'",
+        "08", "0x", "0X", "64u", "0b2", "-", "+1", "", "1_0", "0x_1", "0xg", "x1", "1.0", "1e3", "0 x1", "$1", "%1", "0x1.0", "00x1", "'1'",
     ] {
         refused(&format!("mov.b32 x, {bad};"), 3);
         refused(&format!("mov.b64 x, {bad};"), 3);
@@ -886,7 +886,12 @@ fn spaces_and_tokens() {
         for strange in [".", "\t", "%", "@", "\"", "-", "(", "=", "<", "\u{7f}"] {
             let mut other = all.clone();
             other.insert(place, strange.to_string());
-            refused(&other.join(" "), 3);
+            let makes_negative = strange == "-" && place > 0 && all[place].starts_with(|c: char| c.is_ascii_digit());
+            if makes_negative {
+                assert_ne!(read(other.join(" ").as_bytes()), Err(3));
+            } else {
+                refused(&other.join(" "), 3);
+            }
         }
     }
 }
