@@ -892,7 +892,7 @@ pub fn damage(r: &mut Random, bytes: &mut Vec<u8>) {
         return;
     }
     let at = r.below(bytes.len() as u64) as usize;
-    let byte = if r.below(3) == 0 { r.next() as u8 } else { r.pick(b" ;,[]{}+0xbU189aZ_$%.:\t\n~") };
+    let byte = if r.below(3) == 0 { r.next() as u8 } else { r.pick(b" ;,[]{}+-*()0xbU189aZ_$%.:\t\n~") };
     match r.below(3) {
         0 => bytes[at] = byte,
         1 => {

@@ -163,7 +163,10 @@ fn wanted_name(wanted: &[Class]) -> &'static str {
     match wanted {
         [Class::Name, Class::Mark(b'[')] => "for a name or [",
         [Class::Name] => "for a name",
-        [Class::Number] => "for a number",
+        [Class::Number, ..] => "for an operand",
+        [.., Class::Mark(b'*'), Class::Mark(b')')] => "for an operator or )",
+        [.., Class::Mark(b'*'), Class::Mark(b']')] => "for an operator or ]",
+        [.., Class::Mark(b'*'), Class::Mark(b';')] => "for an operator or ;",
         [Class::Mark(b'+'), Class::Mark(b']')] => "for + or ]",
         [Class::Mark(b','), Class::Mark(b'}')] => "for , or }",
         [Class::Mark(b'[')] => "for [",
@@ -188,6 +191,10 @@ fn found_name(found: Class) -> &'static str {
         Class::Mark(b'{') => "found {",
         Class::Mark(b'}') => "found }",
         Class::Mark(b'+') => "found +",
+        Class::Mark(b'-') => "found -",
+        Class::Mark(b'*') => "found *",
+        Class::Mark(b'(') => "found (",
+        Class::Mark(b')') => "found )",
         Class::Mark(b',') => "found ,",
         Class::Mark(_) => "found ;",
     }
@@ -232,7 +239,7 @@ const OPCODES: [&str; 14] = [
 ];
 
 /// Tokens to be put where a form may not have them.
-const ODD: [&str; 60] = [
+const ODD: [&str; 61] = [
     "q7",
     "x",
     "%p",
@@ -290,6 +297,7 @@ const ODD: [&str; 60] = [
     "~",
     "/",
     "(",
+    ")",
     "\"",
     "=",
     "!",

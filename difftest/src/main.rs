@@ -1,19 +1,22 @@
-//! Compares the proved library with the reference: `words`, `fragments`, `statements` (`numbers` among them) and `sheets` with
-//! made inputs, `entries` with sheets whose answers were worked out by hand, `data` with the cases of a
+//! Compares the proved library with the reference: `words`, `fragments`, `statements` (`numbers` and `expressions` among them)
+//! and `sheets` with made inputs, `entries` with sheets whose answers were worked out by hand, `data` with the cases of a
 //! folder, of which `cases` writes most.
 
 mod cases;
 mod entries;
+mod expressions;
 mod faults;
 mod forms;
 mod fragments;
 mod maker;
 mod numbers;
+mod places;
 mod readings;
 mod sheets;
 mod spelling;
 mod statements;
 mod tokens;
+mod trees;
 mod words;
 
 fn main() {
@@ -24,12 +27,13 @@ fn main() {
         ["fragments", command] => fragments::run(command),
         ["statements"] => statements::run(),
         ["numbers"] => numbers::run(),
+        ["expressions"] => expressions::run(),
         ["sheets"] => sheets::run(),
         ["entries"] => entries::run(),
         ["cases", folder] => cases::write(folder.as_ref()),
         ["data", folder] => cases::compare(folder.as_ref()),
         _ => {
-            eprintln!("usage: difftest words|statements|numbers|sheets|entries, difftest fragments COMMAND, or difftest cases|data FOLDER");
+            eprintln!("usage: difftest words|statements|numbers|expressions|sheets|entries, difftest fragments COMMAND, or difftest cases|data FOLDER");
             std::process::exit(2);
         }
     };

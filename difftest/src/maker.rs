@@ -5,6 +5,7 @@
 
 use crate::spelling::{Number, Spelling, BASES};
 use crate::tokens::{Operand, Role, Spacing, Text};
+use crate::trees::{is_in_range, Operator, Style, Tree, LEVELS, MOST};
 use staplehorn_difftest::random::Random;
 use std::fmt::Write;
 
@@ -110,6 +111,9 @@ pub struct Maker<'a> {
     pub warp: Option<u64>,
     pub relinquished: bool,
     pub names_made: u32,
+    /// Whether expressions stand for some of the numbers, and how many do so far.
+    pub takes_expressions: bool,
+    pub expressions: u64,
     /// How many numbers were spelled in each base, without a `U` and with it.
     pub spelled: [[u64; 2]; BASES.len()],
     /// Where the tokens of the line made last start.
@@ -132,6 +136,8 @@ impl<'a> Maker<'a> {
             warp: None,
             relinquished: false,
             names_made: 0,
+            takes_expressions: false,
+            expressions: 0,
             spelled: [[0; 2]; BASES.len()],
             starts: Vec::new(),
         }
@@ -187,11 +193,44 @@ impl<'a> Maker<'a> {
         (self.booker() + 1 + self.r.below(3)) % 4
     }
 
-    /// Mostly the writer's decimals, else any spelling.
+    /// Mostly the writer's decimals, else any spelling, or an expression where they are taken.
     pub fn number(&mut self, n: u64) -> String {
+        if self.takes_expressions && is_in_range(n.into()) && self.one_in(2) {
+            let size = 1 + self.r.below(6) as u32;
+            let tree = Tree::of(self.r, n.into(), size);
+            return self.expression(&tree);
+        }
         let number = if self.one_in(3) { Spelling::any(self.r).of(n.into()) } else { n.to_string() };
         self.spelled(&number);
         number
+    }
+
+    /// The tokens of a tree without spaces. None has so many levels that one more would be too many.
+    fn expression(&mut self, tree: &Tree) -> String {
+        self.expressions += 1;
+        loop {
+            let written = tree.written(self.r, Style { needless: 8, spellings: true });
+            if written.deepest < LEVELS {
+                return written.tokens.concat();
+            }
+        }
+    }
+
+    /// An expression that is out of range: its result is over the limit or negative, or a partial result is over, whatever
+    /// comes behind it.
+    fn expression_over(&mut self, limit: u128) -> String {
+        let size = self.r.below(4) as u32;
+        let far = i128::from(self.r.below(1 << 40));
+        let limit = i128::try_from(limit).unwrap_or(i128::MAX);
+        let large = Tree::Number(MOST as u128 + 1 + far as u128);
+        let tree = match self.r.below(5) {
+            0 => Tree::of(self.r, -1 - far, size),
+            1 if is_in_range(limit + 1 + far) => Tree::of(self.r, limit + 1 + far, size),
+            2 => Tree::pair(Operator::Times, Tree::of(self.r, 0, size), large),
+            3 => Tree::pair(Operator::Minus, large, Tree::of(self.r, MOST, size)),
+            _ => Tree::pair(Operator::Plus, Tree::Number(MOST as u128), Tree::of(self.r, 1 + far, size)),
+        };
+        self.expression(&tree)
     }
 
     /// Keeps account of a number that was written.
@@ -201,9 +240,12 @@ impl<'a> Maker<'a> {
         self.spelled[place][usize::from(number.suffix)] += 1;
     }
 
-    /// A number over its limit, by a little or by far, in any spelling.
+    /// A number over its limit, by a little or by far, in any spelling, or such an expression.
     pub fn number_over(&mut self, wide: bool) -> String {
         let limit = if wide { u128::from(u64::MAX) } else { u128::from(u32::MAX) };
+        if self.takes_expressions && self.one_in(2) {
+            return self.expression_over(limit);
+        }
         let spelling = Spelling::any(self.r);
         let number = match self.r.below(4) {
             0 => spelling.of(limit + 1),
@@ -308,7 +350,7 @@ impl<'a> Maker<'a> {
         text.push("[", Role::Open(Operand::Only));
         text.push(name, Role::Name(Operand::Only));
         text.marks("],");
-        text.push(number, Role::Number(Operand::Only));
+        text.number(number, Operand::Only);
         text.marks(";");
         text
     }
@@ -500,7 +542,7 @@ impl<'a> Maker<'a> {
         if address.written.is_some() || address.offset != 0 || self.one_in(8) {
             let number = address.written.clone().unwrap_or_else(|| self.number(address.offset));
             text.marks("+");
-            text.push(&number, Role::Number(operand));
+            text.number(&number, operand);
         }
         text.marks("]");
     }
@@ -632,7 +674,7 @@ pub fn name_and_number(opcode: &str, name: &str, number: &str) -> Text {
     let mut text = Text::new(opcode);
     text.push(name, Role::Name(Operand::Only));
     text.marks(",");
-    text.push(number, Role::Number(Operand::Only));
+    text.number(number, Operand::Only);
     text.marks(";");
     text
 }

@@ -2,68 +2,22 @@
 //! Each text is read and written by both sides; a small account of its own (`known`) says what the answer must be wherever
 //! the bytes in the number's place settle it. A share of the texts are lines of whole sheets.
 
-use crate::sheets::{Proved, Reference, Side};
+use crate::places::{Known, Place, Texts, LONGEST, PLACES};
+use crate::sheets::{Proved, Side};
 use crate::spelling::{base_of, Number, Spelling, BASES, PREFIXES};
-use crate::statements::{shown, Comparison};
 use staplehorn_difftest::counts::Counts;
 use staplehorn_difftest::random::Random;
 
-/// Where a number stands: the canonical text around it, and the largest that is taken.
-struct Place {
-    name: &'static str,
-    before: &'static str,
-    after: &'static str,
-    limit: u64,
-}
-
-const NARROW: u64 = u32::MAX as u64;
-
-/// Every operand that is a number and every offset.
-const PLACES: [Place; 10] = [
-    Place { name: "mov.b32", before: "mov.b32 x, ", after: ";", limit: NARROW },
-    Place { name: "mov.b64", before: "mov.b64 x, ", after: ";", limit: u64::MAX },
-    Place { name: "alloc", before: "tcgen05.alloc.cta_group::1.sync.aligned.b32 [n], ", after: ";", limit: NARROW },
-    Place { name: "dealloc", before: "tcgen05.dealloc.cta_group::1.sync.aligned.b32 t, ", after: ";", limit: NARROW },
-    Place { name: "ld", before: "tcgen05.ld.sync.aligned.32x32b.x1.b32 {r}, [t+", after: "];", limit: NARROW },
-    Place { name: "st", before: "tcgen05.st.sync.aligned.16x64b.x1.b32 [t+", after: "], {r};", limit: NARROW },
-    Place { name: "mma d", before: "tcgen05.mma.cta_group::1.kind::f16 [t+", after: "], b, b, i, p;", limit: NARROW },
-    Place { name: "mma a", before: "tcgen05.mma.cta_group::1.kind::f16 [t], [t+", after: "], b, i, p;", limit: NARROW },
-    Place { name: "mma meta", before: "tcgen05.mma.sp.cta_group::1.kind::f16 [t], b, b, [t+", after: "], j, p;", limit: NARROW },
-    Place { name: "mma.ws d", before: "tcgen05.mma.ws.cta_group::1.kind::f16 [t+", after: "], [t], b, i, p;", limit: NARROW },
-];
-
-/// The sheet around a line: what the statements above name is there.
-const LINES_BEFORE: &str = concat!(
-    "sheet\t1\tsm_100a\n",
-    "0\ttcgen05.alloc.cta_group::1.sync.aligned.b32 [t], 256;\n",
-    "0\tmov.b64 b, 0x0000400800100000;\n",
-    "0\tmov.b32 i, 0x08100010;\n",
-    "0\tmov.b32 j, 0x08100014;\n",
-);
-const LINES_AFTER: &str = "0\ttcgen05.dealloc.cta_group::1.sync.aligned.b32 t, 256;\n0\texit;\n";
-/// The number of the line, what is held there, the number of the last line, and the bytes that a line may have.
-const LINE: u32 = 6;
-const HELD: u32 = 256;
-const LAST: u32 = 8;
-const LONGEST_LINE: usize = 2_048;
-/// The bytes that a statement may have.
-const LONGEST: usize = 4_096;
-/// What stands in a list before a call.
-const UNTOUCHED: u16 = 0xA5A5;
-
-/// What the rules say of a text: the reason, the column, and the value of a number that is not over its limit.
-struct Known {
-    reason: u32,
-    column: usize,
-    value: u128,
-}
-
-/// The answer for these bytes in the number's place; none where an early `]` leaves it to what follows.
+/// The answer for these bytes in the number's place; none where they make an expression, and where an early `]` leaves it
+/// to what follows.
 fn known(place: &Place, middle: &[u8]) -> Option<Known> {
-    let refused = |column| Some(Known { reason: 3, column, value: 0 });
+    let refused = |column| Some(Known::refused(3, column));
     let start = spaces(middle);
     let run = run_at(middle);
     let column = place.before.len() + start + 1;
+    if let Some(b'-' | b'(') = middle.get(start) {
+        return None;
+    }
     let Some(number) = Number::new(run) else {
         return refused(column);
     };
@@ -71,6 +25,7 @@ fn known(place: &Place, middle: &[u8]) -> Option<Known> {
     let gap = spaces(behind);
     let next = column + run.len() + gap;
     match behind.get(gap) {
+        Some(b'+' | b'-' | b'*') => None,
         Some(b';') if place.after == ";" => refused(next + 1),
         Some(b']') if place.after != ";" => None,
         Some(_) => refused(next),
@@ -80,8 +35,7 @@ fn known(place: &Place, middle: &[u8]) -> Option<Known> {
                 return refused(length + 1);
             }
             let value = number.value();
-            let over = value > place.limit.into();
-            Some(if over { Known { reason: 4, column, value: 0 } } else { Known { reason: 0, column: 0, value } })
+            Some(if value > place.limit.into() { Known::refused(4, column) } else { Known::taken(value) })
         }
     }
 }
@@ -96,16 +50,6 @@ fn run_at(middle: &[u8]) -> &str {
     let rest = &middle[spaces(middle)..];
     let length = rest.iter().take_while(|&&b| b.is_ascii_alphanumeric() || b == b'_' || b == b'$').count();
     std::str::from_utf8(&rest[..length]).expect("such bytes are letters, digits and two marks")
-}
-
-/// The writer's text for a value.
-fn canonical(place: &Place, value: u128) -> Vec<u8> {
-    let Place { before, after, .. } = place;
-    match before.strip_suffix('+') {
-        Some(address) if value == 0 => format!("{address}{after}"),
-        _ => format!("{before}{value}{after}"),
-    }
-    .into()
 }
 
 /// What the counts call a run: the base that it starts like, and whether it ends in a `U`.
@@ -135,32 +79,18 @@ fn letter(run: &str) -> Option<&'static str> {
 }
 
 struct Numbers<'a, S: Side> {
-    c: Comparison<'a, S>,
-    turn: u64,
+    texts: Texts<'a, S>,
 }
 
-impl<'a, S: Side> Numbers<'a, S> {
+impl<S: Side> Numbers<'_, S> {
     /// Compares the text that has these bytes in the place.
     fn number(&mut self, place: &Place, middle: &[u8]) {
-        let text = [place.before.as_bytes(), middle, place.after.as_bytes()].concat();
-        let (reason, column) = self.c.text(&text);
-        let known = known(place, middle);
-        if let Some(known) = &known {
-            let wanted = (known.reason, known.column);
-            self.c.counts.compare("known answers", known.reason, (reason, column), wanted, || shown(&text));
-            let wanted = if known.reason == 0 { canonical(place, known.value) } else { Vec::new() };
-            self.c.counts.compare("known texts", known.reason, &self.c.written, &wanted, || shown(&text));
-        }
+        let reason = self.texts.compare(place, &place.text(middle), known(place, middle));
         self.count(place, run_at(middle), reason);
-        self.turn += 1;
-        if self.turn % 7 == 0 {
-            self.sheet(place, &text, known);
-        }
     }
 
     fn count(&mut self, place: &Place, run: &str, reason: u32) {
-        let counts = &mut self.c.counts;
-        counts.seen(place.name, reason);
+        let counts = &mut self.texts.c.counts;
         let number = Number::new(run);
         if reason == 3 && number.is_some() {
             counts.seen("refused behind a number", 3);
@@ -183,24 +113,6 @@ impl<'a, S: Side> Numbers<'a, S> {
             if run != "0" && number.digits.len() > 1 && number.digits.starts_with('0') {
                 counts.seen("leading zeros, base", number.base);
             }
-        }
-    }
-
-    /// The statement as a line of a sheet: the answer, and the list.
-    fn sheet(&mut self, place: &Place, text: &[u8], known: Option<Known>) {
-        let sheet = [LINES_BEFORE.as_bytes(), b"0\t", text, b"\n", LINES_AFTER.as_bytes()].concat();
-        let (mut ours, mut theirs) = ([UNTOUCHED; 4], [UNTOUCHED; 4]);
-        let answered = self.c.side.judge(&sheet, &mut ours);
-        let wanted = Reference.judge(&sheet, &mut theirs);
-        self.c.counts.compare("sheets", wanted.0, (answered, ours), (wanted, theirs), || shown(text));
-        let laid_out = text.len() + 2 <= LONGEST_LINE && text.iter().all(|b| (32..127).contains(b));
-        if let (Some(known), true) = (known, laid_out) {
-            let all = match (known.reason, place.name) {
-                (0, "mov.b32" | "mov.b64") => [0, LAST, 0, 0, HELD, 1],
-                (0, _) => return,
-                (reason, _) => [reason, LINE, known.column as u32 + 2, HELD, HELD, 0],
-            };
-            self.c.counts.compare("known sheets", known.reason, wanted.1, all, || shown(text));
         }
     }
 
@@ -447,7 +359,7 @@ struct Amount {
 const ALL: Amount = Amount { values: &VALUES, turns: 200_000, longest: 4, changed: &[0, 1, 2, 3, 4, 5, 6, 7, 8, 9] };
 
 fn compare<S: Side>(side: &S, amount: &Amount) -> Counts {
-    let mut n = Numbers { c: Comparison::new(side), turn: 0 };
+    let mut n = Numbers { texts: Texts::new(side) };
     let mut r = Random::new(6);
     n.every_spelling(amount.values);
     n.all_runs(amount.longest);
@@ -460,7 +372,7 @@ fn compare<S: Side>(side: &S, amount: &Amount) -> Counts {
         n.damaged_spelling(&mut r);
         n.random_run(&mut r);
     }
-    n.c.counts
+    n.texts.c.counts
 }
 
 /// What must have been seen, and how often at least.
@@ -495,6 +407,7 @@ pub fn run() -> bool {
 #[cfg(test)]
 mod tests {
     use super::*;
+    use crate::sheets::Reference;
     use staplehorn_difftest::proved::Answer;
 
     const FEW: Amount = Amount { values: &[0, 52], turns: 2_000, longest: 3, changed: &[] };
@@ -670,5 +583,8 @@ mod tests {
         assert_eq!(answer("64;"), Some((3, 15, 0)));
         assert_eq!(answer("040000000000"), Some((4, 12, 0)));
         assert_eq!(known(&PLACES[4], b"1]").map(|known| known.reason), None);
+        for expression in ["-1", " (1)", "1+1", "1 - 1", "2*3"] {
+            assert_eq!(answer(expression), None);
+        }
     }
 }

@@ -1,6 +1,8 @@
 //! Statements and sheets with their answers, where the rules can be read in two ways: each is asked of both sides. A `^`
 //! stands before the byte that a refusal names and is itself no byte of the text.
 
+mod expressions;
+
 use crate::sheets::{Proved, Reference, Side};
 use staplehorn_difftest::counts::Counts;
 use staplehorn_reference::statement as reference;
@@ -68,6 +70,7 @@ fn rows() -> Vec<Row> {
         t.push((mov(&format!("{head}{}1", "0".repeat(900))), 0, "mov.b32 x, 1;".into()));
     }
     number_rows(&mut t);
+    expressions::rows(&mut t);
     // a wrong count of registers reads and is written
     t.push(("^tcgen05.ld.sync.aligned.32x32b.x4.b32 {r}, [t];".into(), 5, "tcgen05.ld.sync.aligned.32x32b.x4.b32 {r}, [t];".into()));
     t.push((load("{a, b}", "[t]"), 5, "tcgen05.ld.sync.aligned.32x32b.x1.b32 {a, b}, [t];".into()));
@@ -338,7 +341,7 @@ const THREE: [&str; 104] = [
     "mov.b32 x, 0b1^.1;",
     "mov.b32 x, 0x1^%;",
     "mov.b32 x, 0b10 ^2;",
-    "mov.b32 x, ^-1;",
+    "mov.b32 x, -^;",
     "mov.b32 x, ^+1;",
     "mov.b32 x, ^y;",
     "mov.b32 x, ^[y];",
@@ -398,7 +401,7 @@ const THREE: [&str; 104] = [
     "tcgen05.ld.sync.aligned.32x32b.x1.b32 {r ^s}, [t];",
     "tcgen05.ld.sync.aligned.32x32b.x1.b32 {r,^}, [t];",
     "tcgen05.ld.sync.aligned.32x32b.x1.b32 {r}, [t^-1];",
-    "tcgen05.ld.sync.aligned.32x32b.x1.b32 {r}, [t+1^+1];",
+    "tcgen05.ld.sync.aligned.32x32b.x1.b32 {r}, [t+1+^+1];",
     "tcgen05.ld.sync.aligned.32x32b.x1.b32 {r}, [t+^];",
     "tcgen05.st.sync.aligned.32x32b.x1.b32 [t]^;",
 ];
@@ -471,6 +474,7 @@ fn sheet_rows() -> Vec<Sheet> {
     wait_order_rows(&mut row);
     waits_between_rows(&mut row);
     spelling_rows(&mut row);
+    expressions::sheet_rows(&mut row);
     t
 }
 

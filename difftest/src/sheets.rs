@@ -250,8 +250,7 @@ impl<'a, S: Side> Comparison<'a, S> {
 
     /// The same, counted by what is at the column.
     fn placed(&mut self, m: &Maker, wanted: [u32; 5], fault: &Fault) {
-        self.spelled(m);
-        if let (true, reason) = self.made(&m.bytes, m.allocs, wanted) {
+        if let (true, reason) = self.spelled(m, wanted) {
             self.counts.place(reason, fault.what);
             if let Some(also) = fault.also {
                 self.counts.place(reason, also);
@@ -259,12 +258,19 @@ impl<'a, S: Side> Comparison<'a, S> {
         }
     }
 
-    /// Counts the numbers of a sheet by their spelling.
-    fn spelled(&mut self, m: &Maker) {
+    /// The same, and counts the numbers of the sheet by their spelling, and its expressions.
+    fn spelled(&mut self, m: &Maker, wanted: [u32; 5]) -> (bool, u32) {
+        let (good, reason) = self.made(&m.bytes, m.allocs, wanted);
+        if m.expressions > 0 {
+            self.counts.seen("with expressions", reason);
+            self.counts.seen("all with expressions", 0);
+            self.counts.seen_often("expressions", 0, m.expressions);
+        }
         for (base, [without, with]) in BASES.into_iter().zip(m.spelled) {
             self.counts.seen_often("numbers in base", base, without);
             self.counts.seen_often("numbers with U in base", base, with);
         }
+        (good, reason)
     }
 
     fn report(&mut self, sheet: &[u8], answer: Answer) {
@@ -441,6 +447,12 @@ fn shown(sheet: &[u8], places: usize) -> String {
 
 // kinds of sheets
 
+/// One sheet in three has expressions.
+fn maker(r: &mut Random) -> Maker<'_> {
+    let takes_expressions = r.below(3) == 0;
+    Maker { takes_expressions, ..Maker::new(r) }
+}
+
 /// Lines that pass. Most sheets are short.
 fn valid_lines(m: &mut Maker) {
     let count = match m.r.below(40) {
@@ -454,7 +466,7 @@ fn valid_lines(m: &mut Maker) {
 }
 
 fn valid<S: Side>(c: &mut Comparison<S>, r: &mut Random) {
-    let mut m = Maker::new(r);
+    let mut m = maker(r);
     m.may_relinquish = true;
     valid_lines(&mut m);
     m.exit();
@@ -463,15 +475,14 @@ fn valid<S: Side>(c: &mut Comparison<S>, r: &mut Random) {
 
 /// A sheet that passes, or has too short a list.
 fn passes<S: Side>(c: &mut Comparison<S>, m: &Maker) {
-    c.spelled(m);
-    if let (true, 16) = c.made(&m.bytes, m.allocs, [0, m.lines, 0, 0, m.peak]) {
+    if let (true, 16) = c.spelled(m, [0, m.lines, 0, 0, m.peak]) {
         c.counts.place(16, "short list");
     }
 }
 
 /// Loads, stores and waits on a few holdings: the first that is given back too early is refused, and else the sheet passes.
 fn careless<S: Side>(c: &mut Comparison<S>, r: &mut Random) {
-    let mut m = Maker::new(r);
+    let mut m = maker(r);
     for _ in 0..m.r.below(40) {
         if let Some(fault) = m.careless() {
             let wanted = [18, m.lines, fault.column, m.held(), m.peak];
@@ -485,7 +496,7 @@ fn careless<S: Side>(c: &mut Comparison<S>, r: &mut Random) {
 
 /// One line is aimed at a reason; what follows does not matter.
 fn one_fault<S: Side>(c: &mut Comparison<S>, r: &mut Random, reason: u32) {
-    let mut m = Maker::new(r);
+    let mut m = maker(r);
     valid_lines(&mut m);
     let Some(fault) = m.fault(reason) else {
         return;
@@ -520,7 +531,7 @@ fn tail(m: &mut Maker) {
 
 /// Faults in two lines: the earlier counts.
 fn two_faults<S: Side>(c: &mut Comparison<S>, r: &mut Random) {
-    let mut m = Maker::new(r);
+    let mut m = maker(r);
     valid_lines(&mut m);
     let (first, second) = (any_reason(m.r), any_reason(m.r));
     let Some(fault) = m.fault(first) else {
@@ -534,7 +545,7 @@ fn two_faults<S: Side>(c: &mut Comparison<S>, r: &mut Random) {
 
 /// A line with any number of faults, then the end.
 fn wild<S: Side>(c: &mut Comparison<S>, r: &mut Random) {
-    let mut m = Maker::new(r);
+    let mut m = maker(r);
     m.may_relinquish = m.r.below(2) == 0;
     valid_lines(&mut m);
     for _ in 0..1 + m.r.below(2) {
@@ -546,7 +557,7 @@ fn wild<S: Side>(c: &mut Comparison<S>, r: &mut Random) {
 
 /// Valid lines without an exit, or lines behind it.
 fn around_exit<S: Side>(c: &mut Comparison<S>, r: &mut Random) {
-    let mut m = Maker::new(r);
+    let mut m = maker(r);
     valid_lines(&mut m);
     match m.r.below(4) {
         0 => {
@@ -581,7 +592,7 @@ fn around_exit<S: Side>(c: &mut Comparison<S>, r: &mut Random) {
 
 /// A valid sheet with a few bytes changed anywhere.
 fn damaged<S: Side>(c: &mut Comparison<S>, r: &mut Random) {
-    let mut m = Maker::new(r);
+    let mut m = maker(r);
     m.may_relinquish = true;
     valid_lines(&mut m);
     m.exit();
@@ -594,7 +605,7 @@ fn damaged<S: Side>(c: &mut Comparison<S>, r: &mut Random) {
 
 /// A valid sheet with a byte changed, several times over, in one line or anywhere.
 fn changed_byte<S: Side>(c: &mut Comparison<S>, r: &mut Random) {
-    let mut m = Maker::new(r);
+    let mut m = maker(r);
     for _ in 0..m.r.below(8) {
         m.valid();
     }
@@ -607,7 +618,7 @@ fn changed_byte<S: Side>(c: &mut Comparison<S>, r: &mut Random) {
         let mut other = bytes.clone();
         let (from, to) = if turn < 6 { (before, after) } else { (0, bytes.len()) };
         let at = from + r.below((to - from) as u64) as usize;
-        other[at] = if r.below(3) == 0 { r.next() as u8 } else { r.pick(b" ;,[]{}+0xbU189aZ_$%.:~") };
+        other[at] = if r.below(3) == 0 { r.next() as u8 } else { r.pick(b" ;,[]{}+-*()0xbU189aZ_$%.:~") };
         c.lists(&other, allocs);
     }
 }
@@ -622,7 +633,7 @@ fn every_byte<S: Side>(c: &mut Comparison<S>) {
         "2\tmov.b64 b, 70403104571392;\n",
         "3\tmov.b32 i, 0b1000000100000000000000010000;\n",
         "3\tmov.b32 j, 01002000024U;\n",
-        "1\ttcgen05.ld.sync.aligned.32x32b.x2.b32 {r0, t0}, [t0+2097214];\n",
+        "1\ttcgen05.ld.sync.aligned.32x32b.x2.b32 {r0, t0}, [t0+(32*65536)+62];\n",
         "2\ttcgen05.st.sync.aligned.16x64b.x1.b32 [%t + 0X500000], {r};\n",
         "2\ttcgen05.wait::st.sync.aligned;\n",
         "1\ttcgen05.wait::ld.sync.aligned;\n",
@@ -630,14 +641,14 @@ fn every_byte<S: Side>(c: &mut Comparison<S>) {
         "0\ttcgen05.mma.sp.cta_group::1.kind::f16 [%t], [t0+070], b, [%t + 0B11110U], j, t0;\n",
         "0\ttcgen05.fence::after_thread_sync;\n",
         "0\ttcgen05.relinquish_alloc_permit.cta_group::1.sync.aligned;\n",
-        "0\ttcgen05.dealloc.cta_group::1.sync.aligned.b32 t0, 0100;\n",
+        "0\ttcgen05.dealloc.cta_group::1.sync.aligned.b32 t0, -(2-0102);\n",
         "0\ttcgen05.dealloc.cta_group::1.sync.aligned.b32 %t, 32;\n",
         "1\texit;\n",
     );
     c.made(sheet.as_bytes(), 2, [0, 18, 0, 0, 96]);
     for at in 0..sheet.len() {
         let mut bytes = sheet.as_bytes().to_vec();
-        for &byte in b" ;,[]{}+*01234589xXabBUutijZ_$%.:-~\t\n\0\x7f\x80" {
+        for &byte in b" ;,[]{}+*()01234589xXabBUutijZ_$%.:-~\t\n\0\x7f\x80" {
             bytes[at] = byte;
             c.lists(&bytes, 2);
         }
@@ -648,7 +659,7 @@ fn every_byte<S: Side>(c: &mut Comparison<S>) {
 
 /// A valid sheet with a line left out, doubled or moved.
 fn shuffled<S: Side>(c: &mut Comparison<S>, r: &mut Random) {
-    let mut m = Maker::new(r);
+    let mut m = maker(r);
     m.may_relinquish = true;
     valid_lines(&mut m);
     m.exit();
@@ -668,7 +679,7 @@ fn shuffled<S: Side>(c: &mut Comparison<S>, r: &mut Random) {
 
 /// A valid sheet with a wait left out, moved, of another warp or of the other sort.
 fn misplaced_wait<S: Side>(c: &mut Comparison<S>, r: &mut Random) {
-    let mut m = Maker::new(r);
+    let mut m = maker(r);
     for _ in 0..10 + m.r.below(30) {
         m.valid();
     }
@@ -710,7 +721,7 @@ fn noise<S: Side>(c: &mut Comparison<S>, r: &mut Random) {
 /// Too many bytes or lines: small lines, so that it is soon done.
 fn too_long<S: Side>(c: &mut Comparison<S>, r: &mut Random) {
     let extra = r.below(3) as usize;
-    let mut m = Maker::new(r);
+    let mut m = maker(r);
     for _ in 0..m.r.below(20) {
         m.valid();
     }
@@ -730,7 +741,7 @@ fn too_long<S: Side>(c: &mut Comparison<S>, r: &mut Random) {
 
 /// Good lines, some of them with faults behind, and too many bytes.
 fn too_many_bytes<S: Side>(c: &mut Comparison<S>, r: &mut Random) {
-    let mut m = Maker::new(r);
+    let mut m = maker(r);
     valid_lines(&mut m);
     let reason = any_reason(m.r);
     if m.r.below(2) == 0 {
@@ -745,7 +756,7 @@ fn too_many_bytes<S: Side>(c: &mut Comparison<S>, r: &mut Random) {
 
 /// A first line that is not the one wanted, before good lines.
 fn other_header<S: Side>(c: &mut Comparison<S>, r: &mut Random) {
-    let mut m = Maker::new(r);
+    let mut m = maker(r);
     valid_lines(&mut m);
     m.exit();
     let good = m.bytes.iter().position(|&b| b == b'\n').expect("the first line ends");
@@ -764,7 +775,7 @@ fn other_header<S: Side>(c: &mut Comparison<S>, r: &mut Random) {
 /// Sheets at the limits of bytes and lines, and one past them.
 fn at_limits<S: Side>(c: &mut Comparison<S>, r: &mut Random) {
     for bytes in [65_534, 65_535, 65_536, 65_537, 65_538, 70_000] {
-        let mut m = Maker::new(r);
+        let mut m = maker(r);
         let most = [0, 300, 30_000, 61_000][m.r.below(4) as usize];
         while m.bytes.len() < most {
             m.valid();
@@ -776,7 +787,7 @@ fn at_limits<S: Side>(c: &mut Comparison<S>, r: &mut Random) {
         }
     }
     for lines in [4_094, 4_095, 4_096, 4_097, 4_098] {
-        let mut m = Maker::new(r);
+        let mut m = maker(r);
         for _ in 0..m.r.below(60) {
             m.valid();
         }
@@ -808,7 +819,7 @@ fn at_limits<S: Side>(c: &mut Comparison<S>, r: &mut Random) {
 /// Lines, lists and tables at their limits.
 fn small_limits<S: Side>(c: &mut Comparison<S>, r: &mut Random) {
     for length in 2_046..=2_050 {
-        let mut m = Maker::new(r);
+        let mut m = maker(r);
         valid_lines(&mut m);
         let (held, peak, line) = (m.held(), m.peak, m.lines + 1);
         let text = match m.r.below(3) {
@@ -828,7 +839,7 @@ fn small_limits<S: Side>(c: &mut Comparison<S>, r: &mut Random) {
         c.made(&m.bytes, m.allocs, wanted);
     }
     for count in [126, 127, 128, 129, 130] {
-        let mut m = Maker::new(r);
+        let mut m = maker(r);
         m.alloc(512);
         let list = vec!["r"; count].join(",");
         let line = format!("0\ttcgen05.ld.sync.aligned.32x32b.x128.b32{{{list}}},[q];");
@@ -844,7 +855,7 @@ fn small_limits<S: Side>(c: &mut Comparison<S>, r: &mut Random) {
         c.made(&m.bytes, m.allocs, wanted);
     }
     for count in [127, 128, 129] {
-        let mut m = Maker::new(r);
+        let mut m = maker(r);
         for i in 0..count {
             m.raw(format!("1\tmov.b32 v{i}, {i};").as_bytes());
         }
@@ -853,7 +864,7 @@ fn small_limits<S: Side>(c: &mut Comparison<S>, r: &mut Random) {
         c.made(&m.bytes, m.allocs, wanted);
     }
     // as many allocs as bytes allow, so that the list is long
-    let mut m = Maker::new(r);
+    let mut m = maker(r);
     while m.bytes.len() < 63_000 {
         let columns = m.r.pick(&[32, 64, 128]);
         if !m.alloc(columns) {
@@ -954,6 +965,8 @@ fn wanted(sheets: u64) -> Vec<(&'static str, u32, u64)> {
         wanted.push((what, 0, sheets));
     }
     wanted.extend([("run, free starts", 1, 20), ("reports, short room", 19, 100)]);
+    wanted.extend([("all with expressions", 0, 80 * sheets), ("expressions", 0, 400 * sheets)]);
+    wanted.extend((0..=16).filter(|&reason| reason != 1).chain([18, 20, 21]).map(|reason| ("with expressions", reason, sheets / 2)));
     for base in BASES {
         wanted.extend([("numbers in base", base, 20 * sheets), ("numbers with U in base", base, 10 * sheets)]);
     }
@@ -987,10 +1000,17 @@ const PLACES: &[(u32, &str)] = &[
     (3, "for ]"),
     (3, "for a name"),
     (3, "for a name or ["),
-    (3, "for a number"),
+    (3, "for an operand"),
+    (3, "for an operator or )"),
+    (3, "for an operator or ;"),
+    (3, "for an operator or ]"),
     (3, "for {"),
     (3, "for }"),
+    (3, "found ("),
+    (3, "found )"),
+    (3, "found *"),
     (3, "found +"),
+    (3, "found -"),
     (3, "found ,"),
     (3, "found ;"),
     (3, "found ["),
@@ -1276,7 +1296,27 @@ mod tests {
 
     #[test]
     fn faults_in_columns_are_found() {
-        let faults: [(&str, AnswerFault); 14] = [
+        let faults: [(&str, AnswerFault); 18] = [
+            ("the number in an expression", |s, _, a| {
+                if a[0] == 4 && b"(-".contains(&line(s, a)[a[2] as usize - 1]) {
+                    a[2] += 1
+                }
+            }),
+            ("the number in a request", |s, _, a| {
+                if a[0] == 9 && b"(-".contains(&line(s, a)[a[2] as usize - 1]) {
+                    a[2] += 1
+                }
+            }),
+            ("no negative number", |s, _, a| {
+                if a[0] == 4 && line(s, a)[a[2] as usize - 1] == b'-' {
+                    a[0] = 3
+                }
+            }),
+            ("what stands before a mark of an expression", |s, _, a| {
+                if a[0] == 3 && line(s, a).get(a[2] as usize - 1).is_some_and(|mark| b"-*()".contains(mark)) {
+                    a[2] -= 1
+                }
+            }),
             ("counted from 0", |_, _, a| a[2] = a[2].saturating_sub(1)),
             ("a column on a pass", |_, _, a| {
                 if a[0] == 0 {

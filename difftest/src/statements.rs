@@ -1,8 +1,9 @@
-//! Statements: each text is read and written in its canonical form by both sides, in rooms of several lengths. Numbers have
-//! a comparison of their own (numbers.rs), which is run behind this one.
+//! Statements: each text is read and written in its canonical form by both sides, in rooms of several lengths. Numbers and
+//! expressions have comparisons of their own (numbers.rs, expressions.rs), which are run behind this one.
 
 use crate::sheets::{Proved, Reference, Side};
 use crate::spelling::Spelling;
+use crate::trees::{is_in_range, spaced as joined, Style, Tree};
 use staplehorn_difftest::counts::Counts;
 use staplehorn_difftest::random::Random;
 use staplehorn_reference::statement as reference;
@@ -73,7 +74,7 @@ fn column_name(text: &[u8], reason: u32, column: usize) -> &'static str {
         None => "column past the end",
         Some(_) if column == 1 => "column of the opcode",
         Some(b' ') => "column of a space",
-        Some(b'[' | b']' | b'{' | b'}' | b'+' | b',' | b';') => "column of a mark",
+        Some(b'[' | b']' | b'{' | b'}' | b'+' | b'-' | b'*' | b'(' | b')' | b',' | b';') => "column of a mark",
         Some(b'0'..=b'9') => "column of a digit",
         Some(b) if b.is_ascii_alphabetic() || matches!(b, b'_' | b'$' | b'%') => "column of a word",
         Some(_) => "column of a byte",
@@ -97,7 +98,7 @@ fn name(r: &mut Random) -> String {
     std::iter::once(first).chain((0..more).map(|_| r.pick(INNER))).map(char::from).collect()
 }
 
-/// A number in one of its spellings; `over` asks for one past the limit's end.
+/// A number in one of its spellings, or an expression; `over` asks for one past the limit's end.
 fn number(r: &mut Random, wide: bool, over: bool) -> String {
     let limit = if wide { u64::MAX } else { u64::from(u32::MAX) };
     let value: u128 = if over {
@@ -111,11 +112,21 @@ fn number(r: &mut Random, wide: bool, over: bool) -> String {
             _ => u128::from(r.next() & limit),
         }
     };
-    if r.below(3) == 0 {
-        format!("{value}")
-    } else {
-        Spelling::any(r).of(value)
+    match r.below(6) {
+        0 | 1 => format!("{value}"),
+        2 => expression(r, value, over),
+        _ => Spelling::any(r).of(value),
     }
+}
+
+/// An expression of this value where it can have it; `over` makes it a negative one now and then.
+fn expression(r: &mut Random, value: u128, over: bool) -> String {
+    let value = i128::try_from(value).unwrap_or(i128::MAX);
+    let value = if over && r.below(2) == 0 { -value } else { value };
+    let size = r.below(6) as u32;
+    let tree = if is_in_range(value) { Tree::of(r, value, size) } else { Tree::group(Tree::Number(value.unsigned_abs())) };
+    let tokens = tree.written(r, Style { needless: 8, spellings: true }).tokens;
+    joined(r, &tokens, 8).0.trim_start().into()
 }
 
 fn list(r: &mut Random, tokens: &mut Vec<String>, count: u64) {
@@ -254,7 +265,7 @@ fn damage(c: &mut Comparison<Proved>, r: &mut Random, text: &[u8]) {
     }
     let mut t = text.to_vec();
     let at = r.below(t.len() as u64) as usize;
-    let byte = if r.below(3) == 0 { r.next() as u8 } else { r.pick(b" ;,[]{}+0xbU189aZ_$%.:\t\n~") };
+    let byte = if r.below(3) == 0 { r.next() as u8 } else { r.pick(b" ;,[]{}+-*()0xbU189aZ_$%.:\t\n~") };
     match r.below(3) {
         0 => t[at] = byte,
         1 => {
@@ -339,12 +350,14 @@ fn limits(c: &mut Comparison<Proved>) {
 }
 
 /// Statements of each form, each byte of which is exchanged for every other, and left out.
-const GOOD: [&str; 18] = [
+const GOOD: [&str; 20] = [
     "mov.b32 x, 4294967295;",
     "mov.b32 x, 040U;",
     "mov.b64 x ,0B101U ;",
     "tcgen05.dealloc.cta_group::1.sync.aligned.b32 t0, 0b100000;",
     "mov.b64 %r1 , 0x1F;",
+    "mov.b64 x, -(2 - 65536*3)+4;",
+    "tcgen05.ld.sync.aligned.32x32b.x1.b32 {r}, [t0+(32*65536)+4];",
     "tcgen05.alloc.cta_group::1.sync.aligned.b32 [t0], 64;",
     "tcgen05.alloc.cta_group::1.sync.aligned.shared::cta.b32[ t ],0x20 ;",
     "tcgen05.dealloc.cta_group::1.sync.aligned.b32 t0, 512;",
@@ -401,16 +414,16 @@ pub fn run() -> bool {
         // bytes that are no statement
         let n = r.below(40) as usize;
         let noise: Vec<u8> =
-            (0..n).map(|_| if turn % 2 == 0 { r.next() as u8 } else { r.pick(b"exit mov.b32 tcgen05;,[]{}+0x1U") }).collect();
+            (0..n).map(|_| if turn % 2 == 0 { r.next() as u8 } else { r.pick(b"exit mov.b32 tcgen05;,[]{}+-*()0x1U") }).collect();
         c.text(&noise);
     }
     let mut wanted = vec![
         ("texts", 0, 1_000_000),
-        ("readings", 0, 480),
-        ("readings", 3, 600),
-        ("readings", 4, 80),
+        ("readings", 0, 790),
+        ("readings", 3, 1_100),
+        ("readings", 4, 300),
         ("readings", 5, 3),
-        ("readings, written", 0, 480),
+        ("readings, written", 0, 790),
         ("reason", 0, 200_000),
         ("reason", 3, 200_000),
         ("reason", 4, 20_000),
@@ -423,6 +436,7 @@ pub fn run() -> bool {
         ("column of a word", 3, 10_000),
         ("column of a byte", 3, 10_000),
         ("column of a digit", 4, 20_000),
+        ("column of a mark", 4, 2_000),
         ("canonical", 0, 400_000),
         ("canonical", 3, 200_000),
         ("canonical", 4, 20_000),
@@ -430,5 +444,6 @@ pub fn run() -> bool {
     ];
     wanted.extend((0..13).map(|form| ("form", form, 10_000)));
     let good = c.counts.finish("statements", &wanted);
-    crate::numbers::run() && good
+    let numbers = crate::numbers::run();
+    crate::expressions::run() && numbers && good
 }

@@ -21,7 +21,10 @@ pub enum Role {
     /// The `[` of an address.
     Open(Operand),
     Name(Operand),
+    /// A number, or the first token of an expression in its place.
     Number(Operand),
+    /// Another token of an expression.
+    More,
     Register,
     Predicate,
     Mark,
@@ -67,6 +70,17 @@ impl Text {
     pub fn push(&mut self, token: &str, role: Role) {
         self.bytes.push_str(token);
         self.tokens.push((self.bytes.len(), role));
+    }
+
+    /// A number or an expression without spaces.
+    pub fn number(&mut self, expression: &str, operand: Operand) {
+        let mut role = Role::Number(operand);
+        let mut rest = expression;
+        while !rest.is_empty() {
+            let length = rest.find(|c| !is_word(c)).unwrap_or(rest.len()).max(1);
+            self.push(&rest[..length], role);
+            (role, rest) = (Role::More, &rest[length..]);
+        }
     }
 
     /// Each character is a token.
@@ -148,19 +162,43 @@ impl Text {
     pub fn wanted(&self, place: usize) -> Vec<Class> {
         let marks = |marks: &[u8]| marks.iter().map(|&mark| Class::Mark(mark)).collect();
         let token = self.token(place);
+        if let Some(wanted) = self.wanted_in_expression(place) {
+            return wanted;
+        }
         match (self.role(place), self.role(place - 1)) {
             (Role::Open(Operand::A) | Role::Name(Operand::A), before) if !matches!(before, Role::Open(_)) => {
                 vec![Class::Name, Class::Mark(b'[')]
             }
             (Role::Open(_), _) => marks(b"["),
             (Role::Name(_) | Role::Register | Role::Predicate, _) => vec![Class::Name],
-            (Role::Number(_), _) => vec![Class::Number],
             (_, Role::Register) if self.registers(place) == 128 => marks(b"}"),
             (_, Role::Register) => marks(b",}"),
             // an offset may follow a name in brackets, but for the one of an alloc
             (_, Role::Name(_)) if matches!(token, "+" | "]") && !self.token(0).starts_with("tcgen05.alloc") => marks(b"+]"),
             _ => marks(token.as_bytes()),
         }
+    }
+
+    /// The classes where an expression starts or goes on, or ends before this place.
+    fn wanted_in_expression(&self, place: usize) -> Option<Vec<Class>> {
+        let is_first = matches!(self.role(place), Role::Number(_));
+        if !is_first && !matches!(self.role(place - 1), Role::Number(_) | Role::More) {
+            return None;
+        }
+        let before = self.token(place - 1);
+        if is_first || class(before) != Class::Number && before != ")" {
+            return Some(vec![Class::Number, Class::Mark(b'-'), Class::Mark(b'(')]);
+        }
+        let start = (0..place).rfind(|&place| matches!(self.role(place), Role::Number(_)))?;
+        let count = |mark: &str| (start..place).filter(|&place| self.token(place) == mark).count();
+        let end = if count("(") > count(")") {
+            b')'
+        } else if self.token(start - 1) == "+" {
+            b']'
+        } else {
+            b';'
+        };
+        Some([b'+', b'-', b'*', end].map(Class::Mark).into())
     }
 
     /// How many registers stand before this place.
@@ -183,7 +221,7 @@ fn run_together(before: &str, is_opcode: bool, token: &str) -> bool {
 /// The class of a token behind the opcode.
 pub fn class(token: &str) -> Class {
     let bytes = token.as_bytes();
-    if bytes.len() == 1 && b"[]{}+,;".contains(&bytes[0]) {
+    if bytes.len() == 1 && b"[]{}+-*(),;".contains(&bytes[0]) {
         return Class::Mark(bytes[0]);
     }
     let run = token.trim_start_matches('%');
