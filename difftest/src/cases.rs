@@ -54,32 +54,45 @@ fn all() -> BTreeMap<String, Vec<u8>> {
             cases.insert(entry.name, entry.sheet);
         }
     }
+    for entry in entries::all().into_iter().filter(|e| e.name.starts_with(EXPRESSIONS)) {
+        cases.insert(entry.name, entry.sheet);
+    }
     let mut r = Random::new(5);
     for reason in (2..=15).chain([18, 20, 21]) {
         for number in 0..2 {
-            cases.insert(format!("made-{reason}-{number}"), faulty(&mut r, reason));
+            cases.insert(format!("made-{reason}-{number}"), faulty(&mut r, reason, false));
         }
     }
     for (number, lines) in [3, 5, 8, 12, 20, 30, 40, 60, 90, 120, 200, 300].into_iter().enumerate() {
-        cases.insert(format!("made-passes-{number}"), passing(&mut r, lines));
+        cases.insert(format!("made-passes-{number}"), passing(&mut r, lines, false));
     }
     cases.insert("made-many-allocs".into(), many_allocs(&mut r));
+    for number in 0..4 {
+        cases.insert(format!("{EXPRESSIONS}made-passes-{number}"), passing(&mut r, 5 + 10 * number, true));
+        for reason in [3, 4, 9, 14] {
+            cases.insert(format!("{EXPRESSIONS}made-{reason}-{number}"), faulty(&mut r, reason, true));
+        }
+    }
     cases
 }
 
-/// Entries with this reason, evenly chosen when there are many.
+/// Entries whose names start so all become cases.
+const EXPRESSIONS: &str = "expression-";
+
+/// Other entries with this reason, evenly chosen when there are many.
 fn some_entries(reason: u32) -> Vec<Entry> {
     let is_limit = |name: &str| matches!(name, "bytes-65536" | "bytes-65537" | "lines-4096" | "lines-4097");
     let mut entries = entries::all();
+    entries.retain(|e| !e.name.starts_with(EXPRESSIONS));
     entries.retain(|e| e.answer[0] == reason && (e.sheet.len() < LARGE || is_limit(&e.name)));
     let (total, most) = (entries.len(), if reason == 0 { PASSED } else { REFUSED });
     let is_chosen = |place: usize, name: &str| place * most % total < most || is_limit(name) || name.starts_with("given-whole");
     entries.into_iter().enumerate().filter(|(place, e)| is_chosen(*place, &e.name)).map(|(_, e)| e).collect()
 }
 
-fn faulty(r: &mut Random, reason: u32) -> Vec<u8> {
+fn faulty(r: &mut Random, reason: u32, takes_expressions: bool) -> Vec<u8> {
     loop {
-        let mut m = Maker::new(r);
+        let mut m = Maker { takes_expressions, ..Maker::new(r) };
         for _ in 0..m.r.below(15) {
             m.valid();
         }
@@ -90,8 +103,8 @@ fn faulty(r: &mut Random, reason: u32) -> Vec<u8> {
     }
 }
 
-fn passing(r: &mut Random, lines: u32) -> Vec<u8> {
-    let mut m = Maker::new(r);
+fn passing(r: &mut Random, lines: u32, takes_expressions: bool) -> Vec<u8> {
+    let mut m = Maker { takes_expressions, ..Maker::new(r) };
     m.may_relinquish = lines % 20 == 0;
     while m.lines < lines {
         m.valid();
@@ -139,6 +152,9 @@ fn try_compare(folder: &Path) -> io::Result<bool> {
         let (returned, length) = Proved.report(&sheet, &mut room);
         let ours = (returned, &room[..length.min(ROOM)]);
         counts.compare("cases", reason, ours, (reason, &wanted), || name.clone());
+        if name.starts_with(EXPRESSIONS) {
+            counts.seen("cases of expressions", reason);
+        }
         counts.compare("cases, reference", reason, report(&sheet), wanted.clone(), || name.clone());
         if reason == 0 {
             for step in steps(&sheet).unwrap_or_default() {
@@ -147,6 +163,7 @@ fn try_compare(folder: &Path) -> io::Result<bool> {
         }
     }
     let mut least: Vec<_> = (0..=15).chain([18, 20, 21]).map(|reason| ("cases", reason, 2)).collect();
+    least.extend([("cases of expressions", 0, 20), ("cases of expressions", 3, 20), ("cases of expressions", 4, 20)]);
     least.extend((0..FORMS).map(|form| ("forms in passed cases", form, 2)));
     Ok(counts.finish("data", &least) && whole)
 }

@@ -47,8 +47,8 @@ pub fn run() -> bool {
     counts.compare("version", 0, proved::version(), VERSION, || "the library's number".into());
     let mut wanted: Vec<_> = (0..=16).chain([18, 20, 21]).map(|reason| ("entries", reason, 2)).collect();
     wanted.extend([
-        ("readings of columns", 3, 70),
-        ("readings of columns", 4, 20),
+        ("readings of columns", 3, 80),
+        ("readings of columns", 4, 25),
         ("readings of columns", 6, 8),
         ("readings of columns", 9, 10),
         ("readings of columns", 18, 40),

@@ -6,6 +6,7 @@
 //! list of five names. A `^` stands before the byte that a refusal points at and is
 //! itself no byte of the sheet.
 
+mod expressions;
 mod outstanding;
 
 use crate::sheet::HEADER;
@@ -38,6 +39,7 @@ pub fn all() -> Vec<Entry> {
     bases(&mut e);
     unsigned(&mut e);
     no_numbers(&mut e);
+    expressions::all(&mut e);
     forms(&mut e);
     register_lists(&mut e);
     names_bound(&mut e);

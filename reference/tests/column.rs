@@ -430,6 +430,11 @@ fn some_form_goes_on_up_to_the_column() {
             }
         }
     }
+    // what is open in an expression is closed
+    for count in 0..=16 {
+        let closes = ")".repeat(count);
+        ends.extend(["", "1"].map(|operand| format!("{operand}{closes};").into_bytes()));
+    }
     ends.sort_by_key(|end| (end.len(), end.clone()));
     ends.dedup();
     for text in texts() {
