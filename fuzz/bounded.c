@@ -22,7 +22,7 @@ static size_t mutated(size_t n) {
     switch (below(6)) {
     case 0: bytes[at] = (uint8_t)below(256); return n;
     case 1: bytes[at] ^= (uint8_t)(1u << below(8)); return n;
-    case 2: bytes[at] = (uint8_t)" \t\n0123456789[]{},;+._:$%*abrtxBUX"[below(34)]; return n;
+    case 2: bytes[at] = (uint8_t)" \t\n0123456789[]{},;+-*()._:$%abrtxBUX"[below(37)]; return n;
     case 3: memmove(bytes + at, bytes + at + 1, n - at - 1); return n - 1;
     case 4: {
         uint32_t part = 1 + below(64);
