@@ -1284,7 +1284,8 @@ mod tests {
 
     /// The line that the answer names.
     fn line<'a>(sheet: &'a [u8], a: &Answer) -> &'a [u8] {
-        Lines::new(sheet).nth(a[1] as usize - 1).map_or(b"", |line| line.bytes)
+        let lines = Lines::new(sheet).take(a[1] as usize);
+        lines.last().map_or(b"", |line| line.bytes)
     }
 
     /// Puts the column on the first such byte of the line, or leaves it.

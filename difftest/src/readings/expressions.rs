@@ -170,6 +170,18 @@ fn wide_rows(t: &mut Vec<Row>) {
 }
 
 pub fn sheet_rows(row: Put) {
+    number_rows(row);
+    offset_rows(row);
+    let deep = |count| format!("0|mov.b32 x, {}^{}1{};", "(".repeat(16), "(".repeat(count), ")".repeat(16 + count));
+    row(&[&deep(1)], 3, 0, 0);
+    row(&[&deep(0).replace('^', ""), EXIT], 0, 0, 0);
+    // after exit a line is still read
+    row(&[EXIT, "0|mov.b32 x, ^-1;"], 4, 0, 0);
+    row(&[EXIT, "0|mov.b32 x, 1+^;"], 3, 0, 0);
+    row(&[EXIT, "^0|mov.b32 x, 1+1;"], 15, 0, 0);
+}
+
+fn number_rows(row: Put) {
     row(&["0|mov.b32 x, ^+1;"], 3, 0, 0);
     row(&["0|mov.b32 x, ^-1;"], 4, 0, 0);
     row(&["0|mov.b32 x, -4611686018427387904*2+9223372036854775807+1;", EXIT], 0, 0, 0);
@@ -185,7 +197,10 @@ pub fn sheet_rows(row: Put) {
     for (alloc, dealloc) in [("2*16", "(64-32)"), ("--32", "0x40-040"), ("(32)", "32+0*5")] {
         row(&[&format!("0|@alloc [t], {alloc};"), &format!("0|@dealloc t, {dealloc};"), EXIT], 0, 0, 32);
     }
-    // the column of the address, of the expression, and of what is behind
+}
+
+/// The column of the address, of the expression, and of what is behind.
+fn offset_rows(row: Put) {
     row(&[A32, "0|@load ^[t+31+1];"], 14, 32, 32);
     row(&[A32, "0|@load ^[t+2*65536];"], 8, 32, 32);
     row(&["0|@load [t+^(65536)*65536];"], 4, 0, 0);
@@ -205,11 +220,4 @@ pub fn sheet_rows(row: Put) {
     row(&[A64, B, I, "0|@mma [t+8*0], [t+(7)*8], b, i, p;", D64, EXIT], 0, 0, 64);
     row(&[A64, B, I, "0|@mma [t+1-1], ^[t+7*8+1], b, i, p;"], 14, 64, 64);
     row(&[A64, B, "0|mov.b32 i, (8*65536+0x1000)*0x100+16;", "0|@mma [t], b, b, i, p;", D64, EXIT], 0, 0, 64);
-    // after exit a line is still read
-    row(&[EXIT, "0|mov.b32 x, ^-1;"], 4, 0, 0);
-    row(&[EXIT, "0|mov.b32 x, 1+^;"], 3, 0, 0);
-    row(&[EXIT, "^0|mov.b32 x, 1+1;"], 15, 0, 0);
-    let deep = |count| format!("0|mov.b32 x, {}^{}1{};", "(".repeat(16), "(".repeat(count), ")".repeat(16 + count));
-    row(&[&deep(1)], 3, 0, 0);
-    row(&[&deep(0).replace('^', ""), EXIT], 0, 0, 0);
 }
