@@ -118,7 +118,7 @@ pub enum Number {
 impl Number {
     /// The number that a text spells as in a sheet; one over 32 bits is taken as it is spelled.
     pub fn parse(text: &str) -> Result<Number, Fault> {
-        match number::b32(text) {
+        match number::plain32(text) {
             Err(Fault::Large(_)) => Ok(Number::Large(text.into())),
             read => read.map(Number::Small),
         }

@@ -3,6 +3,7 @@
 
 pub mod command;
 pub mod explain;
+pub mod expression;
 pub mod fragment;
 pub mod history;
 pub mod number;

@@ -320,28 +320,183 @@ fn runs_that_are_no_numbers_and_no_names() {
     );
 }
 
+const LOAD: &str = "tcgen05.ld.sync.aligned.32x32b.x1.b32 {r}, ";
+
+/// What is not taken in an expression, and what it would come to; a name that is moved a number is that number.
 #[test]
-fn sums() {
-    let ld = |offset: &str| format!("tcgen05.ld.sync.aligned.32x32b.x1.b32 {{r}}, [t{offset}];");
-    for (offset, text, right) in [
-        ("+4+8", "4+8", "+12"),
-        ("+(0*65536)+4", "(0*65536)+4", "+4"),
-        ("+2*16", "2*16", "+32"),
-        ("+1<<3", "1<<3", "+8"),
-        ("+8-4", "8-4", "+4"),
+fn operators_that_are_not_taken() {
+    let ld = |offset: &str| format!("{LOAD}[t{offset}];");
+    for (offset, mark, right) in [
+        ("+1<<3", "<<", "+8"),
+        ("+(1)<<3|4", "<<", "+12"),
+        ("+64/2", "/", "+32"),
+        ("+100 % 32", "%", "+4"),
+        ("+100%32", "%", "+4"),
+        ("+2*(64>>1)", ">>", "+64"),
+        ("+7&3", "&", "+3"),
     ] {
-        check(&[(&ld(offset), &format!("`{text}` is an expression; only one number is read"), Some(&ld(right)))]);
+        check(&[(&ld(offset), &format!("`{mark}` is not taken in an expression"), Some(&ld(right)))]);
     }
-    let negative = "`-4` is negative; numbers and offsets below 0 are not read in this version";
     check(&[
-        (&ld("-4"), negative, None),
-        (&ld("+-4"), negative, None),
-        ("mov.b32 y, -4;", negative, Some("mov.b32 y, 0xFFFFFFFC;")),
-        ("mov.b64 y, -4;", negative, Some("mov.b64 y, 0xFFFFFFFFFFFFFFFC;")),
-        ("mov.b32 y, (1<<4)|3;", "`(1<<4)|3` is an expression; only one number is read", Some("mov.b32 y, 19;")),
-        ("mov.b32 y, -2147483649;", &negative.replace("-4", "-2147483649"), None),
-        ("mov.b32 y, ~3;", "`~3` is an expression; only one number is read", None),
+        ("mov.b32 y, (1<<4)|3;", "`<<` is not taken in an expression", Some("mov.b32 y, 19;")),
+        ("mov.b32 y, ~3;", "`~` is not taken in an expression", None),
+        ("mov.b32 y, 1<<99;", "`<<` is not taken in an expression", None),
+        ("mov.b32 y, 1==2;", "`==` is not taken in an expression", None),
+        ("mov.b32 y, 2*x;", "`x` stands where a number must be written out", Some("mov.b32 y, 2*1;")),
+        ("mov.b32 y, 2*x8;", "`x8` stands where a number must be written out", None),
+        ("mov.b32 y, 2*1.5;", "`1.5` has a point; only whole numbers are read", None),
+        ("mov.b32 y, 2*08;", "`08` is no number: a leading zero means octal, which has the digits 0 to 7", Some("mov.b32 y, 2*8;")),
     ]);
+    assert!(notes_of("mov.b32 y, 64/2;").contains("an expression has `+`, `-`, `*`, a minus before a number, and parentheses"));
+    assert!(notes_of("mov.b32 y, 64/2;").contains("what could stand there: `;`, `+`, `-` or `*`, as in `mov.b32 x, 1;`"));
+}
+
+#[test]
+fn signs_before_numbers() {
+    let plus = "a `+` stands where a number must begin: a number has no plus before it";
+    let behind = "stands behind a name; an offset follows a `+`, and one below 0 is not read in this version";
+    check(&[
+        ("mov.b32 y, +1;", plus, Some("mov.b32 y, 1;")),
+        ("mov.b32 y, 1++ +2;", plus, Some("mov.b32 y, 1+2;")),
+        ("mov.b32 y, (+1);", plus, Some("mov.b32 y, (1);")),
+        (&format!("{LOAD}[t++4];"), plus, Some(&format!("{LOAD}[t+4];"))),
+        (&format!("{LOAD}[t-4];"), &format!("`-4` {behind}"), None),
+        (&format!("{LOAD}[t - 4*2];"), &format!("`- 4*2` {behind}"), None),
+        (&format!("{LOAD}[t-4+8];"), "the offset `-4+8` has no `+` before it", Some(&format!("{LOAD}[t+-4+8];"))),
+        (
+            &format!("{LOAD}[t*4];"),
+            "`*4` stands behind a name: a name is no part of an expression, and only `+` and an offset follow it",
+            None,
+        ),
+        ("mov.b32 y, 2**3;", "a `*` stands after a `*`, and no number between them", None),
+        ("mov.b32 y, *3;", "a `*` stands where a number must stand", None),
+    ]);
+    assert_eq!(
+        help_of("mov.b32 y, 2**3;"),
+        "a power is not taken: an expression has `+`, `-`, `*`, a minus before a number, and parentheses"
+    );
+}
+
+#[test]
+fn parentheses() {
+    check(&[
+        ("mov.b32 y, (1+(2*3;", "2 `(` are not closed", Some("mov.b32 y, (1+(2*3));")),
+        ("mov.b32 y, (1+(2*3", "2 `(` are not closed", Some("mov.b32 y, (1+(2*3));")),
+        (&format!("{LOAD}[t+(1];"), "a `(` is not closed", Some(&format!("{LOAD}[t+(1)];"))),
+        ("mov.b32 y, --(4;", "a `(` is not closed", Some("mov.b32 y, --(4);")),
+        ("mov.b32 y, 1);", "a `)` stands here that closes nothing", Some("mov.b32 y, 1;")),
+        ("mov.b32 y, 1+2) );", "a `)` stands here that closes nothing", Some("mov.b32 y, 1+2;")),
+        ("mov.b32 y, ();", "the parentheses are empty", None),
+        ("mov.b32 y, 4+( );", "the parentheses are empty", None),
+        ("mov.b32 y, (;", "a number is missing after the `(`", None),
+        ("mov.b32 y, 4+;", "a number is missing after the `+`", Some("mov.b32 y, 4;")),
+        ("mov.b32 y, (4 * );", "a number is missing after the `*`", Some("mov.b32 y, (4);")),
+        (&format!("{LOAD}[t+4+];"), "a number is missing after the `+`", Some(&format!("{LOAD}[t+4];"))),
+        ("mov.b32 y, -;", "a number is missing after the `-`", None),
+        ("mov.b32 y, 1 2;", "`2` stands behind a number, and no operator between them", Some("mov.b32 y, 12;")),
+        ("mov.b32 y, (1)2;", "`2` stands behind a number, and no operator between them", None),
+        ("mov.b32 y, (1)(2);", "`(` stands behind a number, and no operator between them", Some("mov.b32 y, (1)*(2);")),
+        (&format!("{LOAD}[t+2(3)];"), "`(` stands behind a number, and no operator between them", Some(&format!("{LOAD}[t+2*(3)];"))),
+    ]);
+    let spans = |statement: &str| said(statement).related.iter().map(|span| (span.line, span.from, span.to)).collect::<Vec<_>>();
+    assert_eq!(spans("mov.b32 y, (1+(2*3;"), [(6, 14, 15), (6, 17, 18)]);
+    assert_eq!((spans("mov.b32 y, 4+( );"), spans("mov.b32 y, 4 * ;")), (vec![(6, 16, 17)], vec![(6, 16, 17)]));
+}
+
+/// The place of the 17th level, and where the outermost opened.
+#[test]
+fn levels() {
+    let deep =
+        |mark: &str, n: usize| format!("mov.b32 y, 2*{}1{};", mark.repeat(n), if mark == "(" { ")".repeat(n) } else { String::new() });
+    for (mark, right) in [("(", "mov.b32 y, 2;"), ("-", "")] {
+        let statement = deep(mark, 17);
+        let e = said(&statement);
+        assert_eq!(e.title, format!("the `{mark}` opens level 17: an expression is nested to 16 levels"));
+        assert_eq!((e.answer.column, e.related[0].from, e.related[0].to), (32, 16, 17));
+        assert_eq!(fixed(&statement, &e).unwrap_or_default(), right);
+    }
+    // what it comes to is known up to 64 levels
+    assert_eq!(fixed(&deep("(", 64), &said(&deep("(", 64))).as_deref(), Some("mov.b32 y, 2;"));
+    assert_eq!(fixed(&deep("(", 65), &said(&deep("(", 65))), None);
+    assert_eq!(fixed(&deep("(", 900), &said(&deep("(", 900))), None);
+    // a minus is closed where its number ends
+    assert_eq!(reason(&said("mov.b32 y, -1+((((((((((((((((2)))))))))))))));")), 3);
+}
+
+/// What is said of reason 4: a part of the title, a part of the notes and helps, and the statement that is offered.
+#[test]
+fn results_out_of_range() {
+    let below = "numbers and offsets below 0 are not read in this version";
+    let (partial, number) = ("a partial result is at most 9,223,372,036,854,775,807 (2^63-1)", "a number of an expression is at most");
+    let ld = |offset: &str| format!("{LOAD}[t+{offset}];");
+    let rows = [
+        ("mov.b32 y, -4;".into(), format!("`-4` is negative; {below}"), "its bits", Some("mov.b32 y, 0xFFFFFFFC;")),
+        ("mov.b64 y, 3-7;".into(), format!("`3-7` is -4; {below}"), "its bits", Some("mov.b64 y, 0xFFFFFFFFFFFFFFFC;")),
+        ("mov.b32 y, -2147483649;".into(), format!("`-2147483649` is negative; {below}"), "more than the 32 bits", None),
+        (ld("-4"), format!("`-4` is negative; {below}"), "count the column from the start", None),
+        (ld("4 - 8"), format!("`4 - 8` is -4; {below}"), "count the column from the start", None),
+        (
+            "mov.b32 y, 4294967296*4294967296*0;".into(),
+            format!("`4294967296*4294967296` is 18,446,744,073,709,551,616; {partial}"),
+            "write what it comes to in full, 0",
+            Some("mov.b32 y, 0;"),
+        ),
+        (
+            ld("1+(2*4294967296*4294967296)"),
+            format!("`2*4294967296*4294967296` is 36,893,488,147,419,103,232; {partial}"),
+            "let every part stay in range, and the result between 0 and 4,294,967,295",
+            None,
+        ),
+        (
+            "mov.b64 y, -9223372036854775807-2+3;".into(),
+            "`-9223372036854775807-2` is -9,223,372,036,854,775,809; a partial result is at least -9,223,372,036,854,775,808 (-2^63)"
+                .into(),
+            "the result between 0 and 9,223,372,036,854,775,807",
+            None,
+        ),
+        (
+            "mov.b64 y, (18446744073709551615);".into(),
+            format!("`18446744073709551615` is too large; {number}"),
+            "alone, without operators and parentheses, `18446744073709551615` is taken",
+            Some("mov.b64 y, 18446744073709551615;"),
+        ),
+        (
+            "mov.b32 y, 0x8000000000000000-9223372036854775807;".into(),
+            format!("`0x8000000000000000` is 9,223,372,036,854,775,808; {number}"),
+            "in full, 1",
+            Some("mov.b32 y, 1;"),
+        ),
+        (
+            "mov.b32 y, 65536*65536;".into(),
+            "`65536*65536` is 4,294,967,296: 1 over the largest number of 32 bits".into(),
+            "would move it",
+            None,
+        ),
+        (
+            ld("65536*65536*2"),
+            "`65536*65536*2` is 8,589,934,592, which needs 34 bits, and 32 fit".into(),
+            "lane 131,072 and column 0",
+            None,
+        ),
+    ];
+    for (statement, title, says, right) in rows {
+        let e = said(&statement);
+        assert_eq!(reason(&e), 4, "{statement}");
+        assert!(e.title.starts_with(&title), "{statement}: {}", e.title);
+        assert!(format!("{}\n{}", notes_of(&statement), help_of(&statement)).contains(says), "{statement}: {:?} {:?}", e.notes, e.helps);
+        assert_eq!(fixed(&statement, &e).as_deref(), right, "{statement}");
+    }
+    // the part is marked: alone where it begins the expression, else beside the begin
+    let marks = |statement: &str| {
+        let e = said(statement);
+        let primary = e.primary.unwrap();
+        (primary.from, primary.to, e.related.iter().map(|span| (span.from, span.to, span.label.clone())).collect::<Vec<_>>())
+    };
+    assert_eq!(marks("mov.b32 y, 4294967296*4294967296*0;"), (14, 35, vec![]));
+    let label = "this is 9,223,372,036,854,775,809".to_string();
+    assert_eq!(marks("mov.b32 y, 1+(2+9223372036854775807)*3;"), (14, 17, vec![(17, 38, label)]));
+    let label = "this has over 127 bits".to_string();
+    assert_eq!(marks(&format!("mov.b32 y, 1+{};", "9".repeat(40))), (14, 16, vec![(16, 56, label)]));
 }
 
 #[test]
@@ -503,8 +658,9 @@ fn offsets_are_not_lost() {
             ("{r}, [t]+32;", outside, &[("write `[t+32]`", right)]),
             ("{r}, [t] + 0x20 ;", outside, &[("write `[t+0x20]`", "{r}, [t+0x20] ;")]),
             ("{r}, [t][32];", outside, &[("write `[t+32]`", right)]),
-            ("{r}, [t+4][28];", outside, &[("write `[t+32]`", right)]),
-            ("{r}, [t]+4*8;", outside, &[("write `[t+32]`", right)]),
+            ("{r}, [t+4][28];", outside, &[("write `[t+4+28]`", "{r}, [t+4+28];")]),
+            ("{r}, [t]+4*8;", outside, &[("write `[t+4*8]`", "{r}, [t+4*8];")]),
+            ("{r}, [t]+64/2;", outside, &[("write `[t+32]`", right)]),
             ("{r}, [t]+n;", outside, &[("write `[t+32]`", right)]),
             ("{r}, [t]+z;", outside, &[("`[t+NUMBER]`", "")]),
             ("{r}, [t,32];", "a `,` stands in the address", &[("write `[t+32]`", right)]),
@@ -512,6 +668,9 @@ fn offsets_are_not_lost() {
             ("{r}, [t, z];", "a `,` stands in the address", &[("`[t+NUMBER]`", "")]),
             ("{r}, [32+t];", "the offset stands before the name", &[("write `[t+32]`", right)]),
             ("{r}, [ 32 + t ];", "the offset stands before the name", &[("write `[t+32]`", right)]),
+            ("{r}, [2*(8+8)+t];", "the offset stands before the name", &[("write `[t+2*(8+8)]`", "{r}, [t+2*(8+8)];")]),
+            ("{r}, [2*16];", "the number `2*16` stands where a name must stand", &[("as in `[t+2*16]`", "")]),
+            ("{r}, [-4];", "the number `-4` stands where a name must stand", &[("as in `[t+NUMBER]`", "")]),
             ("{r}, [0];", "the number `0` stands where a name must stand", &[("as in `[t]`", "")]),
             ("{r}, [32];", "the number `32` stands where a name must stand", &[("as in `[t+32]`", "")]),
             ("{r}, [t]-4;", "`-4` stands where the statement must end", &[("take it out if it is not meant", "")]),
@@ -555,7 +714,11 @@ fn numbers_that_may_be_two() {
             ),
             ("x, 2.5f;", "`2.5f` has a point", &[("if the bits of a float", "x, 0x40200000;")]),
             ("x, 1, 2;", "operand 3 is one too many", &[("the operands are a name and the number to move", "")]),
-            ("x, 0x0810 0010;", "`0010` stands where the statement must end", &[("take it out if it is not meant", "")]),
+            (
+                "x, 0x0810 0010;",
+                "`0010` stands behind a number, and no operator between them",
+                &[("if they are one number, write `0x08100010`", "x, 0x08100010;"), ("put `+`, `-` or `*` between them", "")],
+            ),
             (
                 "x, i;",
                 "`i` stands where a number must be written out",
@@ -565,6 +728,7 @@ fn numbers_that_may_be_two() {
             ("x, t;", "`t` stands where a number must be written out", &[("`t` is an allocation", "")]),
             ("x, y;", "`y` stands where a number must be written out", &[("no line up to here moves a number to `y`", "")]),
             ("1, x;", "the operands are exchanged", &[("exchange them", "x, 1;")]),
+            ("(1+2)*3, x;", "the operands are exchanged", &[("exchange them", "x, (1+2)*3;")]),
         ],
     );
     table(
@@ -588,7 +752,6 @@ fn counts_of_columns() {
         &[
             ("[v], 32.0;", "`32.0` has a point", &[("a count of columns is a whole number: write `32`", "[v], 32;")]),
             ("[v], 32.5;", "`32.5` has a point", &[(sizes, "")]),
-            ("[v], -32;", "`-32` is negative; it is a count of columns", &[(sizes, "")]),
             ("[v], 1e2;", "`1e2` is no number", &[(sizes, "")]),
             ("[v], n;", "`n` stands where a number must be written out", &[("write `32`, which line 6 moves to `n`", "[v], 32;")]),
             ("[v], z;", "`z` stands where a number must be written out", &[(sizes, "")]),
@@ -600,11 +763,42 @@ fn counts_of_columns() {
         DENSE_WORD,
         DEALLOC,
         &[
-            ("t, -64;", "it is a count of columns", &[("`t` has 64", "")]),
             ("t, z;", "`z` stands where a number must be written out", &[("`t` has 64", "")]),
             ("64, t;", "the operands are exchanged: the name comes before the number", &[("exchange them", "t, 64;")]),
         ],
     );
+}
+
+/// A count of columns that is an expression is said with its value.
+#[test]
+fn counts_that_are_expressions() {
+    let rows = [
+        (
+            "tcgen05.alloc.cta_group::1.sync.aligned.b32 [v], -32;",
+            4,
+            "`-32` is negative; it is a count of columns",
+            "32, 64, 128, 256 or 512",
+        ),
+        (
+            "tcgen05.alloc.cta_group::1.sync.aligned.b32 [v], 32-64;",
+            4,
+            "`32-64` is -32; it is a count of columns",
+            "32, 64, 128, 256 or 512",
+        ),
+        ("tcgen05.dealloc.cta_group::1.sync.aligned.b32 v, 0-64;", 4, "`0-64` is -64; it is a count of columns", "`v` has 64"),
+        ("tcgen05.alloc.cta_group::1.sync.aligned.b32 [v], 64+32;", 9, "`v` asks for 96 columns", "ask for 64"),
+        ("tcgen05.dealloc.cta_group::1.sync.aligned.b32 v, 2*(64 + 32);", 9, "`v` has 64 columns, but 192 are given back", "give all 64"),
+    ];
+    for (statement, number, title, help) in rows {
+        let e = said(statement);
+        assert_eq!(reason(&e), number, "{statement}");
+        assert!(e.title.starts_with(title), "{statement}: {}", e.title);
+        assert!(help_of(statement).contains(help), "{statement}: {}", help_of(statement));
+    }
+    let label = |statement: &str| said(statement).primary.map(|span| (span.from, span.to, span.label)).unwrap();
+    assert_eq!(label(rows[3].0), (52, 57, "96 columns: `64+32` is 96".into()));
+    assert_eq!(label(rows[4].0), (52, 63, "192 columns: `2*(64 + 32)` is 192".into()));
+    assert_eq!(fixed(rows[3].0, &said(rows[3].0)).as_deref(), Some("tcgen05.alloc.cta_group::1.sync.aligned.b32 [v], 64;"));
 }
 
 #[test]

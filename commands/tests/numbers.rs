@@ -1,6 +1,6 @@
 //! Numbers through the wrapper: what the library reads in each place, what it writes, and where it points; `describe` reads them the same.
 
-use commands::number::{b32, b64, Fault, MOST};
+use commands::number::{b32, b64, plain32, plain64, Fault, MOST};
 use staplehorn::{canonical, judge, statement, Passed, Reason, Refused, RefusedStatement};
 
 const ALLOC: &str = "tcgen05.alloc.cta_group::1.sync.aligned.b32";
@@ -194,12 +194,16 @@ fn sheets() {
     assert_eq!(judge(&one(0, "040000000000")), Err(Refused { reason: Reason::Number, ..form }));
 }
 
-/// What is no single run is no number, though a statement with it reads; nor is what is longer than a statement.
+/// What has spaces around it is no number, though a statement with it reads; nor is what is longer than a statement.
 #[test]
 fn what_describe_is_given() {
-    for text in ["", " ", "1 ", " 1", "1;", "+1", "-1", "1_0", "0x1.8", "\u{661}", "1\n", "%1", "$", "x, 1"] {
+    for text in ["", " ", "1 ", " 1", "1;", "1_0", "0x1.8", "\u{661}", "1\n", "%1", "$", "x, 1"] {
         assert_eq!(b64(text), Err(Fault::Spelling), "{text:?}");
     }
+    for text in ["1+1", "(1)", "-1", "+1", "1 ", ""] {
+        assert_eq!((plain32(text), plain64(text)), (Err(Fault::Spelling), Err(Fault::Spelling)), "{text:?}");
+    }
+    assert_eq!((plain32("0x10"), plain64("064"), plain32("08")), (Ok(16), Ok(52), Err(Fault::Octal)));
     let zeros = "0".repeat(MOST - 1);
     assert_eq!(b64(&format!("{zeros}7")), Ok(7));
     assert_eq!(b64(&format!("0{zeros}7")), Err(Fault::Long));

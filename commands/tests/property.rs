@@ -78,15 +78,44 @@ const PIECES: &[&str] = &[
     "::2",
     "-1",
     "0x08400014",
+    "(",
+    ")",
+    "-",
+    "+(2*3)",
+    "*4294967296",
+    "/2",
+    "9223372036854775807+",
+    "((((((((((((((((",
 ];
 
-/// One to three changes: a byte, a piece, a line left out, doubled or moved, an end cut off, a part of another sheet.
+/// A number written out: what comes to the same, or to something else, or to nothing.
+fn written_out(r: &mut Random, number: &str) -> String {
+    match r.below(9) {
+        0 => format!("({number})"),
+        1 => format!("{number}+0"),
+        2 => format!("2*{number} - {number}"),
+        3 => format!("-(-{number})"),
+        4 => format!("{number}-{}", r.below(99)),
+        5 => format!("{number}*{}", 1u64 << r.below(64)),
+        6 => format!("9223372036854775807+{number}-9223372036854775807"),
+        7 => format!("{}{number}{}", "(-".repeat(r.below(11)), ")".repeat(r.below(11))),
+        _ => format!("{}{number}", "-".repeat(r.below(20))),
+    }
+}
+
+/// Where a number stands after a space or a `+`, from a place on.
+fn number_at(bytes: &[u8], at: usize) -> Option<(usize, usize)> {
+    let from = (at.max(1)..bytes.len()).find(|&i| bytes[i].is_ascii_digit() && b" +".contains(&bytes[i - 1]))?;
+    Some((from, from + bytes[from..].iter().take_while(|b| b.is_ascii_alphanumeric()).count()))
+}
+
+/// One to three changes: a byte, a piece, a line left out, doubled or moved, an end cut off, a part of another sheet, a number written out.
 fn damaged(r: &mut Random, sheets: &[Vec<u8>]) -> Vec<u8> {
     let mut bytes = sheets[r.below(sheets.len())].clone();
     for _ in 0..=r.below(3) {
         let at = r.below(bytes.len() + 1);
         let mut lines: Vec<Vec<u8>> = bytes.split_inclusive(|&b| b == b'\n').map(<[u8]>::to_vec).collect();
-        match r.below(9) {
+        match r.below(11) {
             0 if at < bytes.len() => bytes[at] = r.next() as u8,
             1 if at < bytes.len() => bytes[at] = 32 + r.below(95) as u8,
             2 if at < bytes.len() => drop(bytes.remove(at)),
@@ -111,6 +140,12 @@ fn damaged(r: &mut Random, sheets: &[Vec<u8>]) -> Vec<u8> {
                 // a digit for another
                 if let Some(i) = bytes[at..].iter().position(u8::is_ascii_digit) {
                     bytes[at + i] = b'0' + r.below(10) as u8;
+                }
+            }
+            9 | 10 => {
+                if let Some((from, to)) = number_at(&bytes, at) {
+                    let number = String::from_utf8_lossy(&bytes[from..to]).into_owned();
+                    drop(bytes.splice(from..to, written_out(r, &number).bytes()));
                 }
             }
             _ => {}
@@ -144,6 +179,8 @@ fn holds(bytes: &[u8], e: &Explanation, shown: &str) -> u64 {
     for span in &e.related {
         assert!(span.line >= 1 && span.from >= 1 && span.to >= span.from, "{span:?}\n{shown}");
     }
+    // of every number that is refused more is said than that it is
+    assert!(e.answer.reason != Some(Reason::Number) || e.title != Reason::Number.to_string(), "{shown}");
     wanted[0]
 }
 

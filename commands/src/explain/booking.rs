@@ -67,7 +67,7 @@ pub fn any_legal() -> String {
 
 /// The number that is refused, as it is spelled: its end, and what to say of it.
 fn spelled(c: &Context, columns: u32) -> (usize, String) {
-    let text = c.token(c.column());
+    let text = c.number();
     let (value, said) = (counted(columns, "column"), cut(&text));
     let label = match (text == columns.to_string(), octal(&text)) {
         (true, _) => value,
@@ -85,7 +85,7 @@ fn octal(text: &str) -> Option<u32> {
 
 /// Puts another number in place of the one that is refused.
 fn number(c: &Context, columns: u32) -> Edit {
-    let to = c.column() + c.token(c.column()).len();
+    let to = c.column() + c.number().len();
     Edit { line: c.line(), from: c.column(), to, text: columns.to_string().into() }
 }
 
@@ -109,7 +109,7 @@ fn request(c: &Context, e: &mut Explanation, name: &str, columns: u32) {
 /// gives back, else the next one up, or the most.
 fn meant(c: &Context, name: &str, columns: u32, legal: &[u32]) -> (u32, String) {
     let back = given(c, name).first().copied();
-    let decimals = octal(&c.token(c.column())).filter(|n| legal.contains(n));
+    let decimals = octal(&c.number()).filter(|n| legal.contains(n));
     let up = legal.iter().copied().find(|&n| n > columns);
     let (next, text) = match (decimals, back.filter(|(_, n)| legal.contains(n)), up) {
         (Some(n), ..) => (n, format!("write {n} without the leading zero")),

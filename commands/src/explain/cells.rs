@@ -3,6 +3,7 @@
 
 use super::booking::back;
 use super::descriptors::{hex, moved, offer, takes, under};
+use super::numbers::cut;
 use super::{counted, gets_further, grouped, listed, token_end, Context, Explanation};
 use crate::history::Allocation;
 use crate::rules::{INSTRUCTION, N};
@@ -29,19 +30,30 @@ fn readdress(c: &Context, text: &str) -> Option<Edit> {
     Some(Edit { line: c.line(), from, to, text: text.into() })
 }
 
+/// The offset of the address that is pointed at, as it is written; empty where it has none.
+fn spelled(c: &Context) -> String {
+    let text = c.token(c.column());
+    text.trim_end_matches(']').split_once('+').map_or("", |parts| parts.1.trim()).into()
+}
+
+/// It is no expression.
+fn is_run(text: &str) -> bool {
+    text.bytes().all(|b| b.is_ascii_alphanumeric())
+}
+
 /// How an offset is made.
-fn offset(address: &Address) -> String {
-    let (lane, column) = (address.lane(), address.column());
+fn offset(c: &Context, address: &Address) -> String {
+    let (lane, column, text) = (address.lane(), address.column(), spelled(c));
     match address.offset {
-        0 => format!("`[{}]` has no offset: lane 0, column 0", address.name),
-        n => format!("the offset {n} is {lane} * 65,536 + {column}: lane {lane}, column {column}"),
+        0 if is_run(&text) => format!("`[{}]` has no offset: lane 0, column 0", address.name),
+        n if is_run(&text) => format!("the offset {n} is {lane} * 65,536 + {column}: lane {lane}, column {column}"),
+        n => format!("the offset `{}` is {n}, and that is {lane} * 65,536 + {column}: lane {lane}, column {column}", cut(&text)),
     }
 }
 
 /// Says that the number of the address that is pointed at is octal, where its digits would be another number as decimals.
 fn octal(c: &Context, e: &mut Explanation, address: &Address) {
-    let text = c.token(c.column());
-    let number = text.trim_end_matches(']').split_once('+').map_or("", |parts| parts.1.trim());
+    let number = spelled(c);
     let digits = number.trim_end_matches('U');
     if digits.starts_with('0') && digits.parse::<u64>().is_ok_and(|decimals| decimals != u64::from(address.offset)) {
         e.note(format!("`{number}` is octal for {}: a leading zero means octal", address.offset));
@@ -73,7 +85,7 @@ pub fn lane(c: &Context, e: &mut Explanation) {
     }
     e.point(token_end(c.bytes(), c.column()), format!("lane {lane}, column {} of `{name}`", address.column()));
     octal(c, e, address);
-    e.note(offset(address));
+    e.note(offset(c, address));
     e.note(format!("`.{}` takes {} lanes; by warp {warp} it starts at lane {}", shape.name, shape.lanes, listed(&may, "or")));
     if lane >= LANES {
         e.note(format!("there are {LANES} lanes, 0 to {}", LANES - 1));
@@ -215,6 +227,9 @@ impl<'a> Cells<'a> {
         );
         self.taken(e);
         octal(self.c, e, self.address);
+        if !is_run(&spelled(self.c)) {
+            e.note(offset(self.c, self.address));
+        }
     }
 
     fn taken(&self, e: &mut Explanation) {
@@ -262,7 +277,7 @@ impl<'a> Cells<'a> {
         e.title(format!("{} is at lane {lane} of `{}`; every address of an mma has lane 0", self.who, address.name));
         e.point(token_end(c.bytes(), c.column()), format!("{role}: lane {lane}, column {column} of `{}`", address.name));
         octal(c, e, address);
-        e.note(offset(address));
+        e.note(offset(c, address));
         e.note("only ld and st have a lane in their addresses");
         if column + self.columns > has {
             self.taken(e);

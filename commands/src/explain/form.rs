@@ -10,12 +10,24 @@ mod sum;
 use super::layout::is_comment;
 use super::{answer_of, counted, listed, shown, Context, Explanation};
 use crate::sheet::Edit;
-use crate::{number, statement};
+use crate::{expression, number, statement};
 use staplehorn::Reason;
 
 /// What is tried at a place, and what it is called.
-const SAMPLES: [(&str, &str); 9] =
-    [(",", "`,`"), (";", "`;`"), ("[", "`[`"), ("]", "`]`"), ("{", "`{`"), ("}", "`}`"), ("+", "`+`"), ("x", "a name"), ("1", "a number")];
+const SAMPLES: [(&str, &str); 10] = [
+    (",", "`,`"),
+    (";", "`;`"),
+    ("[", "`[`"),
+    ("]", "`]`"),
+    ("{", "`{`"),
+    ("}", "`}`"),
+    (")", "`)`"),
+    ("+", "`+`"),
+    ("x", "a name"),
+    ("1", "a number"),
+];
+/// What an expression may go on with, beside that.
+const SIGNS: [&str; 4] = ["+", "-", "*", "("];
 
 const LONGEST_NAME: usize = 16;
 const MOST_REGISTERS: usize = 128;
@@ -27,16 +39,23 @@ struct Spot<'a> {
     at: usize,
     /// What stands there: the opcode, a run of letters, digits, `_` and `$` with a `%` before it or not, one byte, or nothing.
     token: &'a [u8],
-    /// The samples that could stand there.
+    /// The samples that could stand there; a `+` only where it is that of an address.
     could: Vec<&'static str>,
+    /// The signs of an expression that could stand there.
+    signs: Vec<&'static str>,
 }
 
 impl<'a> Spot<'a> {
     fn new(c: &'a Context<'a>) -> Spot<'a> {
         let text = c.sheet.statement(c.line());
         let at = c.column().saturating_sub(3).min(text.len());
-        let could = SAMPLES.iter().map(|row| row.0).filter(|sample| at > 0 && can_stand(&text[..at], sample)).collect();
-        Spot { c, text, at, token: token(&text[at..], at == 0), could }
+        let could = |sample: &&str| at > 0 && can_stand(&text[..at], sample);
+        let mut signs: Vec<_> = SIGNS.into_iter().filter(could).collect();
+        if signs[..] == ["+"] {
+            signs.clear();
+        }
+        let could = SAMPLES.iter().map(|row| row.0).filter(|sample| could(sample) && !signs.contains(sample)).collect();
+        Spot { c, text, at, token: token(&text[at..], at == 0), could, signs }
     }
 
     fn before(&self) -> &'a [u8] {
@@ -56,10 +75,18 @@ impl<'a> Spot<'a> {
         self.could.contains(&sample)
     }
 
-    /// What could stand there, in words.
+    /// What could stand there, in words; an expression goes on with more.
     fn must(&self) -> String {
-        let words: Vec<String> = SAMPLES.iter().filter(|row| self.could(row.0)).map(|row| row.1.into()).collect();
-        listed(&words, "or")
+        listed(&self.words(), "or")
+    }
+
+    fn words(&self) -> Vec<String> {
+        SAMPLES.iter().filter(|row| self.could(row.0)).map(|row| row.1.into()).collect()
+    }
+
+    /// All that could stand there, in words.
+    fn all(&self) -> String {
+        listed(&[self.words(), self.signs.iter().map(|sign| format!("`{sign}`")).collect()].concat(), "or")
     }
 
     fn edit(&self, from: usize, to: usize, text: impl Into<Vec<u8>>) -> Edit {
@@ -166,7 +193,7 @@ fn is_name(text: &[u8]) -> bool {
 }
 
 fn is_number(text: &[u8]) -> bool {
-    !matches!(number::b64(&shown(text)), Err(number::Fault::Spelling | number::Fault::Octal))
+    !matches!(number::plain64(&shown(text)), Err(number::Fault::Spelling | number::Fault::Octal))
 }
 
 /// What may be wrong, in the order in which it is asked; each says whether it is that.
@@ -181,13 +208,13 @@ const HINTS: [Hint; 24] = [
     full,
     swapped,
     address::explain,
+    sum::explain,
     closer,
     mma::count,
     end,
     bad_number,
     bad_name,
     digits::name,
-    sum::explain,
     digits::dot,
     stray,
     mma::metadata,
@@ -206,7 +233,7 @@ pub fn explain(c: &Context, e: &mut Explanation) {
         spot.point(e, spot.at + spot.token.len(), format!("found `{found}`"));
     }
     if !spot.could.is_empty() && !is_comment(spot.rest()) {
-        e.note(format!("what could stand there: {}, as in `{}`", spot.must(), opcode::shortened(&spot.opcode())));
+        e.note(format!("what could stand there: {}, as in `{}`", spot.all(), opcode::shortened(&spot.opcode())));
     }
 }
 
@@ -299,7 +326,7 @@ fn ends_comment(text: &[u8]) -> Option<usize> {
 
 /// The space that stands between two parts of a statement.
 fn gap(before: &[u8], behind: &[u8]) -> &'static [u8] {
-    let tight = before.last().is_none_or(|b| b"[{+".contains(b)) || behind.first().is_none_or(|b| b",;]}+".contains(b));
+    let tight = before.last().is_none_or(|b| b"[{(+-*".contains(b)) || behind.first().is_none_or(|b| b",;]})+-*".contains(b));
     if tight {
         b""
     } else {
@@ -377,6 +404,7 @@ fn swapped(s: &Spot, e: &mut Explanation) -> bool {
     let what = match s.token {
         b"[" if s.could("{") => "a load has its registers first",
         b"{" if s.could("[") => "a store has its address first",
+        b"(" | b"-" => "the name comes before the number",
         token if is_number(token) => "the name comes before the number",
         _ => return false,
     };
@@ -421,8 +449,9 @@ fn bad_number(s: &Spot, e: &mut Explanation) -> bool {
 
 /// A run that starts with a digit where a name stands.
 fn no_name(s: &Spot, e: &mut Explanation) -> bool {
-    let found = brief(s.token);
-    s.point(e, s.at + s.token.len(), expected(s));
+    let to = expression::read(s.text, s.at).map_or(s.at + s.token.len(), |read| read.whole.to);
+    let found = brief(&s.text[s.at..to]);
+    s.point(e, to, expected(s));
     if !is_number(s.token) {
         e.title(format!("`{found}` is no name: it begins with a digit"));
         return true;

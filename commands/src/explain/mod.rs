@@ -10,7 +10,9 @@ mod layout;
 mod names;
 mod numbers;
 mod outstanding;
+mod partial;
 
+use crate::expression;
 use crate::history::History;
 use crate::sheet::{Edit, Sheet};
 use crate::statement::{self, Statement};
@@ -96,6 +98,15 @@ impl<'a> Context<'a> {
         let bytes = self.bytes();
         let from = column.saturating_sub(1).min(bytes.len());
         shown(&bytes[from..token_end(bytes, column) - 1])
+    }
+
+    /// The number or the expression that starts at the column of the refused line, as text.
+    pub fn number(&self) -> String {
+        let (text, from) = (self.sheet.statement(self.line()), self.column().saturating_sub(3));
+        match expression::read(text, from.min(text.len())) {
+            Ok(read) => shown(&text[from..read.whole.to]),
+            Err(_) => self.token(self.column()),
+        }
     }
 
     /// The place of a line's operand, counted from 0; of its opcode where it has no such operand.

@@ -1,20 +1,35 @@
-//! Reasons 4 and 5: a number that is too large for its place, and the count of registers.
+//! Reasons 4 and 5: a number that is too large for its place, and the count of registers. `partial.rs` has expressions.
 
 use super::booking::any_legal;
-use super::{counted, grouped, listed, shown, Context, Explanation};
-use crate::number;
+use super::{counted, grouped, listed, partial, shown, Context, Explanation};
 use crate::sheet::Edit;
 use crate::statement::{self, Mma, Operand, Shape, Statement, MEMORY, SHAPES};
+use crate::{expression, number};
 
 /// By how much a number is over the largest is said where it is less than this.
-const NEAR: u128 = 1 << 16;
+pub const NEAR: u128 = 1 << 16;
+
+/// How many bits a number has at most where the line is refused for one.
+pub fn bits(c: &Context) -> u32 {
+    if statement::opcode(c.sheet.statement(c.line())) == b"mov.b64" {
+        64
+    } else {
+        32
+    }
+}
 
 /// Reason 4.
 pub fn too_large(c: &Context, e: &mut Explanation) {
-    let written = c.token(c.column());
-    let text = c.sheet.statement(c.line());
-    let opcode = shown(statement::opcode(text));
-    let bits = if opcode == "mov.b64" { 64 } else { 32 };
+    let read = expression::read(c.sheet.statement(c.line()), c.column().saturating_sub(3)).ok();
+    match read.filter(|read| !read.alone) {
+        Some(read) => partial::explain(c, e, &read),
+        None => alone(c, e),
+    }
+}
+
+/// A number and nothing else.
+fn alone(c: &Context, e: &mut Explanation) {
+    let (written, bits) = (c.token(c.column()), bits(c));
     let most = (1u128 << bits) - 1;
     e.title(match value(&written) {
         Some(value) if value.saturating_sub(most) < NEAR => {
@@ -27,10 +42,15 @@ pub fn too_large(c: &Context, e: &mut Explanation) {
     if let (Some(value), [b'0', b'0'..=b'7', ..]) = (value(&written), written.as_bytes()) {
         e.note(format!("a leading zero means octal: `{}` is {} in decimal", cut(&written), grouped128(value)));
     }
-    match opcode.as_str() {
-        "mov.b64" => e.help("a value has at most 64 bits: write a number that fits"),
-        "mov.b32" => moved(c, &written, e),
-        _ if c.operand().is_some_and(|i| is_address(c, i)) => offset(&written, e),
+    place(c, e, &written, value(&written));
+}
+
+/// What to do about a number that does not fit its place.
+pub fn place(c: &Context, e: &mut Explanation, written: &str, value: Option<u128>) {
+    match statement::opcode(c.sheet.statement(c.line())) {
+        b"mov.b64" => e.help("a value has at most 64 bits: write a number that fits"),
+        b"mov.b32" => moved(c, written, e),
+        _ if is_offset(c) => offset(value, e),
         _ => e.help(format!("the number of columns is {}", any_legal())),
     }
 }
@@ -91,34 +111,27 @@ fn first_use(c: &Context, name: &str, is_used: fn(&Mma, &str) -> bool) -> Option
     lines.find(|(_, statement)| matches!(statement, Statement::Mma(mma) if is_used(mma, name))).map(|(line, _)| line)
 }
 
-fn offset(written: &str, e: &mut Explanation) {
+fn offset(value: Option<u128>, e: &mut Explanation) {
     e.note("the offset of an address is 65,536 times the lane, plus the column counted from the start of the allocation");
-    if let Some(value) = value(written) {
+    if let Some(value) = value {
         e.note(format!("this one has lane {} and column {}", grouped128(value >> 16), value & 0xFFFF));
     }
     e.help(format!("lanes are 0 to 127 and columns 0 to 511, so no offset is over {}", grouped(127 * 65_536 + 511)));
 }
 
-/// The operand is an address.
-fn is_address(c: &Context, operand: usize) -> bool {
-    let at = c.operands(c.line()).get(operand).map(|place| place.0);
+/// The number that is refused is that of an address.
+pub fn is_offset(c: &Context) -> bool {
+    let at = c.operand().and_then(|operand| c.operands(c.line()).get(operand).map(|place| place.0));
     at.and_then(|column| c.bytes().get(column - 1)) == Some(&b'[')
 }
 
 /// The value of a number in one of the four spellings; none if it is none or has over 128 bits.
 fn value(written: &str) -> Option<u128> {
-    let digits = written.strip_suffix('U').unwrap_or(written);
-    let (base, digits) = match digits.as_bytes() {
-        [b'0', b'x' | b'X', ..] => (16, &digits[2..]),
-        [b'0', b'b' | b'B', ..] => (2, &digits[2..]),
-        [b'0', _, ..] => (8, &digits[1..]),
-        _ => (10, digits),
-    };
-    digits.bytes().all(|b| b.is_ascii_hexdigit()).then(|| u128::from_str_radix(digits, base).ok()).flatten()
+    expression::number(written).flatten()
 }
 
 /// `grouped`, for numbers of 128 bits.
-fn grouped128(n: u128) -> String {
+pub fn grouped128(n: u128) -> String {
     match (u64::try_from(n), n / 1_000, n % 1_000) {
         (Ok(n), _, _) => grouped(n),
         (_, thousands, rest) => format!("{},{rest:03}", grouped128(thousands)),
@@ -223,10 +236,10 @@ mod tests {
             "0xFFFFFFFFFFFFFFFF",
         ];
         for run in runs {
-            assert_eq!(value(run).and_then(|value| u64::try_from(value).ok()), number::b64(run).ok(), "{run}");
+            assert_eq!(value(run).and_then(|value| u64::try_from(value).ok()), number::plain64(run).ok(), "{run}");
         }
         for run in ["", "U", "08", "0x", "0b", "0b2", "64u", "64UU", "0x1g", "x", "+1", "0x+1", "1_0"] {
-            assert_eq!((value(run), number::b64(run).is_err()), (None, true), "{run}");
+            assert_eq!((expression::number(run), number::plain64(run).is_err()), (None, true), "{run}");
         }
         assert_eq!(value("0x10000000000000000"), Some(1 << 64));
         assert_eq!(value(&"9".repeat(60)), None);

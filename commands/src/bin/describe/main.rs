@@ -20,7 +20,8 @@ Says what a descriptor word means, field by field, and if it is refused, which r
 the fields given. A field that is not given is 0, a type the first of its kind, and sparse what OPCODE says.
 
 OPCODE  f16, tf32, f8f6f4 or i8, with .ws and .sp behind it where they stand; or shared
-WORD    a number as in a sheet: decimal, 0x and hex digits, 0b and binary digits, or 0 and octal digits; a U may follow
+WORD    a number as in a sheet: decimal, 0x and hex digits, 0b and binary digits, or 0 and octal digits; a U may follow;
+        or an expression of such with + - * and parentheses, as '0x08000000+(64*16384)+16'
 FIELD   of an instruction descriptor: selector sparse saturate dtype atype btype negate_a negate_b transpose_a
         transpose_b n m max_shift; of a shared memory descriptor: start leading stride base mode swizzle
 VALUE   a number as WORD; for a type, a mode or a swizzle also its name, as dtype=f32 or swizzle=128B

@@ -1,16 +1,18 @@
 //! An address whose parts do not stand as `[name+number]`.
 
-use super::{digits, extent, is_name, is_number, offer, say, sum, token, Spot};
+use super::{brief, digits, extent, is_name, is_number, offer, say, sum, token, Spot};
 use crate::explain::{shown, token_end, Explanation};
+use crate::{expression, number};
 
 pub fn explain(s: &Spot, e: &mut Explanation) -> bool {
     !s.opcode().contains("alloc.") && (outside(s, e) || parted(s, e) || first(s, e))
 }
 
-/// The number of an offset as it would be written: a number as it stands, else what it comes to, else what was moved to the name.
+/// The number of an offset as it would be written: a number or an expression as it stands, else what it comes to, else what was moved to
+/// the name.
 fn number(s: &Spot, text: &[u8]) -> Option<String> {
     match shown(text) {
-        text if is_number(text.as_bytes()) => Some(text),
+        text if is_number(text.as_bytes()) || number::b32(&text).is_ok() => Some(text),
         text => {
             sum::value(&text).filter(|&value| value >= 0).map(|value| value.to_string()).or(digits::known(s, &text).map(|found| found.0))
         }
@@ -65,20 +67,32 @@ fn parted(s: &Spot, e: &mut Explanation) -> bool {
 
 /// `[32+t]` and `[32]`.
 fn first(s: &Spot, e: &mut Explanation) -> bool {
-    if !is_number(s.token) || !s.before().trim_ascii_end().ends_with(b"[") {
-        return false;
-    }
-    let Some(close) = s.rest().iter().position(|&b| b == b']').map(|length| s.at + length) else { return false };
-    let rest = s.text[s.at + s.token.len()..close].trim_ascii();
-    if let Some(name) = rest.strip_prefix(b"+").map(<[u8]>::trim_ascii).filter(|name| is_name(name)) {
-        e.title("the offset stands before the name; an address has its name first");
-        s.point(e, close, "a name must stand here");
-        return write(s, e, (s.end() - 1, close + 1), name, number(s, s.token));
-    }
-    e.title(format!("the number `{}` stands where a name must stand", shown(s.token)));
-    s.point(e, s.at + s.token.len(), "an address begins with the name of an allocation");
+    let is_inside = s.before().trim_ascii_end().ends_with(b"[") && s.rest().contains(&b']');
+    let Some(read) = expression::read(s.text, s.at).ok().filter(|_| is_inside) else { return is_inside && named_last(s, e) };
+    let found = &s.text[s.at..read.whole.to];
+    e.title(format!("the number `{}` stands where a name must stand", brief(found)));
+    s.point(e, read.whole.to, "an address begins with the name of an allocation");
     let mut live = s.c.history.live();
     let name = live.next().filter(|_| live.next().is_none()).map_or("NAME", |only| only.name.as_str());
-    let offset = if s.token == b"0" { String::new() } else { format!("+{}", shown(s.token)) };
+    let offset = match read.whole.value {
+        Some(0) => String::new(),
+        Some(1..) => format!("+{}", brief(found)),
+        _ => "+NUMBER".into(),
+    };
     say(e, format!("columns are counted from the start of an allocation: write its name first, as in `[{name}{offset}]`"))
+}
+
+/// `[32+t]`, also with an expression before the name.
+fn named_last(s: &Spot, e: &mut Explanation) -> bool {
+    let Some(close) = s.rest().iter().position(|&b| b == b']').map(|length| s.at + length) else { return false };
+    let inner = &s.text[s.at..close];
+    let Some(plus) = inner.iter().rposition(|&b| b == b'+') else { return false };
+    let (offset, name) = (inner[..plus].trim_ascii(), inner[plus + 1..].trim_ascii());
+    let is_offset = is_number(offset) || number::b32(&shown(offset)).is_ok();
+    if !is_offset || !is_name(name) {
+        return false;
+    }
+    e.title("the offset stands before the name; an address has its name first");
+    s.point(e, close, "a name must stand here");
+    write(s, e, (s.end() - 1, close + 1), name, number(s, offset))
 }

@@ -20,19 +20,21 @@ pub fn say_count(s: &Spot, e: &mut Explanation) -> bool {
     say(e, format!("a count of columns is a whole number, written in digits: {which}"))
 }
 
-/// The number that was last moved to a name, as it was written, and the line that moved it.
+/// The number that was last moved to a name, and the line that moved it: as it was written, or what an expression comes to.
 pub fn known(s: &Spot, name: &str) -> Option<(String, usize)> {
     let value = s.c.history.value(name)?;
     let (from, to) = s.c.span(value.line, 1);
-    Some((shown(s.c.sheet.line(value.line).get(from - 1..to - 1)?), value.line))
+    let written = shown(s.c.sheet.line(value.line).get(from - 1..to - 1)?);
+    let text = if is_number(written.as_bytes()) { written } else { value.number.to_string() };
+    Some((text, value.line))
 }
 
 /// The number has no more bits than the statement takes.
 fn fits(s: &Spot, text: &str) -> bool {
     if s.opcode() == "mov.b64" {
-        number::b64(text).is_ok()
+        number::plain64(text).is_ok()
     } else {
-        number::b32(text).is_ok()
+        number::plain32(text).is_ok()
     }
 }
 
@@ -152,7 +154,8 @@ pub fn dot(s: &Spot, e: &mut Explanation) -> bool {
     if even {
         e.fix(s.c.sheet, format!("{what}write `{}`", brief(&s.text[from..s.at])), s.edit(s.at, to, ""));
     }
-    match bits(&whole, &s.opcode()).filter(|bits| s.reads_with(from, to, bits.as_bytes())) {
+    let is_alone = s.text[..from].trim_ascii_end().ends_with(b",");
+    match bits(&whole, &s.opcode()).filter(|bits| is_alone && s.reads_with(from, to, bits.as_bytes())) {
         Some(bits) => offer(s, e, format!("if the bits of a float are meant, write `{bits}`"), s.edit(from, to, bits)),
         None if is_count(s) && !even => say_count(s, e),
         None => even || say(e, "write a whole number"),

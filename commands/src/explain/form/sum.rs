@@ -1,67 +1,256 @@
-//! A sum, a product or a sign where one number must stand: what it comes to.
+//! An expression that breaks off: an operator that is not taken, a level too many, a parenthesis that is open or closes nothing, a number
+//! or an operator that is not there.
 
-use super::digits::{is_count, say_count};
-use super::{brief, extent, offer, say, Spot};
+use super::{brief, extent, is_number, offer, say, Spot};
 use crate::explain::{shown, Explanation};
+use crate::expression::{self, Stop, LEVELS};
 use crate::number;
 
-/// Operators by how loosely they bind.
-const LEVELS: [&[&str]; 4] = [&["|"], &["<<", ">>"], &["+", "-"], &["*"]];
-/// How deep parentheses and signs may stand.
-const DEEPEST: u32 = 32;
+/// How deep an expression that is nested too deep is still read, to say what it comes to.
+const DEEPEST: usize = 64;
+/// What is taken.
+const TAKEN: &str = "an expression has `+`, `-`, `*`, a minus before a number, and parentheses";
+
+/// An expression, from where it begins up to where it does not go on.
+struct Broken<'a> {
+    s: &'a Spot<'a>,
+    from: usize,
+    stop: Stop,
+}
 
 pub fn explain(s: &Spot, e: &mut Explanation) -> bool {
-    let Some(from) = s.token.first().filter(|b| b"+-*(<>|/~&".contains(b)).and_then(|_| begins(s)) else { return false };
-    let to = extent(s.text, from, b"],;");
-    let text = shown(&s.text[from..to]);
-    let (value, text) = (value(&text), brief(text.as_bytes()));
-    s.point(e, to.max(s.at + 1), "one number must stand here");
-    match value {
-        Some(value) if value < 0 => {
-            if is_count(s) {
-                e.title(format!("`{text}` is negative; it is a count of columns"));
-                return say_count(s, e);
-            }
-            e.title(format!("`{text}` is negative; numbers and offsets below 0 are not read in this version"));
-            let most: i128 = if s.opcode() == "mov.b64" { 1 << 64 } else { 1 << 32 };
-            if s.opcode().starts_with("mov.") {
-                if value < -most / 2 {
-                    return say(e, "it has more bits than the statement moves");
-                }
-                let bits = format!("0x{:X}", value + most);
-                return offer(s, e, format!("write its bits, {bits}"), s.edit(from, to, bits));
-            }
-            say(e, "count the column from the start of the allocation, so that the offset is 0 or more")
-        }
-        _ => {
-            e.title(format!("`{text}` is an expression; only one number is read"));
-            let Some(value) = value else { return say(e, "write what it comes to as one number") };
-            offer(s, e, format!("write what it comes to, {value}"), s.edit(from, to, value.to_string()))
-        }
+    if behind_name(s, e) {
+        return true;
+    }
+    let Some(b) = Broken::at(s) else { return false };
+    if b.stop.operand {
+        b.nested(e) || b.plus(e) || b.empty(e) || b.missing(e) || b.doubled(e) || b.foreign(e)
+    } else {
+        b.extra(e) || b.unclosed(e) || b.foreign(e) || b.side_by_side(e)
     }
 }
 
-/// Where the number begins that the place is in: after the `+` of an address, at its sign, or where the operand begins.
+/// `[t-4]`: the offset of an address follows a `+`.
+fn behind_name(s: &Spot, e: &mut Explanation) -> bool {
+    let is_operator = matches!(s.token, b"-" | b"*" | b"/" | b"<" | b">" | b"|" | b"&");
+    if !is_operator || !s.could("+") {
+        return false;
+    }
+    let to = extent(s.text, s.at, b"],;");
+    let text = brief(&s.text[s.at..to]);
+    s.point(e, to, "the offset of an address follows a `+`");
+    if s.token != b"-" {
+        e.title(format!("`{text}` stands behind a name: a name is no part of an expression, and only `+` and an offset follow it"));
+        return say(e, "write `[NAME+NUMBER]`");
+    }
+    let value = expression::read(s.text, s.at).ok().filter(|read| read.whole.to == to).and_then(|read| read.whole.value);
+    if value.is_some_and(|value| value >= 0) {
+        e.title(format!("the offset `{text}` has no `+` before it"));
+        return offer(s, e, "put a `+` before it", s.edit(s.at, s.at, "+"));
+    }
+    e.title(format!("`{text}` stands behind a name; an offset follows a `+`, and one below 0 is not read in this version"));
+    say(e, "count the column from the start of the allocation, so that the offset is 0 or more")
+}
+
+/// Where the number begins that the place is in or behind: after the `+` of an address, or after the comma of a mov, alloc or dealloc.
 fn begins(s: &Spot) -> Option<usize> {
     let before = s.before();
+    let skip = |from: usize| from + s.text[from..].len() - s.text[from..].trim_ascii_start().len();
     let open = before.iter().rposition(|b| b"[,".contains(b))?;
-    let after = |from: usize| from + s.text[from..].len() - s.text[from..].trim_ascii_start().len();
-    let first = after(open + 1);
-    let run = s.text[first..].iter().take_while(|b| b.is_ascii_alphanumeric() || b"_$%".contains(b)).count();
-    let behind = after(first + run);
-    if before[open] == b'[' {
-        return match s.text.get(behind)? {
-            _ if s.opcode().contains("alloc") => None,
-            b'+' if behind < s.at => Some(after(behind + 1)),
-            b'-' if run > 0 => Some(behind),
-            _ => None,
-        };
+    let first = skip(open + 1);
+    let opcode = s.opcode();
+    if before[open] == b',' {
+        let is_number = opcode.starts_with("mov.") || opcode.contains("alloc.");
+        return (is_number && s.operand() == 1).then_some(first);
     }
-    let number = first >= s.at || s.text[first].is_ascii_digit();
-    (number && (s.could("1") || s.could(";"))).then_some(first)
+    let run = s.text[first..].iter().take_while(|b| b.is_ascii_alphanumeric() || b"_$%".contains(b)).count();
+    let plus = skip(first + run);
+    (run > 0 && !opcode.contains("alloc") && plus < s.at && s.text[plus] == b'+').then(|| skip(plus + 1))
 }
 
-/// The value of an expression; none if it is none, or goes too far.
+impl<'a> Broken<'a> {
+    /// The expression that the place is in or behind, if the library stops where this reading does.
+    fn at(s: &'a Spot<'a>) -> Option<Broken<'a>> {
+        let from = begins(s).filter(|&from| from <= s.at)?;
+        let stop = match expression::read(s.text, from) {
+            Ok(read) => {
+                let gap = s.text.get(read.whole.to..s.at)?;
+                gap.iter().all(|&b| b == b' ').then(|| Stop { at: s.at, open: Vec::new(), operand: false })?
+            }
+            Err(stop) => stop,
+        };
+        (stop.at == s.at).then_some(Broken { s, from, stop })
+    }
+
+    /// What stands before the place, spaces left out: in the expression.
+    fn last(&self) -> Option<u8> {
+        self.s.text[self.from.min(self.s.end())..self.s.end()].last().copied()
+    }
+
+    fn ends(&self) -> bool {
+        matches!(self.s.token, b")" | b"]" | b"," | b";" | b"")
+    }
+
+    fn relate(&self, e: &mut Explanation, at: usize, label: &str) {
+        e.related(self.s.c.line(), (at + 3, at + 4), label);
+    }
+
+    /// Offers what the expression comes to, where that is known and can stand there.
+    fn comes_to(&self, e: &mut Explanation, value: Option<i128>, to: usize) -> bool {
+        let s = self.s;
+        let most = if s.opcode() == "mov.b64" { u64::MAX.into() } else { i128::from(u32::MAX) };
+        match value.filter(|value| (0..=most).contains(value)) {
+            Some(value) => offer(s, e, format!("write what it comes to, {value}"), s.edit(self.from, to, value.to_string())),
+            None => say(e, "write what it comes to as one number"),
+        }
+    }
+
+    fn nested(&self, e: &mut Explanation) -> bool {
+        let s = self.s;
+        if !self.stop.is_nested(s.text) {
+            return false;
+        }
+        let mark = shown(s.token);
+        e.title(format!("the `{mark}` opens level {}: an expression is nested to {LEVELS} levels", LEVELS + 1));
+        s.point(e, s.at + 1, format!("{LEVELS} levels are open here"));
+        self.relate(e, self.stop.open[0], "the outermost of them opens here");
+        e.note("a parenthesis is a level up to its `)`, and a minus before a number or a parenthesis up to the end of that");
+        let read = expression::deep(s.text, self.from, DEEPEST).ok();
+        let to = read.map_or(s.at, |read| read.whole.to);
+        say(e, "take out parentheses and signs that change nothing");
+        self.comes_to(e, read.and_then(|read| read.whole.value), to)
+    }
+
+    /// A plus before a number.
+    fn plus(&self, e: &mut Explanation) -> bool {
+        let s = self.s;
+        if s.token != b"+" {
+            return false;
+        }
+        let to = s.at + s.rest().iter().take_while(|b| b"+ ".contains(b)).count();
+        e.title("a `+` stands where a number must begin: a number has no plus before it");
+        s.point(e, s.at + 1, "found `+`, where a number must stand");
+        offer(s, e, "take the `+` out", s.edit(s.at, to, ""))
+    }
+
+    fn empty(&self, e: &mut Explanation) -> bool {
+        if self.s.token != b")" || self.last() != Some(b'(') {
+            return false;
+        }
+        e.title("the parentheses are empty");
+        self.s.point(e, self.s.at + 1, "a number must stand before the `)`");
+        self.relate(e, self.s.end() - 1, "they open here");
+        say(e, "write a number between them")
+    }
+
+    /// An operator or a parenthesis after which nothing stands.
+    fn missing(&self, e: &mut Explanation) -> bool {
+        let (s, Some(mark)) = (self.s, self.last().filter(|_| self.ends())) else { return false };
+        let mark = char::from(mark);
+        e.title(format!("a number is missing after the `{mark}`"));
+        let found = if s.token.is_empty() { "the line ends here".into() } else { format!("found `{}`", brief(s.token)) };
+        s.point(e, s.at + s.token.len(), format!("{found}, where a number must stand"));
+        self.relate(e, s.end() - 1, "nothing stands behind it");
+        let kept = s.text[..s.end() - 1].trim_ascii_end().len();
+        if "+-*".contains(mark) && s.reads_with(kept, s.at, b"") {
+            return offer(s, e, format!("write the number, or take the `{mark}` out"), s.edit(kept, s.at, ""));
+        }
+        say(e, "write the number")
+    }
+
+    /// A `*` where a number must stand.
+    fn doubled(&self, e: &mut Explanation) -> bool {
+        let s = self.s;
+        if s.token != b"*" {
+            return false;
+        }
+        let last = self.last().map(char::from).filter(|ch| "+-*".contains(*ch));
+        e.title(match last {
+            Some(last) => format!("a `*` stands after a `{last}`, and no number between them"),
+            None => "a `*` stands where a number must stand".into(),
+        });
+        s.point(e, s.at + 1, "a number must stand here");
+        match last {
+            Some('*') => say(e, format!("a power is not taken: {TAKEN}")),
+            _ => say(e, "a `*` has a number on both sides"),
+        }
+    }
+
+    /// A `)` that closes nothing.
+    fn extra(&self, e: &mut Explanation) -> bool {
+        let s = self.s;
+        if s.token != b")" {
+            return false;
+        }
+        let all = s.rest().iter().take_while(|b| b") ".contains(b)).count();
+        let to = s.at + s.rest()[..all].trim_ascii_end().len();
+        e.title("a `)` stands here that closes nothing");
+        s.point(e, to, "no `(` is open here");
+        offer(s, e, "take it out, or put a `(` where it opens", s.edit(s.at, to, ""))
+    }
+
+    /// A `(` that is not closed where the expression ends.
+    fn unclosed(&self, e: &mut Explanation) -> bool {
+        let (s, open) = (self.s, self.stop.parentheses(self.s.text));
+        if open.is_empty() || !self.ends() {
+            return false;
+        }
+        e.title(if open.len() == 1 { "a `(` is not closed".into() } else { format!("{} `(` are not closed", open.len()) });
+        let found = if s.token.is_empty() { "the line ends here".into() } else { format!("found `{}`", brief(s.token)) };
+        s.point(e, s.at + s.token.len(), format!("{found}, where `)` must stand"));
+        for &at in open.iter().take(4) {
+            self.relate(e, at, "it opens here");
+        }
+        let close = ")".repeat(open.len());
+        let ended = format!("{close};");
+        match s.token.is_empty() && s.reads_with(s.end(), s.text.len(), ended.as_bytes()) {
+            true => offer(s, e, format!("write `{ended}` at the end"), s.edit(s.end(), s.text.len(), ended)),
+            false => offer(s, e, format!("put `{close}` before it"), s.edit(s.end(), s.end(), close)),
+        }
+    }
+
+    /// An operator that is not taken.
+    fn foreign(&self, e: &mut Explanation) -> bool {
+        let s = self.s;
+        let marks: &[u8] = if self.stop.operand { b"~!" } else { b"/%<>|&^=?" };
+        let length = s.rest().iter().take_while(|b| marks.contains(b)).count();
+        if length == 0 {
+            return false;
+        }
+        let mark = brief(&s.rest()[..length]);
+        e.title(format!("`{mark}` is not taken in an expression"));
+        s.point(e, s.at + length, "no operator of a sheet");
+        e.note(TAKEN);
+        let to = extent(s.text, self.from, b"],;");
+        self.comes_to(e, value(&shown(&s.text[self.from..to])), to)
+    }
+
+    /// Two numbers without an operator.
+    fn side_by_side(&self, e: &mut Explanation) -> bool {
+        let s = self.s;
+        let is_run = is_number(s.token);
+        if !is_run && s.token != b"(" {
+            return false;
+        }
+        let (found, to) = (brief(s.token), s.at + s.token.len());
+        e.title(format!("`{found}` stands behind a number, and no operator between them"));
+        s.point(e, to, format!("found `{found}`, where {} or an operator must stand", s.must()));
+        if !is_run {
+            return offer(s, e, "if they are multiplied, put a `*` between them", s.edit(s.at, s.at, "*"));
+        }
+        let run = s.text[..s.end()].iter().rev().take_while(|b| b.is_ascii_alphanumeric()).count();
+        let joined = [&s.text[s.end() - run..s.end()], s.token].concat();
+        if run > 0 && is_number(&joined) {
+            e.fix(s.c.sheet, format!("if they are one number, write `{}`", brief(&joined)), s.edit(s.end(), s.at, ""));
+        }
+        say(e, "put `+`, `-` or `*` between them, or take one of them out")
+    }
+}
+
+/// Operators by how loosely they bind, those that are not taken too.
+const BINDING: [&[&str]; 6] = [&["|"], &["^"], &["&"], &["<<", ">>"], &["+", "-"], &["*", "/", "%"]];
+
+/// The value of an expression that may have operators that are not taken; none if it is none, or goes too far.
 pub fn value(text: &str) -> Option<i128> {
     let mut reader = Reader { text, depth: 0 };
     let value = reader.level(0)?;
@@ -70,7 +259,7 @@ pub fn value(text: &str) -> Option<i128> {
 
 struct Reader<'a> {
     text: &'a str,
-    depth: u32,
+    depth: usize,
 }
 
 impl Reader<'_> {
@@ -81,7 +270,7 @@ impl Reader<'_> {
     }
 
     fn level(&mut self, level: usize) -> Option<i128> {
-        let Some(operators) = LEVELS.get(level) else { return self.unit() };
+        let Some(operators) = BINDING.get(level) else { return self.unit() };
         let mut value = self.level(level + 1)?;
         while let Some(operator) = operators.iter().find(|operator| self.take(operator)) {
             let other = self.level(level + 1)?;
@@ -93,7 +282,7 @@ impl Reader<'_> {
     /// A number, a sign and what it belongs to, or what stands in parentheses.
     fn unit(&mut self) -> Option<i128> {
         self.depth += 1;
-        if self.depth > DEEPEST {
+        if self.depth > LEVELS {
             return None;
         }
         let value = if self.take("-") {
@@ -105,21 +294,27 @@ impl Reader<'_> {
             let text = self.text.trim_start();
             let length = text.bytes().take_while(u8::is_ascii_alphanumeric).count();
             self.text = &text[length..];
-            i128::from(number::b64(&text[..length]).ok()?)
+            i128::from(number::plain64(&text[..length]).ok()?)
         };
         self.depth -= 1;
         Some(value)
     }
 }
 
+/// The result of an operator; of those that are not taken only where none is negative, for there signs are no matter.
 fn combined(operator: &str, a: i128, b: i128) -> Option<i128> {
     match operator {
         "+" => a.checked_add(b),
         "-" => a.checked_sub(b),
         "*" => a.checked_mul(b),
+        _ if a < 0 || b < 0 => None,
         "|" => Some(a | b),
-        "<<" if (0..63).contains(&b) => a.checked_mul(1 << b),
-        ">>" if (0..63).contains(&b) => Some(a >> b),
+        "^" => Some(a ^ b),
+        "&" => Some(a & b),
+        "/" => a.checked_div(b),
+        "%" => a.checked_rem(b),
+        "<<" if b < 63 => a.checked_mul(1 << b),
+        ">>" if b < 63 => Some(a >> b),
         _ => None,
     }
 }
@@ -136,7 +331,9 @@ mod tests {
         assert_eq!(value("8 - 2 - 1"), Some(5));
         assert_eq!(value("- (-4)"), Some(4));
         assert_eq!(value("-4"), Some(-4));
-        for none in ["", "1+", "(1", "x", "1<<99", "1 2", "08", "18446744073709551615*2", "4/2"] {
+        assert_eq!(value("100/8*2 + 100%8"), Some(28));
+        assert_eq!(value("6&3^1|8"), Some(11));
+        for none in ["", "1+", "(1", "x", "1<<99", "1 2", "08", "18446744073709551615*2", "4/0", "4%0", "-4/2", "-1|1", "4/-2"] {
             assert_eq!(value(none), None, "{none}");
         }
         assert_eq!(value(&"(".repeat(2000)), None);
