@@ -29,6 +29,18 @@ pub enum Fault {
     Long,
 }
 
+impl Fault {
+    /// The same of a longer text, in which so many bytes stand before the number.
+    pub fn after(self, bytes: usize) -> Fault {
+        match self {
+            Fault::Partial(from, to) => Fault::Partial(from + bytes, to + bytes),
+            Fault::Nested(at) => Fault::Nested(at + bytes),
+            Fault::Broken(at) => Fault::Broken(at + bytes),
+            other => other,
+        }
+    }
+}
+
 impl fmt::Display for Fault {
     fn fmt(&self, f: &mut fmt::Formatter<'_>) -> fmt::Result {
         match self {

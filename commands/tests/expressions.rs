@@ -259,3 +259,22 @@ fn words_of_describe() {
         assert_eq!((b32(text), b64(text)), (Err(Fault::Spelling), Err(Fault::Spelling)), "{text:?}");
     }
 }
+
+/// The table of expressions of docs/FORMAT.md: what each comes to in `mov.b64`, or its reason.
+#[test]
+fn the_table_of_the_format() {
+    let (_, table) = include_str!("../../docs/FORMAT.md").split_once("| Expression | Is | Because |\n").expect("the table");
+    let mut count = 0;
+    for row in table.lines().skip(1).map_while(|line| line.strip_prefix("| ")) {
+        let cells: Vec<&str> = row.split(" | ").collect();
+        for text in cells[0].split('`').skip(1).step_by(2) {
+            let found = match library(text, 64) {
+                Ok(value) => value.to_string(),
+                Err((reason, _)) => format!("reason {}", reason.number()),
+            };
+            assert_eq!(found, cells[1], "{text}");
+            count += 1;
+        }
+    }
+    assert!(count >= 25, "{count} expressions");
+}

@@ -175,7 +175,7 @@ fn assign(sort: Sort, text: &str, values: &mut [u64]) -> Result<(), String> {
         Some(row) => row.0,
         None => number::b64(value).map_err(|fault| match fault {
             Fault::Spelling if !names.is_empty() => format!("no number and no name: {text}"),
-            _ => format!("{fault}: {text}"),
+            _ => format!("{}: {text}", fault.after(text.len() - value.len())),
         })?,
     };
     Ok(())
