@@ -29,8 +29,8 @@ extern "C" {
 #endif
 
 /* The version of this header, and the same as major * 10,000 + minor * 100 + patch. */
-#define STAPLEHORN_VERSION "0.6.0"
-#define STAPLEHORN_VERSION_NUMBER 600
+#define STAPLEHORN_VERSION "0.7.0"
+#define STAPLEHORN_VERSION_NUMBER 700
 
 /* Bytes of stack that are enough for any call. */
 #define STAPLEHORN_STACK 32768
@@ -222,18 +222,20 @@ uint32_t staplehorn_fragment_holder(uint32_t matrix, uint32_t row, uint32_t colu
                                     uint32_t holder[STAPLEHORN_HOLDER_FIELDS]);
 
 /* Statements. A number in one is decimal, hexadecimal (0x40), octal (0100: a leading zero) or binary (0b1000000), and one U may
-   stand behind it; docs/FORMAT.md has each spelling. */
+   stand behind it; or it is an expression of such, with +, -, *, a minus before it and parentheses, nested to 16:
+   (32*65536)+4. docs/FORMAT.md has each spelling and the rule. */
 
-/* The reason of a statement's text by itself: 3 no form matches, 4 a number is too large, 5 N is over the shape's largest
-   or the count of registers differs; else 0. At most 4,096 bytes; a longer text is 3. The byte to which it points, counted from
-   1 at the text's first byte, goes to *column: for 3 where no form can go on, which may be one past the end; for 4 the
-   number; 1 for 5; 0 for 0. In a line of a sheet the same refusal has a column 2 higher. */
+/* The reason of a statement's text by itself: 3 no form matches, 4 a number is too large, or a result or a partial result of an
+   expression is out of range, 5 N is over the shape's largest or the count of registers differs; else 0. At most 4,096 bytes; a
+   longer text is 3. The byte to which it points, counted from 1 at the text's first byte, goes to *column: for 3 where no form
+   can go on, which may be one past the end; for 4 the number's or the expression's first; 1 for 5; 0 for 0. In a
+   line of a sheet the same refusal has a column 2 higher. */
 uint32_t staplehorn_statement_reason(const uint8_t *text, size_t text_length, size_t *column);
 
-/* The canonical text of a statement: one space after the opcode and after each comma, decimals without U, no `+0` and no
-   `.shared::cta`. Its length goes to *length and its bytes to the first places of room; the places past it are left as
-   they are. 3 or 4 if the text does not read, 19 if the room is too short: then *length is 0 and room is left as it is.
-   STAPLEHORN_STATEMENT_ROOM bytes are room for any statement. A text of reason 5 reads, so it is written. */
+/* The canonical text of a statement: one space after the opcode and after each comma, decimals without U (of an expression what
+   it comes to), no `+0` and no `.shared::cta`. Its length goes to *length and its bytes to the first places of room; the places
+   past it are left as they are. 3 or 4 if the text does not read, 19 if the room is too short: then *length is 0 and room is
+   left as it is. STAPLEHORN_STATEMENT_ROOM bytes are room for any statement. A text of reason 5 reads, so it is written. */
 enum { STAPLEHORN_STATEMENT_ROOM = 2560 };
 uint32_t staplehorn_statement_canonical(const uint8_t *text, size_t text_length, uint8_t *room, size_t room_length,
                                         size_t *length);

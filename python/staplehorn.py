@@ -14,7 +14,7 @@ import enum
 import os
 from typing import List, NamedTuple
 
-SONAME = "libstaplehorn.so.0.6"
+SONAME = "libstaplehorn.so.0.7"
 REPORT_ROOM = 102391
 STATEMENT_ROOM = 2560
 MOST_ALLOCS = 4095
@@ -217,7 +217,8 @@ def statement(text):
 
 
 def canonical(text):
-    """The canonical text of a statement, or raises Refused (3 or 4); `statement` says where."""
+    """The canonical text of a statement, or raises Refused (3 or 4); `statement` says where. Numbers are written in decimals, an
+    expression as what it comes to."""
     text, room, length = bytes(text), ctypes.create_string_buffer(STATEMENT_ROOM), ctypes.c_size_t()
     _check(_c.staplehorn_statement_canonical(text, len(text), room, STATEMENT_ROOM, length))
     return room.raw[: length.value]

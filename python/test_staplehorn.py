@@ -92,6 +92,12 @@ class Module(unittest.TestCase):
             for text in over:
                 for end in ("", "U"):
                     self.assertEqual(self.refused(4, s.statement, f"mov.b{bits} x,  {text}{end};".encode()).column, 13, text)
+        for text, value in (("(32*65536)+4", 2097156), ("2-3*-4", 14), ("- ( 3-0x10U )", 13), ("10-4-3", 3), ("-0", 0), ("--5", 5)):
+            self.assertEqual(s.canonical(f"mov.b32 x, {text};".encode()), f"mov.b32 x, {value};".encode())
+        for text in ("1-2", "65536*65536", "9223372036854775807+1-1", "4294967296*4294967296*0"):
+            self.assertEqual(self.refused(4, s.statement, f"mov.b32 x, {text};".encode()).column, 12, text)
+        for text, column in (("+1", 12), ("1++2", 14), ("()", 13), ("(1)(2)", 15), ("4/2", 13), ("(" * 17 + "1" + ")" * 17, 28), ("(1", 14)):
+            self.assertEqual(self.refused(3, s.statement, f"mov.b32 x, {text};".encode()).column, column, text)
         alloc, dealloc = "tcgen05.alloc.cta_group::1.sync.aligned.b32", "tcgen05.dealloc.cta_group::1.sync.aligned.b32"
         sheet = f"sheet\t1\tsm_100a\n0\t{alloc} [t], 0100;\n0\t{alloc} [u], 0b100000U;\n0\t{dealloc} t, 64;\n0\t{dealloc} u, 0x20;\n0\texit;\n"
         self.assertEqual(s.judge(sheet.encode()), s.Passed(6, 96, [0, 64]))

@@ -7,8 +7,8 @@ use staplehorn_difftest::proved;
 use staplehorn_reference::entries::{all, Entry};
 use staplehorn_reference::report::report;
 
-/// The version that is compared: 0.6.0.
-const VERSION: u32 = 600;
+/// The version that is compared: 0.7.0.
+const VERSION: u32 = 700;
 /// What stands in a list or room before a call.
 const BEFORE: u16 = 0xA5A5;
 /// The least room that takes any report.

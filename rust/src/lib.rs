@@ -150,7 +150,8 @@ pub fn statement(text: &[u8]) -> Result<(), RefusedStatement> {
     Reason::check(reason).map_err(|reason| RefusedStatement { reason, column })
 }
 
-/// The canonical text of a statement, or `Form` or `Number`; `statement` says where.
+/// The canonical text of a statement, or `Form` or `Number`; `statement` says where. Numbers are written in decimals, an expression as what
+/// it comes to.
 pub fn canonical(text: &[u8]) -> Result<Vec<u8>, Reason> {
     let mut room = vec![0; c::STATEMENT_ROOM];
     let mut length = 0;

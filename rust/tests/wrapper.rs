@@ -76,6 +76,11 @@ fn reports_are_those_of_foot() {
 fn statements() {
     assert_eq!(canonical(b"mov.b32  x ,0x10 ;").unwrap(), b"mov.b32 x, 16;");
     assert_eq!(canonical(b"mov.b32 x, 010U;").unwrap(), b"mov.b32 x, 8;");
+    assert_eq!(canonical(b"mov.b32 x, - (3 - 0x10)*2;").unwrap(), b"mov.b32 x, 26;");
+    assert_eq!(
+        canonical(b"tcgen05.st.sync.aligned.32x32b.x1.b32 [t+2-2], {r};").unwrap(),
+        b"tcgen05.st.sync.aligned.32x32b.x1.b32 [t], {r};"
+    );
     assert_eq!(canonical(b"mov.b32 x, 4294967296;"), Err(Reason::Number));
     assert_eq!(statement(b"exit;"), Ok(()));
     // more than 4,096 bytes that would read: one past the end
@@ -86,6 +91,10 @@ fn statements() {
         (" exit;", Reason::Form, 1),
         ("exit; ", Reason::Form, 6),
         ("mov.b32 x, 4294967296;", Reason::Number, 12),
+        ("mov.b32 x, 1-2;", Reason::Number, 12),
+        ("mov.b32 x, 4294967296*4294967296*0;", Reason::Number, 12),
+        ("mov.b32 x, 1+;", Reason::Form, 14),
+        ("mov.b32 x, (((((((((((((((((1)))))))))))))))));", Reason::Form, 28),
         ("tcgen05.ld.sync.aligned.32x32b.x2.b32 {r}, [t];", Reason::Registers, 1),
         (&long, Reason::Form, 4_098),
     ] {
