@@ -345,6 +345,8 @@ fn operators_that_are_not_taken() {
         ("mov.b32 y, 2*x;", "`x` stands where a number must be written out", Some("mov.b32 y, 2*1;")),
         ("mov.b32 y, 2*x8;", "`x8` stands where a number must be written out", None),
         ("mov.b32 y, 2*1.5;", "`1.5` has a point; only whole numbers are read", None),
+        ("mov.b32 y, 2*.5;", "`.5` has a point; only whole numbers are read", None),
+        ("mov.b32 y, (2).5;", "`.5` has a point; only whole numbers are read", None),
         ("mov.b32 y, 2*08;", "`08` is no number: a leading zero means octal, which has the digits 0 to 7", Some("mov.b32 y, 2*8;")),
     ]);
     assert!(notes_of("mov.b32 y, 64/2;").contains("an expression has `+`, `-`, `*`, a minus before a number, and parentheses"));
@@ -393,6 +395,8 @@ fn parentheses() {
         ("mov.b32 y, (4 * );", "a number is missing after the `*`", Some("mov.b32 y, (4);")),
         (&format!("{LOAD}[t+4+];"), "a number is missing after the `+`", Some(&format!("{LOAD}[t+4];"))),
         ("mov.b32 y, -;", "a number is missing after the `-`", None),
+        (&format!("{LOAD}[t+];"), "a number is missing after the `+`", Some(&format!("{LOAD}[t];"))),
+        (&format!("{LOAD}[t + ;"), "a number is missing after the `+`", None),
         ("mov.b32 y, 1 2;", "`2` stands behind a number, and no operator between them", Some("mov.b32 y, 12;")),
         ("mov.b32 y, (1)2;", "`2` stands behind a number, and no operator between them", None),
         ("mov.b32 y, (1)(2);", "`(` stands behind a number, and no operator between them", Some("mov.b32 y, (1)*(2);")),
@@ -786,6 +790,7 @@ fn counts_that_are_expressions() {
             "32, 64, 128, 256 or 512",
         ),
         ("tcgen05.dealloc.cta_group::1.sync.aligned.b32 v, 0-64;", 4, "`0-64` is -64; it is a count of columns", "`v` has 64"),
+        ("tcgen05.dealloc.cta_group::1.sync.aligned.b32 v, 64*67108865;", 4, "`64*67108865` is 4,294,967,360: 65 over", "`v` has 64"),
         ("tcgen05.alloc.cta_group::1.sync.aligned.b32 [v], 64+32;", 9, "`v` asks for 96 columns", "ask for 64"),
         ("tcgen05.dealloc.cta_group::1.sync.aligned.b32 v, 2*(64 + 32);", 9, "`v` has 64 columns, but 192 are given back", "give all 64"),
     ];
@@ -796,9 +801,9 @@ fn counts_that_are_expressions() {
         assert!(help_of(statement).contains(help), "{statement}: {}", help_of(statement));
     }
     let label = |statement: &str| said(statement).primary.map(|span| (span.from, span.to, span.label)).unwrap();
-    assert_eq!(label(rows[3].0), (52, 57, "96 columns: `64+32` is 96".into()));
-    assert_eq!(label(rows[4].0), (52, 63, "192 columns: `2*(64 + 32)` is 192".into()));
-    assert_eq!(fixed(rows[3].0, &said(rows[3].0)).as_deref(), Some("tcgen05.alloc.cta_group::1.sync.aligned.b32 [v], 64;"));
+    assert_eq!(label(rows[4].0), (52, 57, "96 columns: `64+32` is 96".into()));
+    assert_eq!(label(rows[5].0), (52, 63, "192 columns: `2*(64 + 32)` is 192".into()));
+    assert_eq!(fixed(rows[4].0, &said(rows[4].0)).as_deref(), Some("tcgen05.alloc.cta_group::1.sync.aligned.b32 [v], 64;"));
 }
 
 #[test]

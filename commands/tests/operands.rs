@@ -501,6 +501,30 @@ fn octal_offsets() {
     assert_eq!(octal(&s), "`0200000` is octal for 65536: a leading zero means octal");
 }
 
+/// Of an offset that is an expression its value is said wherever one points at it; an edit puts a number in its place.
+#[test]
+fn offsets_that_are_expressions() {
+    let s = access(&load(0, "[t+(32*65536)+4]"), Reason::Warp);
+    assert_eq!(s.label(), "lane 32, column 4 of `t`");
+    s.has_note("the offset `(32*65536)+4` is 2097156, and that is 32 * 65,536 + 4: lane 32, column 4");
+    let lines: Vec<_> = s.fixes().into_iter().map(|fix| fix.1).collect();
+    assert_eq!(lines, [load(0, "[t+4]"), load(1, "[t+(32*65536)+4]")]);
+    let s = access(&load(1, "[ t + 2 - 2 ]"), Reason::Warp);
+    s.has_note("the offset `2 - 2` is 0, and that is 0 * 65,536 + 0: lane 0, column 0");
+    assert_eq!(s.fixes()[0].1, load(1, "[t+2097152]"));
+    let s = access(&load(0, "[t+32*2]"), Reason::Cells);
+    s.has_note("the offset `32*2` is 64, and that is 0 * 65,536 + 64: lane 0, column 64");
+    assert_eq!(s.fixes()[0].1, load(0, "[t+63]"));
+    let s = said(mma("0x08000000+0x100010", GOOD_B, F16, 256, "[d], [d+(2*16)*65536+8], b, i, p"), Reason::Cells);
+    assert_eq!(s.e.title, "operand a is at lane 32 of `d`; every address of an mma has lane 0");
+    s.has_note("the offset `(2*16)*65536+8` is 2097160, and that is 32 * 65,536 + 8: lane 32, column 8");
+    // a descriptor's number, too, is what its expression comes to
+    let s = said(mma("0x08000000 + 0x400010", GOOD_B, F16, 128, DENSE), Reason::Cells);
+    s.has_note("d takes N columns; N is 256, for bits 17-22 of 0x08400010 are 32");
+    assert_eq!(s.related()[1], (2, "0x08000000 + 0x400010".into(), "idesc `i` gets N 256 here"));
+    assert_eq!(s.fixes(), [("take N 128, which fits: move 0x08200010 to `i`", "0\tmov.b32 i, 0x08200010;".into())]);
+}
+
 #[test]
 fn n_columns_of_d() {
     let s = said(mma("0x08400010", GOOD_B, F16, 128, DENSE), Reason::Cells);

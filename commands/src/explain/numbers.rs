@@ -1,6 +1,5 @@
 //! Reasons 4 and 5: a number that is too large for its place, and the count of registers. `partial.rs` has expressions.
 
-use super::booking::any_legal;
 use super::{counted, grouped, listed, partial, shown, Context, Explanation};
 use crate::sheet::Edit;
 use crate::statement::{self, Mma, Operand, Shape, Statement, MEMORY, SHAPES};
@@ -51,7 +50,7 @@ pub fn place(c: &Context, e: &mut Explanation, written: &str, value: Option<u128
         b"mov.b64" => e.help("a value has at most 64 bits: write a number that fits"),
         b"mov.b32" => moved(c, written, e),
         _ if is_offset(c) => offset(value, e),
-        _ => e.help(format!("the number of columns is {}", any_legal())),
+        _ => e.help(format!("the number of columns is {}", partial::count(c))),
     }
 }
 

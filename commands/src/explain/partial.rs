@@ -89,12 +89,12 @@ fn negative(c: &Context, e: &mut Explanation, read: &Expression, value: i128) {
     } else if is_offset(c) {
         e.help("count the column from the start of the allocation, so that the offset is 0 or more");
     } else {
-        e.help(format!("a count of columns is {}", count(c)));
+        e.help(format!("the number of columns is {}", count(c)));
     }
 }
 
 /// Which count of columns the line can have.
-fn count(c: &Context) -> String {
+pub fn count(c: &Context) -> String {
     let (from, to) = c.span(c.line(), 0);
     let name = shown(c.bytes().get(from - 1..to - 1).unwrap_or_default());
     match c.history.allocation(&name) {

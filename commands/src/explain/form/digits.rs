@@ -140,7 +140,7 @@ pub fn dot(s: &Spot, e: &mut Explanation) -> bool {
     let (from, to) = (s.at - run, (s.at + tail).min(s.text.len()));
     let whole = shown(&s.text[from..to]);
     s.point(e, s.at + tail, "after the opcode no `.` may stand");
-    if !whole.starts_with(|ch: char| ch.is_ascii_digit()) {
+    if !whole.trim_start_matches('.').starts_with(|ch: char| ch.is_ascii_digit()) {
         e.title(format!("`{}` is no name: a name has no `.`", brief(whole.as_bytes())));
         return say(e, "write a name without the `.`, such as one with `_` for it");
     }

@@ -82,9 +82,9 @@ impl<'a> Broken<'a> {
         (stop.at == s.at).then_some(Broken { s, from, stop })
     }
 
-    /// What stands before the place, spaces left out: in the expression.
+    /// What stands before the place, spaces left out: in the expression, or the `+` of the address.
     fn last(&self) -> Option<u8> {
-        self.s.text[self.from.min(self.s.end())..self.s.end()].last().copied()
+        self.s.before().trim_ascii_end().last().copied().filter(|&b| b != b',')
     }
 
     fn ends(&self) -> bool {
