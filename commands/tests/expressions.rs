@@ -1,7 +1,7 @@
 //! The reading of expressions that explanations are made from, held to the library: the same texts read, to the same value, they stop at
 //! the same byte, and where the library says 4 one partial result is out of range, or the result.
 
-use commands::expression::{self, Out, LEAST, LEVELS, MOST};
+use commands::expression::{self, Expression, Out, LEAST, LEVELS, MOST};
 use commands::number::{b32, b64, Fault};
 use staplehorn::{canonical, statement, Reason, RefusedStatement};
 use std::collections::BTreeMap;
@@ -79,63 +79,93 @@ fn damaged(r: &mut Random, text: String) -> String {
     String::from_utf8(bytes).unwrap()
 }
 
-/// What the library says of an expression in a mov of so many bits: its value, or the reason and the byte of the text.
-fn library(text: &str, bits: u32) -> Result<u64, (Reason, usize)> {
-    let before = format!("mov.b{bits} x, ");
-    let whole = format!("{before}{text};");
-    match statement(whole.as_bytes()) {
-        Ok(_) => {
-            let written = String::from_utf8(canonical(whole.as_bytes()).unwrap()).unwrap();
-            Ok(written[before.len()..written.len() - 1].parse().unwrap())
-        }
-        Err(RefusedStatement { reason, column }) => Err((reason, column - 1 - before.len())),
+/// A place where a number stands: what is before it, what is after it, and the bits that fit.
+struct Place {
+    before: &'static str,
+    after: &'static str,
+    bits: u32,
+}
+
+const MOV32: Place = Place { before: "mov.b32 x, ", after: ";", bits: 32 };
+const MOV64: Place = Place { before: "mov.b64 x, ", after: ";", bits: 64 };
+const ALLOC: Place = Place { before: "tcgen05.alloc.cta_group::1.sync.aligned.b32 [t], ", after: ";", bits: 32 };
+const STORE: Place = Place { before: "tcgen05.st.sync.aligned.32x32b.x1.b32 [t+", after: "], {r};", bits: 32 };
+
+impl Place {
+    fn with(&self, text: &str) -> String {
+        format!("{}{text}{}", self.before, self.after)
+    }
+
+    fn most(&self) -> i128 {
+        (1 << self.bits) - 1
+    }
+
+    /// What the library says of a text there: its value, or the reason and the byte of the statement, from 0.
+    fn library(&self, text: &str) -> Result<u64, (Reason, usize)> {
+        let whole = self.with(text);
+        statement(whole.as_bytes()).map_err(|RefusedStatement { reason, column }| (reason, column - 1))?;
+        let written = String::from_utf8(canonical(whole.as_bytes()).unwrap()).unwrap();
+        // no `+0` is written
+        let number = written.strip_prefix(self.before).and_then(|rest| rest.strip_suffix(self.after));
+        Ok(number.map_or(0, |number| number.parse().unwrap()))
     }
 }
 
-/// Compares both readings of a text; says what it was.
-fn compared(text: &str, bits: u32) -> &'static str {
-    let whole = format!("{text};");
-    let lead = text.len() - text.trim_start().len();
-    let read = expression::read(whole.as_bytes(), 0);
-    let most = (1i128 << bits) - 1;
-    match (library(text, bits), read) {
+/// Compares both readings of a text at a place; says what it was.
+fn compared(text: &str, place: &Place) -> &'static str {
+    let (whole, from) = (place.with(text), place.before.len());
+    let past = |at: usize| at + whole[at..].len() - whole[at..].trim_start().len();
+    match (place.library(text), expression::read(whole.as_bytes(), from)) {
         (Ok(value), Ok(read)) => {
-            assert_eq!((read.whole.value, read.out(most)), (Some(value.into()), None), "{text}");
+            assert_eq!((read.whole.value, read.out(place.most())), (Some(value.into()), None), "{whole}");
             "reads"
         }
         (Err((Reason::Number, at)), Ok(read)) => {
-            assert_eq!((at, read.whole.to), (lead, text.trim_end().len()), "{text}");
-            match read.out(most).expect(text) {
-                Out::Partial(part) => {
-                    assert!(!read.alone && !part.value.is_some_and(|value| (LEAST..=MOST).contains(&value)), "{text}");
-                    "a partial result"
-                }
-                Out::Negative(value) => {
-                    assert!(value < 0 && read.beyond.is_none(), "{text}");
-                    "negative"
-                }
-                Out::Large(value) => {
-                    assert!(value.is_none_or(|value| value > most) && (read.alone || read.beyond.is_none()), "{text}");
-                    "large"
-                }
-            }
+            assert_eq!((at, read.whole.from, past(read.whole.to)), (past(from), past(from), from + text.len()), "{whole}");
+            out_of_range(&whole, &read, place.most())
         }
         (Err((Reason::Form, at)), Ok(read)) => {
-            // it ends, and something stands behind it
-            let behind = &whole[read.whole.to..];
-            assert_eq!(at, whole.len() - behind.trim_start().len(), "{text}");
-            assert_ne!(behind.trim_start(), ";", "{text}");
+            // it ends, and something stands behind it that does not belong there
+            assert_eq!(at, past(read.whole.to), "{whole}");
+            assert_ne!(&whole[at..], place.after, "{whole}");
             "goes on"
         }
         (Err((Reason::Form, at)), Err(stop)) => {
-            assert_eq!(at, stop.at, "{text}");
+            assert_eq!(at, stop.at, "{whole}");
             if stop.is_nested(whole.as_bytes()) {
                 "nested"
             } else {
                 "broken"
             }
         }
-        both => panic!("{text}: {both:?}"),
+        both => panic!("{whole}: {both:?}"),
+    }
+}
+
+/// What is out of range: one partial result, or what it comes to.
+fn out_of_range(whole: &str, read: &Expression, most: i128) -> &'static str {
+    match read.out(most).unwrap() {
+        Out::Partial(part) => {
+            assert!(!read.alone && !part.value.is_some_and(|value| (LEAST..=MOST).contains(&value)), "{read:?}");
+            // by itself it is out of range for the library, where there is a level left to ask so, and nothing smaller in it is
+            let text = &whole[part.from..part.to];
+            let reason = MOV64.library(&format!("({text})*0")).map_err(|refused| refused.0);
+            assert!(
+                reason == Err(Reason::Number) || reason == Err(Reason::Form) && text.matches(['-', '(']).count() >= LEVELS,
+                "{text}: {reason:?}"
+            );
+            let beyond = expression::read(text.as_bytes(), 0).unwrap().beyond.unwrap();
+            assert_eq!((beyond.from, beyond.to, beyond.value), (0, text.len(), part.value), "{text}");
+            "a partial result"
+        }
+        Out::Negative(value) => {
+            assert!(value < 0 && read.beyond.is_none(), "{read:?}");
+            "negative"
+        }
+        Out::Large(value) => {
+            assert!(value.is_none_or(|value| value > most) && (read.alone || read.beyond.is_none()), "{read:?}");
+            "large"
+        }
     }
 }
 
@@ -149,7 +179,7 @@ fn many_texts() {
         if i % 3 == 0 {
             text = damaged(&mut r, text);
         }
-        *counts.entry(compared(&text, [32, 64][i % 2])).or_default() += 1;
+        *counts.entry(compared(&text, [&MOV32, &MOV64, &ALLOC, &STORE][i % 4])).or_default() += 1;
     }
     println!("{counts:#?}");
     for what in ["reads", "a partial result", "negative", "large", "goes on", "broken", "nested"] {
@@ -164,7 +194,7 @@ fn short_texts() {
     for length in 1..=6u32 {
         for index in 0..MARKS.len().pow(length) {
             let text: String = (0..length).map(|place| MARKS[index / MARKS.len().pow(place) % MARKS.len()]).collect();
-            compared(&text, 64);
+            compared(&text, if index % 2 == 0 { &MOV64 } else { &STORE });
         }
     }
 }
@@ -202,10 +232,10 @@ fn limits() {
         ("+1".into(), "broken"),
         ("4294967296*4294967296*4294967296+".into(), "broken"),
     ] {
-        assert_eq!(compared(&text, 32), what, "{text}");
+        assert_eq!((compared(&text, &MOV32), compared(&text, &ALLOC), compared(&text, &STORE)), (what, what, what), "{text}");
     }
-    assert_eq!((compared("18446744073709551615", 64), compared("(18446744073709551615)", 64)), ("reads", "a partial result"));
-    assert_eq!((compared("9223372036854775807", 64), compared("9223372036854775806+1", 64)), ("reads", "reads"));
+    assert_eq!((compared("18446744073709551615", &MOV64), compared("(18446744073709551615)", &MOV64)), ("reads", "a partial result"));
+    assert_eq!((compared("9223372036854775807", &MOV64), compared("9223372036854775806+1", &MOV64)), ("reads", "reads"));
 }
 
 /// Which part is out of range: the first in the order in which they are made.
@@ -268,7 +298,7 @@ fn the_table_of_the_format() {
     for row in table.lines().skip(1).map_while(|line| line.strip_prefix("| ")) {
         let cells: Vec<&str> = row.split(" | ").collect();
         for text in cells[0].split('`').skip(1).step_by(2) {
-            let found = match library(text, 64) {
+            let found = match MOV64.library(text) {
                 Ok(value) => value.to_string(),
                 Err((reason, _)) => format!("reason {}", reason.number()),
             };
