@@ -685,6 +685,9 @@ fn offsets_are_not_lost() {
             ("{r}, [t+n];", "`n` stands where a number must be written out", &[("write `32`, which line 6 moves to `n`", right)]),
         ],
     );
+    // of an expression that was moved the number is written
+    let offered = ("write `32`, which line 6 moves to `n`", "{r}, [t+2*32];");
+    table("0\tmov.b32 n, 28+4;\n", DENSE_WORD, LD, &[("{r}, [t+2*n];", "`n` stands where a number must be written out", &[offered])]);
     table(
         "",
         DENSE_WORD,
@@ -800,6 +803,15 @@ fn counts_that_are_expressions() {
         assert!(e.title.starts_with(title), "{statement}: {}", e.title);
         assert!(help_of(statement).contains(help), "{statement}: {}", help_of(statement));
     }
+    let octal = "`064` is octal for 52: a leading zero means octal";
+    for (statement, number) in [
+        ("tcgen05.alloc.cta_group::1.sync.aligned.b32 [v], 2*064;", 9),
+        ("tcgen05.dealloc.cta_group::1.sync.aligned.b32 v, (064);", 9),
+        ("mov.b32 y, 07-064;", 4),
+    ] {
+        assert_eq!((reason(&said(statement)), notes_of(statement).matches(octal).count()), (number, 1), "{statement}");
+    }
+    assert!(!notes_of("tcgen05.alloc.cta_group::1.sync.aligned.b32 [v], 2*07+00;").contains("octal"));
     let label = |statement: &str| said(statement).primary.map(|span| (span.from, span.to, span.label)).unwrap();
     assert_eq!(label(rows[4].0), (52, 57, "96 columns: `64+32` is 96".into()));
     assert_eq!(label(rows[5].0), (52, 63, "192 columns: `2*(64 + 32)` is 192".into()));

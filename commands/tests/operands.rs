@@ -497,6 +497,7 @@ fn octal_offsets() {
         assert_eq!(octal(&access(&load(1, &format!("[t+{number}]")), Reason::Warp)), note, "{number}");
     }
     assert_eq!(octal(&access(&load(1, "[t]"), Reason::Warp)), "");
+    assert_eq!(octal(&access(&load(0, "[t+(2*040)+0]"), Reason::Cells)), "`040` is octal for 32: a leading zero means octal");
     let s = said(mma("0x08100010", GOOD_B, F16, 256, "[d+0200000], b, b, i, p"), Reason::Cells);
     assert_eq!(octal(&s), "`0200000` is octal for 65536: a leading zero means octal");
 }

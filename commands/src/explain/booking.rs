@@ -1,7 +1,7 @@
 //! Reasons 8 (by warp), 9, 10, 11 and 15: who allocates, how many columns, when, where, and what is held at the end.
 
 use super::names::{self, some_of, Sort};
-use super::numbers::cut;
+use super::numbers::{cut, octal_in};
 use super::outstanding::{missing, once, waits};
 use super::{counted, listed, shown, Context, Explanation};
 use crate::history::{Allocation, By, History};
@@ -77,6 +77,12 @@ fn spelled(c: &Context, columns: u32) -> (usize, String) {
     (c.column() + text.len(), label)
 }
 
+/// Says that a number of the expression that is refused is octal; of a number alone its label does.
+fn octals(c: &Context, e: &mut Explanation) {
+    let text = c.number();
+    e.notes.extend(octal_in(&text).filter(|_| octal(&text).is_none()));
+}
+
 /// What the digits of an octal number would be as decimals.
 fn octal(text: &str) -> Option<u32> {
     let digits = text.trim_end_matches('U').strip_prefix('0')?;
@@ -94,6 +100,7 @@ fn request(c: &Context, e: &mut Explanation, name: &str, columns: u32) {
     let legal = legal();
     let (Some(&least), Some(&most)) = (legal.first(), legal.last()) else { return };
     let (to, label) = spelled(c, columns);
+    octals(c, e);
     e.title(format!("`{name}` asks for {}; an alloc takes {}", counted(columns, "column"), any_legal()));
     e.point(to, label);
     e.note(match columns {
@@ -138,6 +145,7 @@ fn said(c: &Context, line: usize, n: u32) -> String {
 fn part(c: &Context, e: &mut Explanation, name: &str, columns: u32) {
     let Some(a) = c.history.allocation(name) else { return };
     let (to, label) = spelled(c, columns);
+    octals(c, e);
     e.title(format!("`{name}` has {}, but {columns} are given back", counted(a.columns, "column")));
     e.point(to, label);
     e.related(a.line, c.span(a.line, 1), format!("`{name}` takes {} here", counted(a.columns, "column")));

@@ -3,7 +3,7 @@
 
 use super::booking::back;
 use super::descriptors::{hex, moved, offer, takes, under};
-use super::numbers::cut;
+use super::numbers::{cut, octal_in};
 use super::{counted, gets_further, grouped, listed, token_end, Context, Explanation};
 use crate::history::Allocation;
 use crate::rules::{INSTRUCTION, N};
@@ -51,13 +51,9 @@ fn offset(c: &Context, address: &Address) -> String {
     }
 }
 
-/// Says that the number of the address that is pointed at is octal, where its digits would be another number as decimals.
-fn octal(c: &Context, e: &mut Explanation, address: &Address) {
-    let number = spelled(c);
-    let digits = number.trim_end_matches('U');
-    if digits.starts_with('0') && digits.parse::<u64>().is_ok_and(|decimals| decimals != u64::from(address.offset)) {
-        e.note(format!("`{number}` is octal for {}: a leading zero means octal", address.offset));
-    }
+/// Says that a number of the address that is pointed at is octal, where its digits would be another number as decimals.
+fn octal(c: &Context, e: &mut Explanation) {
+    e.notes.extend(octal_in(&spelled(c)));
 }
 
 fn verb(store: bool) -> &'static str {
@@ -84,7 +80,7 @@ pub fn lane(c: &Context, e: &mut Explanation) {
         e.title(format!("warp {warp} cannot {} `.{}` at lane {lane}: it starts at lane {}", verb(*store), shape.name, listed(&may, "or")));
     }
     e.point(token_end(c.bytes(), c.column()), format!("lane {lane}, column {} of `{name}`", address.column()));
-    octal(c, e, address);
+    octal(c, e);
     e.note(offset(c, address));
     e.note(format!("`.{}` takes {} lanes; by warp {warp} it starts at lane {}", shape.name, shape.lanes, listed(&may, "or")));
     if lane >= LANES {
@@ -226,7 +222,7 @@ impl<'a> Cells<'a> {
             format!("{} from column {first} on: {past} the end of `{name}`", counted(self.columns, "column")),
         );
         self.taken(e);
-        octal(self.c, e, self.address);
+        octal(self.c, e);
         if !is_run(&spelled(self.c)) {
             e.note(offset(self.c, self.address));
         }
@@ -276,7 +272,7 @@ impl<'a> Cells<'a> {
         let (lane, column, has) = (address.lane(), address.column(), self.allocation.columns);
         e.title(format!("{} is at lane {lane} of `{}`; every address of an mma has lane 0", self.who, address.name));
         e.point(token_end(c.bytes(), c.column()), format!("{role}: lane {lane}, column {column} of `{}`", address.name));
-        octal(c, e, address);
+        octal(c, e);
         e.note(offset(c, address));
         e.note("only ld and st have a lane in their addresses");
         if column + self.columns > has {

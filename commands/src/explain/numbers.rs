@@ -129,6 +129,14 @@ fn value(written: &str) -> Option<u128> {
     expression::number(written).flatten()
 }
 
+/// Says of the first octal number in a text that it is one, if its digits would be another number as decimals.
+pub fn octal_in(text: &str) -> Option<String> {
+    let runs = text.split(|ch: char| !ch.is_ascii_alphanumeric()).filter(|run| run.starts_with('0'));
+    let mut octals = runs.filter_map(|run| Some((run, value(run)?, run.trim_end_matches('U').parse::<u128>().ok()?)));
+    let (run, value, _) = octals.find(|(_, value, decimals)| value != decimals)?;
+    Some(format!("`{}` is octal for {value}: a leading zero means octal", cut(run)))
+}
+
 /// `grouped`, for numbers of 128 bits.
 pub fn grouped128(n: u128) -> String {
     match (u64::try_from(n), n / 1_000, n % 1_000) {

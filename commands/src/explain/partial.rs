@@ -2,7 +2,7 @@
 //! is read here, and `tests/expressions.rs` holds that reading to the library.
 
 use super::booking::any_legal;
-use super::numbers::{bits, cut, grouped128, is_offset, place, NEAR};
+use super::numbers::{bits, cut, grouped128, is_offset, octal_in, place, NEAR};
 use super::{grouped, shown, Context, Explanation};
 use crate::expression::{Expression, Out, Part, LEAST, MOST};
 use crate::sheet::Edit;
@@ -20,6 +20,7 @@ pub fn explain(c: &Context, e: &mut Explanation, read: &Expression) {
         Some(Out::Large(Some(value))) => large(c, e, read, value - most),
         _ => {}
     }
+    e.notes.extend(octal_in(&text(c, &read.whole)));
 }
 
 /// A part as it is written.
