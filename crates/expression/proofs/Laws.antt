@@ -1,17 +1,45 @@
 -- Chains and factors, one step at a time, in the words of the code. Assumes nothing.
 use Prim.Native.Nat.{ℕ, zero, suc, _-_, _≤_, _<_}
 use mathlib.Core.Path.{_≡_, refl, sym, ap, _∙_}
-use mathlib.Core.Bool.{true, false}
+use mathlib.Core.List.{List, [], _∷_}
+use mathlib.Core.Bool.{Bool, true, false, cond}
 use native.Mathlib.Omega.{arith}
 use lib.ListN.{length}
+use lib.Dec.{eqb}
 use Rattle.tokens.specs.Text.{byte}
-use Rattle.tokens.specs.Cursors.{Rest, Took, markC}
+use Rattle.tokens.specs.Bytes.{afterBlanks}
+use Rattle.tokens.specs.Cursors.{Rest, Took, on, off, markHere, markC}
 use Rattle.expression.specs.declared.Amount.{Amount}
 use Rattle.expression.specs.declared.Operator.{Operator}
 use Rattle.expression.specs.Amounts.{apply, negated}
-use Rattle.expression.specs.Expressions.{plainC, moreC, exprBy, factorC}
+use Rattle.expression.specs.Expressions.{clean, plainC, moreC, exprBy, factorC}
 use Rattle.expression.proofs.ShrinkLaws.{Shrinks, Takes, more-turns}
 
+-- ---- marks
+-- past a mark no number was too large either
+here-clean : (m : ℕ) (r : Rest) (l : List ℕ) → clean (markHere m (clean r) l) ≡ markHere m (clean r) l
+here-clean m r [] = refl
+here-clean m r (x ∷ l) = by (eqb x m)
+  where
+    res : Bool → Rest
+    res b = cond b (on (clean r) l) (off (clean r) (x ∷ l))
+
+    by : (b : Bool) → clean (res b) ≡ res b
+    by true = refl
+    by false = refl
+
+pub mark-clean : (m : ℕ) (r : Rest) → clean (markC m (clean r)) ≡ markC m (clean r)
+unfolding markC
+mark-clean m r = by (r .ok)
+  where
+    res : Bool → Rest
+    res b = cond b (markHere m (clean r) (afterBlanks (r .rest))) (clean r)
+
+    by : (b : Bool) → clean (res b) ≡ res b
+    by true = here-clean m r (afterBlanks (r .rest))
+    by false = refl
+
+-- ---- chains
 abbrev pub took : Amount → Rest → Took Amount
 took v r = record { value = v; next = r }
 

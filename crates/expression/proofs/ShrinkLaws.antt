@@ -15,7 +15,7 @@ use Rattle.expression.specs.declared.Amount.{Amount}
 use Rattle.expression.specs.declared.Operator.{Operator}
 use Rattle.expression.specs.declared.Operator.the-variants as o
 use Rattle.expression.specs.Amounts.{apply, negated}
-use Rattle.expression.specs.Expressions.{fresh, plainC, sumC, productC, moreC, chainC, termBy, exprBy, factorC}
+use Rattle.expression.specs.Expressions.{clean, plainC, sumC, productC, moreC, chainC, termBy, exprBy, factorC}
 
 -- ---- tokens
 blanks-le : (l : List ℕ) → length (afterBlanks l) ≤ length l
@@ -110,7 +110,7 @@ Takes op = (r : Rest) → op r .next .ok ≡ true → length (op r .next .rest) 
 
 pub plain-shrinks : Shrinks plainC
 unfolding plainC
-plain-shrinks r = number-shrinks (2 ^ 63 - 1) (fresh r)
+plain-shrinks r = number-shrinks (2 ^ 63 - 1) (clean r)
 
 pub sum-takes : Takes sumC
 unfolding sumC

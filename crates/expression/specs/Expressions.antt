@@ -3,10 +3,10 @@ use Rattle.tokens.specs.Text.{byte}
 use Prim.Native.Nat.{ℕ, zero, suc, _-_, _^_}
 use mathlib.Core.List.{List, [], _∷_}
 use mathlib.Core.Bool.{Bool, true, false, not, _&&_, _||_, cond}
-use lib.ListN.{length}
+use lib.ListN.{length, drop}
 use lib.Dec.{leb, eqb}
 use Rattle.tokens.specs.Bytes.{afterBlanks}
-use Rattle.tokens.specs.Cursors.{Rest, Took, seen, markC, numberC}
+use Rattle.tokens.specs.Cursors.{Rest, Took, markC, numberC}
 use Rattle.expression.specs.declared.Amount.{Amount}
 use Rattle.expression.specs.declared.AmountRead.{AmountRead}
 use Rattle.expression.specs.declared.Operator.{Operator}
@@ -15,19 +15,15 @@ use Rattle.expression.specs.declared.OperatorRead.{OperatorRead}
 use Rattle.expression.specs.Amounts.{negated, apply}
 
 -- ---- what stands in an expression
--- no number was too large yet
-abbrev pub fresh : Rest → Rest
-fresh r = record { rest = r .rest; ok = r .ok; over = false; far = r .far }
-
--- where the second stands, with what the first has of numbers too large
-abbrev pub keeping : Rest → Rest → Rest
-keeping r d = record { rest = d .rest; ok = d .ok; over = r .over; far = r .far }
+-- the same place, where no number was too large yet
+abbrev pub clean : Rest → Rest
+clean r = record { rest = r .rest; ok = r .ok; over = false; far = [] }
 
 -- past a number, which blanks may precede; one over 2^63 - 1 is out of range
 unfoldable pub plainC : Rest → Took Amount
 plainC r =
-    let n = numberC (2 ^ 63 - 1) (fresh r) in
-    record { value = record { over = n .next .over; minus = false; size = n .value }; next = keeping r (n .next) }
+    let n = numberC (2 ^ 63 - 1) (clean r) in
+    record { value = record { over = n .next .over; minus = false; size = n .value }; next = clean (n .next) }
 
 -- past a + or a -
 unfoldable pub sumC : Rest → Took Operator
@@ -73,15 +69,19 @@ factorC (suc d) r =
 abbrev pub fitsIn : ℕ → Amount → Bool
 fitsIn limit a = not (a .over) && (not (a .minus) && leb (a .size) limit)
 
--- the amount as a number up to a limit; 0 stands for one that does not fit, which started at l
+-- the place of the second, with what the first has of numbers too large
+abbrev pub keeping : Rest → Rest → Rest
+keeping r d = record { rest = d .rest; ok = d .ok; over = r .over; far = r .far }
+
+-- the amount read from r on as a number up to a limit; 0 stands for one that does not fit, which started at l
 abbrev pub settled : ℕ → Rest → List ℕ → Took Amount → Took ℕ
 settled limit r l t =
     cond (t .next .ok)
-    (cond (fitsIn limit (t .value)) (record { value = t .value .size; next = t .next }) (record { value = 0; next = record { rest = t .next .rest; ok = true; over = true; far = cond (r .over) (r .far) l } }))
-    (record { value = 0; next = t .next })
+    (cond (fitsIn limit (t .value)) (record { value = t .value .size; next = keeping r (t .next) }) (record { value = 0; next = record { rest = t .next .rest; ok = true; over = true; far = cond (r .over) (r .far) l } }))
+    (record { value = 0; next = keeping r (t .next) })
 
 unfoldable pub expressionC : ℕ → Rest → Took ℕ
-expressionC limit r = settled limit r (afterBlanks (r .rest)) (exprBy (factorC 16) r)
+expressionC limit r = settled limit r (afterBlanks (r .rest)) (exprBy (factorC 16) (clean r))
 
 -- an operator comes next
 abbrev pub operatorFirst : List ℕ → Bool
@@ -98,8 +98,12 @@ quantityC limit r =
     cond (n .next .ok && not (goesOn (n .next .rest))) n (expressionC limit r)
 
 -- ---- views of what the functions return
+-- reading has come to a position, and no number was too large
+abbrev pub reached : List ℕ → ℕ → Bool → Rest
+reached s at ok = record { rest = drop at s; ok = ok; over = false; far = [] }
+
 abbrev pub amountSeen : List ℕ → AmountRead → Took Amount
-amountSeen s r = record { value = r .value; next = seen s (r .next) }
+amountSeen s r = record { value = r .value; next = reached s (r .at) (r .ok) }
 
 abbrev pub operatorSeen : List ℕ → OperatorRead → Took Operator
-operatorSeen s r = record { value = r .value; next = seen s (r .next) }
+operatorSeen s r = record { value = r .value; next = reached s (r .at) (r .ok) }

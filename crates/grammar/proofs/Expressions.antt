@@ -18,7 +18,7 @@ use Rattle.expression.specs.declared.Operator.the-variants as o
 use Rattle.expression.specs.Amounts.{ranged, negated, apply}
 use Rattle.expression.specs.Integers.{Result, resultOf, join, opposite}
 use Rattle.expression.specs.Claims.{amountOf}
-use Rattle.expression.specs.Expressions.{fresh, plainC, sumC, productC, moreC, chainC, termBy, exprBy, factorC}
+use Rattle.expression.specs.Expressions.{clean, plainC, sumC, productC, moreC, chainC, termBy, exprBy, factorC}
 use Rattle.expression.proofs.ExactProved.{exact}
 use Rattle.expression.proofs.ShrinkLaws.{Shrinks, Takes, sum-takes, product-takes, term-shrinks, factor-shrinks}
 use Rattle.grammar.specs.Spells.{Mark, NumberText, Text, Sign, SumSign, added, taken, ProductSign, times, More, stops, next, Chain, ExprOf, Plain, group, minus, plain, FactorText}
@@ -27,9 +27,9 @@ use Rattle.grammar.specs.Spells.{Mark, NumberText, Text, Sign, SumSign, 
 abbrev pub Sound : (Rest → Took Amount) → Text → Type 0
 Sound f F = (r : Rest) → f r .next .ok ≡ true → (r .ok ≡ true) × (u : Result) × (f r .value ≡ amountOf u) × F u (r .rest) (f r .next .rest)
 
--- and what is spelled is read
+-- and what is spelled is read, where no number was too large
 abbrev pub Complete : (Rest → Took Amount) → Text → Type 0
-Complete f F = (u : Result) (l r : List ℕ) (v : Bool) (g : List ℕ) → F u l r → f (at l v g) ≡ record { value = amountOf u; next = at r v g }
+Complete f F = (u : Result) (l r : List ℕ) → F u l r → f (at l false []) ≡ record { value = amountOf u; next = at r false [] }
 
 abbrev pub SignSound : (Rest → Took Operator) → Sign → Type 0
 SignSound f S = (r : Rest) → f r .next .ok ≡ true → (r .ok ≡ true) × S (f r .value) (r .rest) (f r .next .rest)
@@ -136,19 +136,19 @@ module _ (op : Rest → Took Operator) (S : Sign) (ss : SignSound op S) (sc : Si
           (z .0, z .1, next (x .1) (y .3) (z .2))
       go false e k i = (v, p, stops (stop-here (t .next) k e))
 
-  more-complete : Complete f F → (n : ℕ) (v u : Result) (l r : List ℕ) (b : Bool) (g : List ℕ) → length l ≤ n → More S F v u l r
-      → moreC op f n (record { value = amountOf v; next = at l b g }) ≡ record { value = amountOf u; next = at r b g }
+  more-complete : Complete f F → (n : ℕ) (v u : Result) (l r : List ℕ) → length l ≤ n → More S F v u l r
+      → moreC op f n (record { value = amountOf v; next = at l false [] }) ≡ record { value = amountOf u; next = at r false [] }
   unfolding moreC
-  more-complete c zero v u l r b g h (stops z) = refl
-  more-complete c zero v u l r b g h (next {x = x} {l₁ = l₁} s t i) =
-      absurd (omega (arith, h, tk (at l b g) (ap (λ (q : Took Operator). q .next .ok) (sc x l l₁ b g s))))
-  more-complete c (suc n) v u l r b g h (stops z) = rw (here-none l b g z)
-  more-complete c (suc n) v u l r b g h (next {x = x} {w = w} {l₁ = l₁} {l₂ = l₂} s t i) =
-      let p = sc x l l₁ b g s in
-      let q = c w l₁ l₂ b g t in
-      let a : length l₁ ≤ n = omega (arith, h, tk (at l b g) (ap (λ (y : Took Operator). y .next .ok) p), ap (λ (y : Took Operator). length (y .next .rest)) p) in
-      let k : length l₂ ≤ n = omega (arith, a, sh (at l₁ b g), ap (λ (y : Took Amount). length (y .next .rest)) q) in
-      rw (p, q, exact .joined x v w) (more-complete c n (join x v w) u l₂ r b g k i)
+  more-complete c zero v u l r h (stops z) = refl
+  more-complete c zero v u l r h (next {x = x} {l₁ = l₁} s t i) =
+      absurd (omega (arith, h, tk (at l false []) (ap (λ (q : Took Operator). q .next .ok) (sc x l l₁ false [] s))))
+  more-complete c (suc n) v u l r h (stops z) = rw (here-none l false [] z)
+  more-complete c (suc n) v u l r h (next {x = x} {w = w} {l₁ = l₁} {l₂ = l₂} s t i) =
+      let p = sc x l l₁ false [] s in
+      let q = c w l₁ l₂ t in
+      let a : length l₁ ≤ n = omega (arith, h, tk (at l false []) (ap (λ (y : Took Operator). y .next .ok) p), ap (λ (y : Took Operator). length (y .next .rest)) p) in
+      let k : length l₂ ≤ n = omega (arith, a, sh (at l₁ false []), ap (λ (y : Took Amount). length (y .next .rest)) q) in
+      rw (p, q, exact .joined x v w) (more-complete c n (join x v w) u l₂ r k i)
 
   pub chain-sound : Sound f F → Sound (chainC op f) (Chain S F)
   unfolding chainC
@@ -160,8 +160,7 @@ module _ (op : Rest → Took Operator) (S : Sign) (ss : SignSound op S) (sc : Si
 
   pub chain-complete : Complete f F → Complete (chainC op f) (Chain S F)
   unfolding chainC
-  chain-complete c u l r b g t =
-      rw (c (t .v) l (t .l₁) b g (t .head)) (more-complete c (length (t .l₁)) (t .v) u (t .l₁) r b g (omega arith) (t .tail))
+  chain-complete c u l r t = rw (c (t .v) l (t .l₁) (t .head)) (more-complete c (length (t .l₁)) (t .v) u (t .l₁) r (omega arith) (t .tail))
 
 pub expr-sound : (f : Rest → Took Amount) (F : Text) → Shrinks f → Sound f F → Sound (exprBy f) (ExprOf F)
 expr-sound f F sh s =
@@ -185,16 +184,16 @@ cut-ranged n = go (leb n (2 ^ 63 - 1))
 
 pub plain-complete : Complete plainC Plain
 unfolding plainC
-plain-complete u l r b g t =
-    let p = number-complete (2 ^ 63 - 1) (t .number) l r false g (t .spelled) in
+plain-complete u l r t =
+    let p = number-complete (2 ^ 63 - 1) (t .number) l r false [] (t .spelled) in
     rw (p .is, cut-ranged (t .number), exact .number (t .number), t .value)
 
 pub plain-sound : Sound plainC Plain
 unfolding plainC
 plain-sound r h =
-    let p = number-sound (2 ^ 63 - 1) (fresh r) h in
-    let q = number-complete (2 ^ 63 - 1) (p .1) (r .rest) (plainC r .next .rest) false (r .far) (p .2) in
-    let e : fresh r ≡ at (r .rest) false (r .far) = ok-at (fresh r) (p .0) in
+    let p = number-sound (2 ^ 63 - 1) (clean r) h in
+    let q = number-complete (2 ^ 63 - 1) (p .1) (r .rest) (plainC r .next .rest) false [] (p .2) in
+    let e : clean r ≡ at (r .rest) false [] = ok-at (clean r) (p .0) in
     let v : plainC r .value ≡ ranged false (p .1) =
     ap (λ (x : Rest). record { over = numberC (2 ^ 63 - 1) x .next .over; minus = false; size = numberC (2 ^ 63 - 1) x .value }) e
     ∙ ap (λ (x : Took ℕ). record { over = x .next .over; minus = false; size = x .value }) (q .is)
@@ -239,11 +238,11 @@ factor-sound (suc d) r h = go (markC (byte "(") r .ok) refl (markC (byte "-") r 
 
 pub factor-complete : (d : ℕ) → Complete (factorC d) (FactorText d)
 unfolding factorC blank wordByte letter
-factor-complete zero u l r b g t = plain-complete u l r b g t
-factor-complete (suc d) u l r b g (group {l₁ = l₁} {l₂ = l₂} x e c) =
-    rw (mark-complete (byte "(") l l₁ b g refl x, expr-complete (factorC d) (FactorText d) (factor-shrinks d) (factor-complete d) u l₁ l₂ b g e, mark-complete (byte ")") l₂ r b g refl c)
-factor-complete (suc d) u l r b g (minus {u = w} {l₁ = l₁} x t) =
-    rw (mark-not (byte "(") l b g (λ s k. mark-two (byte "-") (byte "(") l l₁ s refl refl refl x k), mark-complete (byte "-") l l₁ b g refl x, factor-complete d w l₁ r b g t, exact .negated w)
-factor-complete (suc d) u l r b g (plain t) =
-    rw (mark-not (byte "(") l b g (λ s k. number-first (t .number) (byte "(") l r s refl refl (t .spelled) k), mark-not (byte "-") l b g (λ s k. number-first (t .number) (byte "-") l r s refl refl (t .spelled) k))
-    (plain-complete u l r b g t)
+factor-complete zero u l r t = plain-complete u l r t
+factor-complete (suc d) u l r (group {l₁ = l₁} {l₂ = l₂} x e c) =
+    rw (mark-complete (byte "(") l l₁ false [] refl x, expr-complete (factorC d) (FactorText d) (factor-shrinks d) (factor-complete d) u l₁ l₂ e, mark-complete (byte ")") l₂ r false [] refl c)
+factor-complete (suc d) u l r (minus {u = w} {l₁ = l₁} x t) =
+    rw (mark-not (byte "(") l false [] (λ s k. mark-two (byte "-") (byte "(") l l₁ s refl refl refl x k), mark-complete (byte "-") l l₁ false [] refl x, factor-complete d w l₁ r t, exact .negated w)
+factor-complete (suc d) u l r (plain t) =
+    rw (mark-not (byte "(") l false [] (λ s k. number-first (t .number) (byte "(") l r s refl refl (t .spelled) k), mark-not (byte "-") l false [] (λ s k. number-first (t .number) (byte "-") l r s refl refl (t .spelled) k))
+    (plain-complete u l r t)

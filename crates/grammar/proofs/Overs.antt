@@ -58,14 +58,14 @@ number-far limit v l r o f t =
     go false = refl
 
 settled-far : (limit : ℕ) (u : Result) (l r : List ℕ) (o : Bool) (f : List ℕ)
-    → settled limit (at l o f) (afterBlanks l) (record { value = amountOf u; next = at r o f }) .next .far ≡ farBy (leb (worthOf limit u) limit) o f (some l)
+    → settled limit (at l o f) (afterBlanks l) (record { value = amountOf u; next = at r false [] }) .next .far ≡ farBy (leb (worthOf limit u) limit) o f (some l)
 settled-far limit u l r o f = rw (fits-worth limit u) (go (leb (worthOf limit u) limit))
   where
     go : (b : Bool) → cond {A = Took ℕ} b (record { value = amountOf u .size; next = at r o f }) (record { value = 0; next = record { rest = r; ok = true; over = true; far = cond o f (afterBlanks l) } }) .next .far ≡ farBy b o f (some l)
     go true = refl
     go false = refl
 
-expression-far : (limit : ℕ) (u : Result) (l r : List ℕ) (o : Bool) (f : List ℕ) → exprBy (factorC 16) (at l o f) ≡ record { value = amountOf u; next = at r o f }
+expression-far : (limit : ℕ) (u : Result) (l r : List ℕ) (o : Bool) (f : List ℕ) → exprBy (factorC 16) (at l false []) ≡ record { value = amountOf u; next = at r false [] }
     → expressionC limit (at l o f) .next .far ≡ farBy (leb (worthOf limit u) limit) o f (some l)
 unfolding expressionC
 expression-far limit u l r o f e = ap (λ (t : Took Amount). settled limit (at l o f) (afterBlanks l) t .next .far) e ∙ settled-far limit u l r o f
@@ -76,7 +76,7 @@ alone-here limit v l r o f t h = let p = number-complete limit v l r o f t in rw
 quantity-far : (limit v : ℕ) (l r : List ℕ) (o : Bool) (f : List ℕ) → QuantityText limit v l r → quantityC limit (at l o f) .next .far ≡ farBy (leb v limit) o f (some l)
 quantity-far limit v l r o f (alone t n m) = ap (λ (x : Took ℕ). x .next .far) (quantity-is limit (at l o f) true (alone-here limit v l r o f t (goes-on r n m))) ∙ number-far limit v l r o f t
 quantity-far limit v l r o f (composed {u = u} t h) =
-    ap (λ (x : Took ℕ). x .next .far) (quantity-is limit (at l o f) false (not-alone limit l o f (followed-by u l r t h))) ∙ expression-far limit u l r o f (exprs-complete u l r o f t)
+    ap (λ (x : Took ℕ). x .next .far) (quantity-is limit (at l o f) false (not-alone limit l o f (followed-by u l r t h))) ∙ expression-far limit u l r o f (exprs-complete u l r t)
 
 -- ---- operands
 offset-far : (v : ℕ) (l r : List ℕ) (o : Bool) (f : List ℕ) (t : OffsetText v l r) → markC (byte "+") (at r o f) .ok ≡ false → offsetC (at l o f) .next .far ≡ farBy (leb v maxOffset) o f (offsetFrom t)

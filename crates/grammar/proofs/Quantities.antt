@@ -17,7 +17,7 @@ use Rattle.expression.specs.declared.Amount.{Amount}
 use Rattle.expression.specs.declared.Operator.the-variants as o
 use Rattle.expression.specs.Integers.{Result, resultOf, join}
 use Rattle.expression.specs.Claims.{amountOf}
-use Rattle.expression.specs.Expressions.{exprBy, factorC, fitsIn, settled, expressionC, operatorFirst, goesOn, quantityC}
+use Rattle.expression.specs.Expressions.{clean, keeping, exprBy, factorC, fitsIn, settled, expressionC, operatorFirst, goesOn, quantityC}
 use Rattle.expression.proofs.ExactProved.{exact}
 use Rattle.expression.proofs.ShrinkLaws.{factor-shrinks}
 use Rattle.grammar.specs.Spells.{Mark, NumberText, Text, Sign, SumSign, added, taken, ProductSign, times, Without, More, stops, next, TermOf, plain, FactorText, ExprText, worthOf, QuantityText, alone, composed}
@@ -33,7 +33,7 @@ exprs-complete = expr-complete (factorC 16) (FactorText 16) (factor-shrinks 16) 
 -- a text spells one expression at most
 expr-one : (u v : Result) (l r s : List ℕ) → ExprText u l r → ExprText v l s → (u ≡ v) × (r ≡ s)
 expr-one u v l r s a b =
-    let p = took-one (exprs-complete u l r false [] a) (exprs-complete v l s false [] b) in
+    let p = took-one (exprs-complete u l r a) (exprs-complete v l s b) in
     (exact .apart u v (p .0), p .1)
 
 -- ---- no operator follows
@@ -125,7 +125,7 @@ fits-size limit (some (negsuc n)) h = never h
 fits-size limit (some (pos n)) h = refl
 
 settle-reads : (limit : ℕ) (u : Result) (l r : List ℕ) (o : Bool) (f g : List ℕ)
-    → Reads (settled limit (at l o f) g (record { value = amountOf u; next = at r o f })) (cut limit (worthOf limit u)) r (overBy (leb (worthOf limit u) limit) o)
+    → Reads (settled limit (at l o f) g (record { value = amountOf u; next = at r false [] })) (cut limit (worthOf limit u)) r (overBy (leb (worthOf limit u) limit) o)
 settle-reads limit u l r o f g = rw (fits-worth limit u) (go (leb (worthOf limit u) limit) (λ e. fits-size limit u (fits-worth limit u ∙ e)))
   where
     res : Bool → Took ℕ
@@ -158,7 +158,7 @@ quantity-complete limit v l r o f (alone t n m) =
     record { far = p .far; is = quantity-is limit (at l o f) true e ∙ p .is }
 quantity-complete limit v l r o f (composed {u = u} t h) =
     let s = settle-reads limit u l r o f (afterBlanks l) in
-    let e : expressionC limit (at l o f) ≡ settled limit (at l o f) (afterBlanks l) (record { value = amountOf u; next = at r o f }) = unfold expressionC in (ap (settled limit (at l o f) (afterBlanks l)) (exprs-complete u l r o f t)) in
+    let e : expressionC limit (at l o f) ≡ settled limit (at l o f) (afterBlanks l) (record { value = amountOf u; next = at r false [] }) = unfold expressionC in (ap (settled limit (at l o f) (afterBlanks l)) (exprs-complete u l r t)) in
     record { far = s .far; is = quantity-is limit (at l o f) false (not-alone limit l o f (followed-by u l r t h)) ∙ (e ∙ s .is) }
 
 -- ---- what is read is spelled
@@ -166,7 +166,7 @@ settled-ok : (limit : ℕ) (r : Rest) (l : List ℕ) (t : Took Amount) → settl
 settled-ok limit r l t h = go (t .next .ok) refl (fitsIn limit (t .value)) h
   where
     res : Bool → Bool → Took ℕ
-    res b c = cond b (cond c (record { value = t .value .size; next = t .next }) (record { value = 0; next = record { rest = t .next .rest; ok = true; over = true; far = cond (r .over) (r .far) l } })) (record { value = 0; next = t .next })
+    res b c = cond b (cond c (record { value = t .value .size; next = keeping r (t .next) }) (record { value = 0; next = record { rest = t .next .rest; ok = true; over = true; far = cond (r .over) (r .far) l } })) (record { value = 0; next = keeping r (t .next) })
 
     go : (b : Bool) → t .next .ok ≡ b → (c : Bool) → res b c .next .ok ≡ true → (b ≡ true) × (res b c .next .rest ≡ t .next .rest)
     go true e true k = (refl, refl)
@@ -189,10 +189,10 @@ quantity-sound limit r h = go (alone-at limit r) refl
         (p .0, p .1, rw (quantity-is limit r true e) (alone (p .2) (n .0) (n .1)))
     go false e =
         let i : quantityC limit r ≡ expressionC limit r = quantity-is limit r false e in
-        let x = exprBy (factorC 16) r in
+        let x = exprBy (factorC 16) (clean r) in
         let j : expressionC limit r ≡ settled limit r (afterBlanks (r .rest)) x = unfold expressionC in refl in
         let k = settled-ok limit r (afterBlanks (r .rest)) x (ap (λ (t : Took ℕ). t .next .ok) (sym (i ∙ j)) ∙ h) in
-        let p = exprs-sound r (k .0) in
+        let p = exprs-sound (clean r) (k .0) in
         let w : quantityC limit r .next .rest ≡ x .next .rest = ap (λ (t : Took ℕ). t .next .rest) (i ∙ j) ∙ k .1 in
         let m : QuantityText limit (worthOf limit (p .1)) (r .rest) (x .next .rest) = composed (p .3) (more (p .0) (p .1) (x .next .rest) (p .3)) in
         (p .0, worthOf limit (p .1), subst (λ (l : List ℕ). QuantityText limit (worthOf limit (p .1)) (r .rest) l) (sym w) m)

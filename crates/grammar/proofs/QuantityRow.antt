@@ -20,7 +20,7 @@ use Rattle.expression.specs.declared.Operator.{Operator}
 use Rattle.expression.specs.declared.Operator.the-variants as o
 use Rattle.expression.specs.Amounts.{negated, apply}
 use Rattle.expression.specs.Integers.{resultOf}
-use Rattle.expression.specs.Expressions.{fresh, plainC, sumC, productC, moreC, chainC, termBy, exprBy, factorC, fitsIn, settled, expressionC, goesOn, quantityC}
+use Rattle.expression.specs.Expressions.{clean, keeping, plainC, sumC, productC, moreC, chainC, termBy, exprBy, factorC, fitsIn, settled, expressionC, goesOn, quantityC}
 use Rattle.expression.proofs.ShrinkLaws.{mark-takes, factor-shrinks}
 use Rattle.grammar.proofs.Expressions.{ok-at}
 use Rattle.grammar.proofs.Quantities.{alone-at, quantity-is, exprs-complete, alone-expr}
@@ -375,7 +375,7 @@ number-stand limit r = go (r .ok)
 
 plain-stand : (r : Rest) → stand (plainC r .next) ≡ sticky (signs .number) (stand r)
 unfolding plainC
-plain-stand r = number-stand (2 ^ 63 - 1) (fresh r)
+plain-stand r = number-stand (2 ^ 63 - 1) (clean r)
 
 plain-as : (g : Row) (r : Rest) → run g (stand (plainC r .next)) ≡ run (one (signs .number) g) (stand r)
 plain-as g r = ap (run g) (plain-stand r) ∙ fold-at (signs .number) g (r .rest) (r .ok)
@@ -443,33 +443,33 @@ settled-stand : (limit : ℕ) (r : Rest) (l : List ℕ) (t : Took Amount) → st
 settled-stand limit r l t = go (t .next .ok) refl (fitsIn limit (t .value))
   where
     res : Bool → Bool → Took ℕ
-    res b c = cond b (cond c (record { value = t .value .size; next = t .next }) (record { value = 0; next = record { rest = t .next .rest; ok = true; over = true; far = cond (r .over) (r .far) l } })) (record { value = 0; next = t .next })
+    res b c = cond b (cond c (record { value = t .value .size; next = keeping r (t .next) }) (record { value = 0; next = record { rest = t .next .rest; ok = true; over = true; far = cond (r .over) (r .far) l } })) (record { value = 0; next = keeping r (t .next) })
 
     go : (b : Bool) → t .next .ok ≡ b → (c : Bool) → stand (res b c .next) ≡ stand (t .next)
     go true e true = refl
     go true e false = ap (λ (b : Bool). record { rest = t .next .rest; ok = b }) (sym e)
     go false e c = refl
 
-alone-stand : (limit : ℕ) (r : Rest) → alone-at limit r ≡ true → stand (numberC limit r .next) ≡ stand (exprBy (factorC 16) r .next)
+alone-stand : (limit : ℕ) (r : Rest) → alone-at limit r ≡ true → stand (numberC limit r .next) ≡ stand (exprBy (factorC 16) (clean r) .next)
 alone-stand limit r e =
     let q = both (numberC limit r .next .ok) (goesOn (numberC limit r .next .rest)) e in
     let p = number-sound limit r (q .0) in
-    let x = exprs-complete (resultOf (pos (p .1))) (r .rest) (numberC limit r .next .rest) (r .over) (r .far) (alone-expr (p .1) (r .rest) (numberC limit r .next .rest) (p .2) (q .1)) in
+    let x = exprs-complete (resultOf (pos (p .1))) (r .rest) (numberC limit r .next .rest) (alone-expr (p .1) (r .rest) (numberC limit r .next .rest) (p .2) (q .1)) in
     ap (λ (b : Bool). record { rest = numberC limit r .next .rest; ok = b }) (q .0)
-    ∙ sym (ap (λ (y : Rest). stand (exprBy (factorC 16) y .next)) (ok-at r (p .0)) ∙ ap (λ (y : Took Amount). stand (y .next)) x)
+    ∙ sym (ap (λ (y : Rest). stand (exprBy (factorC 16) y .next)) (ok-at (clean r) (p .0)) ∙ ap (λ (y : Took Amount). stand (y .next)) x)
   where
     both : (a b : Bool) → (a && not b) ≡ true → (a ≡ true) × (b ≡ false)
     both true true k = never k
     both true false k = (refl, refl)
     both false b k = never k
 
-quantity-stand : (limit : ℕ) (r : Rest) → stand (quantityC limit r .next) ≡ stand (exprBy (factorC 16) r .next)
+quantity-stand : (limit : ℕ) (r : Rest) → stand (quantityC limit r .next) ≡ stand (exprBy (factorC 16) (clean r) .next)
 quantity-stand limit r = go (alone-at limit r) refl
   where
-    go : (b : Bool) → alone-at limit r ≡ b → stand (quantityC limit r .next) ≡ stand (exprBy (factorC 16) r .next)
+    go : (b : Bool) → alone-at limit r ≡ b → stand (quantityC limit r .next) ≡ stand (exprBy (factorC 16) (clean r) .next)
     go true e = ap (λ (t : Took ℕ). stand (t .next)) (quantity-is limit r true e) ∙ alone-stand limit r e
-    go false e = ap (λ (t : Took ℕ). stand (t .next)) (quantity-is limit r false e) ∙ (unfold expressionC in (settled-stand limit r (afterBlanks (r .rest)) (exprBy (factorC 16) r)))
+    go false e = ap (λ (t : Took ℕ). stand (t .next)) (quantity-is limit r false e) ∙ (unfold expressionC in (settled-stand limit r (afterBlanks (r .rest)) (exprBy (factorC 16) (clean r))))
 
 -- THE LAW: a quantity, and then g, is read as the row of a factor and a chain with 16 levels, and then g
 pub quantity-row : (limit : ℕ) (g : Row) (r : Rest) → run g (stand (quantityC limit r .next)) ≡ run (factor 16 (chain 16 g)) (stand r)
-quantity-row limit g r = ap (run g) (quantity-stand limit r) ∙ expr-as 16 (factor-as 16) g r
+quantity-row limit g r = ap (run g) (quantity-stand limit r) ∙ expr-as 16 (factor-as 16) g (clean r)

@@ -22,7 +22,7 @@ use Rattle.tokens.specs.Bytes.{afterBlanks, tokenOf}
 use Rattle.tokens.specs.Numbers.{isNumber, valueOf}
 use Rattle.tokens.specs.Cursors.{Rest, seen, off, Took, markC, endC, nameC, nameSeen, numberC}
 use Rattle.expression.specs.declared.Amount.{Amount}
-use Rattle.expression.specs.Expressions.{exprBy, factorC, fitsIn, settled, expressionC, goesOn, quantityC}
+use Rattle.expression.specs.Expressions.{clean, exprBy, factorC, fitsIn, settled, expressionC, goesOn, quantityC}
 use Rattle.instruction.specs.declared.Kind.{Kind}
 use Rattle.statement.specs.declared.Statement.{Statement}
 use Rattle.statement.specs.declared.Statement.the-variants.{Exit, Multiply as Multiplied}
@@ -71,7 +71,7 @@ settled-under limit r l t =
 pub quantity-under : (limit : ℕ) (r : Rest) → quantityC limit r .value ≤ limit
 unfolding quantityC expressionC
 quantity-under limit r =
-    under-cond limit (numberC limit r .next .ok && not (goesOn (numberC limit r .next .rest))) _ _ (λ _. number-under limit r) (settled-under limit r (afterBlanks (r .rest)) (exprBy (factorC 16) r))
+    under-cond limit (numberC limit r .next .ok && not (goesOn (numberC limit r .next .rest))) _ _ (λ _. number-under limit r) (settled-under limit r (afterBlanks (r .rest)) (exprBy (factorC 16) (clean r)))
 
 -- an offset with the bracket behind it, and a number with the end behind it, are numbers alone
 pub plain-offset : (r : Rest) → markC (byte "]") (plainOffsetC r .next) .ok ≡ true → offsetC r ≡ plainOffsetC r

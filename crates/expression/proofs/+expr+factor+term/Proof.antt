@@ -6,11 +6,11 @@ use borrow.Author.Needs.{needs}
 use borrow.Author.Tests.{not-true, not-false}
 use Prim.Native.Nat.{_+_, _*_}
 use lib.ListN.{length, drop}
-use Rattle.tokens.specs.Cursors.{Took, seen}
+use Rattle.tokens.specs.Cursors.{Took}
 use Rattle.expression.specs.declared.Amount.{Amount}
-use Rattle.expression.specs.Expressions.{sumC, productC, moreC, chainC, termBy, factorC}
+use Rattle.expression.specs.Expressions.{sumC, productC, moreC, chainC, termBy, factorC, reached, amountSeen}
 use Rattle.expression.proofs.ShrinkLaws.{sum-takes, product-takes, term-shrinks, factor-shrinks}
-use Rattle.expression.proofs.Laws.{took, more-done, more-less, more-took, level-none, group, minus, number}
+use Rattle.expression.proofs.Laws.{more-done, more-less, more-took, level-none, group, minus, number}
 use Prim.Native.Nat.{ℕ, _<_}
 use borrow.Fn.Kinds.{In}
 use borrow.Fn.PlainCycle.{Measures, is, falls, and}
@@ -25,21 +25,21 @@ use Rattle.expression.proofs.term.Kinds as term-kinds
 use Rattle.expression.proofs.+expr+factor+term.Lts-term as term-lts
 use Rattle.expression.proofs.exact.joined.Reads as joined-reads
 use Rattle.expression.proofs.exact.negate.Reads as negate-reads
+use Rattle.expression.proofs.mark.Reads as mark-reads
 use Rattle.expression.proofs.plain.Reads as plain-reads
 use Rattle.expression.proofs.product_sign.Reads as product-sign-reads
 use Rattle.expression.proofs.sum_sign.Reads as sum-sign-reads
-use Rattle.lexer.proofs.cursor.mark.Reads as mark-reads
 use Rattle.expression.proofs.+expr+factor+term.{statement}
 use Rattle.expression.proofs.+expr+factor+term.Tie.{close}
 
 abbrev μ-expr : Measures 1 expr-kinds.ps ℕ
-μ-expr κs a = 3 * a .1 .1 .0 + 2
+μ-expr κs a = 3 * a .1 .1 .1 .0 + 2
 
 abbrev μ-factor : Measures 1 factor-kinds.ps ℕ
-μ-factor κs a = 3 * a .1 .1 .0
+μ-factor κs a = 3 * a .1 .1 .1 .0
 
 abbrev μ-term : Measures 1 term-kinds.ps ℕ
-μ-term κs a = 3 * a .1 .1 .0 + 1
+μ-term κs a = 3 * a .1 .1 .1 .0 + 1
 
 abbrev expr-at : ℕ → In 1 expr-kinds.ps
 expr-at t = and 1 expr-kinds.ps (is 1 expr-kinds.ps μ-expr t) expr.Pre
@@ -60,10 +60,10 @@ abbrev term-below : ℕ → In 1 term-kinds.ps
 term-below t = and 1 term-kinds.ps (falls 1 term-kinds.ps _<_ μ-term t) term.Pre
 
 abbrev expr-Inv-loop : expr-lts.InvT-loop
-expr-Inv-loop s depth v₀ at₀ v at = moreC sumC (termBy (factorC depth)) (length (drop (at .at) s)) (took v (seen s at)) ≡ moreC sumC (termBy (factorC depth)) (length (drop (at₀ .at) s)) (took v₀ (seen s at₀))
+expr-Inv-loop s at ok depth t₀ t = moreC sumC (termBy (factorC depth)) (length (drop (t .at) s)) (amountSeen s t) ≡ moreC sumC (termBy (factorC depth)) (length (drop (t₀ .at) s)) (amountSeen s t₀)
 
 abbrev expr-μ-loop : expr-lts.MeasureT-loop
-expr-μ-loop s depth v₀ at₀ v at = length (drop (at .at) s)
+expr-μ-loop s at ok depth t₀ t = length (drop (t .at) s)
 
 expr-term-requires : (t : ℕ) → expr-lts.Need-term-requires (
   term-below t,
@@ -104,11 +104,11 @@ expr-returns : (t : ℕ) → expr-lts.Need-returns (
   joined-reads.Learnt,
 ) (expr-at t) expr.Post expr-Inv-loop expr-μ-loop
 unfolding chainC
-expr-returns t c = let a = c .before .before .before .before .before .before .before .before .before .args in
-    let l = c .before .before .before .before .loop in
-    sym (more-done sumC (termBy (factorC (a .depth))) (l .v) (seen (a .s .now) (l .at)) (length (drop (l .at .at) (a .s .now))) _ (c .before .before .before .sum-sign .ensures) (not-true _ (c .if1 .taken)))
-    ∙ l .inv
-    ∙ ap (λ (t : Took Amount). moreC sumC (termBy (factorC (a .depth))) (length (t .next .rest)) t) (c .before .before .before .before .before .before .before .term .ensures)
+expr-returns t c = let a = c .before .before .before .before .before .before .args in
+    let l = c .before .before .before .loop .t in
+    sym (more-done sumC (termBy (factorC (a .depth))) (l .value) (reached (a .s .now) (l .at) (l .ok)) (length (drop (l .at) (a .s .now))) _ (c .before .before .sum-sign .ensures) (not-true _ (c .if1 .taken)))
+    ∙ c .before .before .before .loop .inv
+    ∙ ap (λ (t : Took Amount). moreC sumC (termBy (factorC (a .depth))) (length (t .next .rest)) t) (c .before .before .before .before .term .ensures)
 
 expr-term-requires-2 : (t : ℕ) → expr-lts.Need-term-requires-2 (
   term-below t,
@@ -118,7 +118,7 @@ expr-term-requires-2 : (t : ℕ) → expr-lts.Need-term-requires-2 (
   joined-reads.Asked,
   joined-reads.Learnt,
 ) (expr-at t) expr.Post expr-Inv-loop expr-μ-loop
-expr-term-requires-2 t c κs = (omega (arith, c .before .before .before .before .before .before .before .before .before .pre .0), tt)
+expr-term-requires-2 t c κs = (omega (arith, c .before .before .before .before .before .before .pre .0), tt)
 
 expr-joined-requires : (t : ℕ) → expr-lts.Need-joined-requires (
   term-below t,
@@ -138,9 +138,9 @@ expr-loop-less : (t : ℕ) → expr-lts.Need-loop-less (
   joined-reads.Asked,
   joined-reads.Learnt,
 ) (expr-at t) expr.Post expr-Inv-loop expr-μ-loop
-expr-loop-less t c = let a = c .before .before .before .before .before .before .before .before .before .before .before .before .before .args in
-    let l = c .before .before .before .before .before .before .before .before .loop in
-    more-less sumC (termBy (factorC (a .depth))) (l .v) (seen (a .s .now) (l .at)) sum-takes (term-shrinks _ (factor-shrinks (a .depth))) _ _ (c .before .before .before .before .before .before .before .sum-sign .ensures) (not-false _ (c .before .before .before .before .if1 .left)) (c .before .before .before .term2 .ensures)
+expr-loop-less t c = let a = c .before .before .before .before .before .before .before .before .before .before .args in
+    let l = c .before .before .before .before .before .before .before .loop .t in
+    more-less sumC (termBy (factorC (a .depth))) (l .value) (reached (a .s .now) (l .at) (l .ok)) sum-takes (term-shrinks _ (factor-shrinks (a .depth))) _ _ (c .before .before .before .before .before .before .sum-sign .ensures) (not-false _ (c .before .before .before .before .if1 .left)) (c .before .before .before .term2 .ensures)
 
 expr-loop-again : (t : ℕ) → expr-lts.Need-loop-again (
   term-below t,
@@ -150,10 +150,10 @@ expr-loop-again : (t : ℕ) → expr-lts.Need-loop-again (
   joined-reads.Asked,
   joined-reads.Learnt,
 ) (expr-at t) expr.Post expr-Inv-loop expr-μ-loop
-expr-loop-again t c = let a = c .before .before .before .before .before .before .before .before .before .before .before .before .before .args in
-    let l = c .before .before .before .before .before .before .before .before .loop in
-    more-took sumC (termBy (factorC (a .depth))) (l .v) (seen (a .s .now) (l .at)) sum-takes (term-shrinks _ (factor-shrinks (a .depth))) _ _ (c .before .before .before .before .before .before .before .sum-sign .ensures) (not-false _ (c .before .before .before .before .if1 .left)) (c .before .before .before .term2 .ensures) _ (c .before .joined .ensures)
-    ∙ l .inv
+expr-loop-again t c = let a = c .before .before .before .before .before .before .before .before .before .before .args in
+    let l = c .before .before .before .before .before .before .before .loop .t in
+    more-took sumC (termBy (factorC (a .depth))) (l .value) (reached (a .s .now) (l .at) (l .ok)) sum-takes (term-shrinks _ (factor-shrinks (a .depth))) _ _ (c .before .before .before .before .before .before .sum-sign .ensures) (not-false _ (c .before .before .before .before .if1 .left)) (c .before .before .before .term2 .ensures) _ (c .joined .ensures)
+    ∙ c .before .before .before .before .before .before .before .loop .inv
 
 factor-plain-requires : (t : ℕ) → factor-lts.Need-plain-requires (
   plain-reads.Asked,
@@ -251,7 +251,7 @@ factor-returns-2 : (t : ℕ) → factor-lts.Need-returns-2 (
   negate-reads.Asked,
   negate-reads.Learnt,
 ) (factor-at t) factor.Post
-factor-returns-2 t c = group _ _ _ _ _ (omega (arith, c .before .before .before .before .before .before .if1 .left)) (c .before .before .before .before .before .mark .ensures .0) (c .before .before .before .before .if2 .taken) (c .before .before .before .expr .ensures) (c .mark2 .ensures .0)
+factor-returns-2 t c = group _ _ _ _ _ (omega (arith, c .before .before .before .before .before .if1 .left)) (c .before .before .before .before .mark .ensures) (c .before .before .before .if2 .taken) (c .before .before .expr .ensures) (c .mark2 .ensures)
 
 factor-mark-requires-3 : (t : ℕ) → factor-lts.Need-mark-requires-3 (
   plain-reads.Asked,
@@ -321,7 +321,7 @@ factor-returns-3 : (t : ℕ) → factor-lts.Need-returns-3 (
   negate-reads.Asked,
   negate-reads.Learnt,
 ) (factor-at t) factor.Post
-factor-returns-3 t c = minus _ _ _ (c .before .before .before .before .before .before .before .mark .ensures .0) (c .before .before .before .before .before .before .if2 .left) (c .before .before .before .before .before .mark3 .ensures .0) _ _ _ (omega (arith, c .before .before .before .before .before .before .before .before .if1 .left)) (c .before .before .before .before .if3 .taken) (c .before .before .before .factor .ensures) (c .negate .ensures)
+factor-returns-3 t c = minus _ _ _ (c .before .before .before .before .before .before .mark .ensures) (c .before .before .before .before .before .if2 .left) (c .before .before .before .before .mark3 .ensures) _ _ _ (omega (arith, c .before .before .before .before .before .before .before .if1 .left)) (c .before .before .before .if3 .taken) (c .before .before .factor .ensures) (c .negate .ensures)
 
 factor-plain-requires-2 : (t : ℕ) → factor-lts.Need-plain-requires-2 (
   plain-reads.Asked,
@@ -349,13 +349,13 @@ factor-returns-4 : (t : ℕ) → factor-lts.Need-returns-4 (
   negate-reads.Asked,
   negate-reads.Learnt,
 ) (factor-at t) factor.Post
-factor-returns-4 t c = c .plain2 .ensures ∙ number _ _ _ (c .before .before .before .before .mark .ensures .0) (c .before .before .before .if2 .left) (c .before .before .mark3 .ensures .0) _ (c .before .if3 .left)
+factor-returns-4 t c = c .plain2 .ensures ∙ number _ _ _ (c .before .before .before .before .mark .ensures) (c .before .before .before .if2 .left) (c .before .before .mark3 .ensures) _ (c .before .if3 .left)
 
 abbrev term-Inv-loop : term-lts.InvT-loop
-term-Inv-loop s depth v₀ at₀ v at = moreC productC (factorC depth) (length (drop (at .at) s)) (took v (seen s at)) ≡ moreC productC (factorC depth) (length (drop (at₀ .at) s)) (took v₀ (seen s at₀))
+term-Inv-loop s at ok depth t₀ t = moreC productC (factorC depth) (length (drop (t .at) s)) (amountSeen s t) ≡ moreC productC (factorC depth) (length (drop (t₀ .at) s)) (amountSeen s t₀)
 
 abbrev term-μ-loop : term-lts.MeasureT-loop
-term-μ-loop s depth v₀ at₀ v at = length (drop (at .at) s)
+term-μ-loop s at ok depth t₀ t = length (drop (t .at) s)
 
 term-factor-requires : (t : ℕ) → term-lts.Need-factor-requires (
   factor-below t,
@@ -396,11 +396,11 @@ term-returns : (t : ℕ) → term-lts.Need-returns (
   joined-reads.Learnt,
 ) (term-at t) term.Post term-Inv-loop term-μ-loop
 unfolding chainC
-term-returns t c = let a = c .before .before .before .before .before .before .before .before .before .args in
-    let l = c .before .before .before .before .loop in
-    sym (more-done productC (factorC (a .depth)) (l .v) (seen (a .s .now) (l .at)) (length (drop (l .at .at) (a .s .now))) _ (c .before .before .before .product-sign .ensures) (not-true _ (c .if1 .taken)))
-    ∙ l .inv
-    ∙ ap (λ (t : Took Amount). moreC productC (factorC (a .depth)) (length (t .next .rest)) t) (c .before .before .before .before .before .before .before .factor .ensures)
+term-returns t c = let a = c .before .before .before .before .before .before .args in
+    let l = c .before .before .before .loop .t in
+    sym (more-done productC (factorC (a .depth)) (l .value) (reached (a .s .now) (l .at) (l .ok)) (length (drop (l .at) (a .s .now))) _ (c .before .before .product-sign .ensures) (not-true _ (c .if1 .taken)))
+    ∙ c .before .before .before .loop .inv
+    ∙ ap (λ (t : Took Amount). moreC productC (factorC (a .depth)) (length (t .next .rest)) t) (c .before .before .before .before .factor .ensures)
 
 term-factor-requires-2 : (t : ℕ) → term-lts.Need-factor-requires-2 (
   factor-below t,
@@ -410,7 +410,7 @@ term-factor-requires-2 : (t : ℕ) → term-lts.Need-factor-requires-2 (
   joined-reads.Asked,
   joined-reads.Learnt,
 ) (term-at t) term.Post term-Inv-loop term-μ-loop
-term-factor-requires-2 t c κs = (omega (arith, c .before .before .before .before .before .before .before .before .before .pre .0), tt)
+term-factor-requires-2 t c κs = (omega (arith, c .before .before .before .before .before .before .pre .0), tt)
 
 term-joined-requires : (t : ℕ) → term-lts.Need-joined-requires (
   factor-below t,
@@ -430,9 +430,9 @@ term-loop-less : (t : ℕ) → term-lts.Need-loop-less (
   joined-reads.Asked,
   joined-reads.Learnt,
 ) (term-at t) term.Post term-Inv-loop term-μ-loop
-term-loop-less t c = let a = c .before .before .before .before .before .before .before .before .before .before .before .before .before .args in
-    let l = c .before .before .before .before .before .before .before .before .loop in
-    more-less productC (factorC (a .depth)) (l .v) (seen (a .s .now) (l .at)) product-takes (factor-shrinks (a .depth)) _ _ (c .before .before .before .before .before .before .before .product-sign .ensures) (not-false _ (c .before .before .before .before .if1 .left)) (c .before .before .before .factor2 .ensures)
+term-loop-less t c = let a = c .before .before .before .before .before .before .before .before .before .before .args in
+    let l = c .before .before .before .before .before .before .before .loop .t in
+    more-less productC (factorC (a .depth)) (l .value) (reached (a .s .now) (l .at) (l .ok)) product-takes (factor-shrinks (a .depth)) _ _ (c .before .before .before .before .before .before .product-sign .ensures) (not-false _ (c .before .before .before .before .if1 .left)) (c .before .before .before .factor2 .ensures)
 
 term-loop-again : (t : ℕ) → term-lts.Need-loop-again (
   factor-below t,
@@ -442,10 +442,10 @@ term-loop-again : (t : ℕ) → term-lts.Need-loop-again (
   joined-reads.Asked,
   joined-reads.Learnt,
 ) (term-at t) term.Post term-Inv-loop term-μ-loop
-term-loop-again t c = let a = c .before .before .before .before .before .before .before .before .before .before .before .before .before .args in
-    let l = c .before .before .before .before .before .before .before .before .loop in
-    more-took productC (factorC (a .depth)) (l .v) (seen (a .s .now) (l .at)) product-takes (factor-shrinks (a .depth)) _ _ (c .before .before .before .before .before .before .before .product-sign .ensures) (not-false _ (c .before .before .before .before .if1 .left)) (c .before .before .before .factor2 .ensures) _ (c .before .joined .ensures)
-    ∙ l .inv
+term-loop-again t c = let a = c .before .before .before .before .before .before .before .before .before .before .args in
+    let l = c .before .before .before .before .before .before .before .loop .t in
+    more-took productC (factorC (a .depth)) (l .value) (reached (a .s .now) (l .at) (l .ok)) product-takes (factor-shrinks (a .depth)) _ _ (c .before .before .before .before .before .before .product-sign .ensures) (not-false _ (c .before .before .before .before .if1 .left)) (c .before .before .before .factor2 .ensures) _ (c .joined .ensures)
+    ∙ c .before .before .before .before .before .before .before .loop .inv
 
 pub +expr+factor+term-spec : {M : Type 1} → statement M
 +expr+factor+term-spec = close μ-expr μ-factor μ-term (λ t. expr-lts.spec (
