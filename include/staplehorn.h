@@ -71,7 +71,7 @@ static inline const char *staplehorn_reason_text(uint32_t reason) {
         "the sheet has over 65,536 bytes or 4,096 lines",
         "line 1 is not the header, or a line's layout is wrong",
         "the statement matches no form",
-        "a number is too large",
+        "a number is out of range",
         "N is over the largest of its shape, or the count of registers differs",
         "a name is unbound, of the wrong sort or width, or taken",
         "a 129th value name is bound",

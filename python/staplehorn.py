@@ -52,7 +52,7 @@ TEXTS = {
     1: "the sheet has over 65,536 bytes or 4,096 lines",
     2: "line 1 is not the header, or a line's layout is wrong",
     3: "the statement matches no form",
-    4: "a number is too large",
+    4: "a number is out of range",
     5: "N is over the largest of its shape, or the count of registers differs",
     6: "a name is unbound, of the wrong sort or width, or taken",
     7: "a 129th value name is bound",

@@ -320,7 +320,7 @@ static void nothing(void) {
 
 int main(void) {
     is(staplehorn_version(), STAPLEHORN_VERSION_NUMBER, "version");
-    is((uint64_t)strcmp(staplehorn_reason_text(4), "a number is too large"), 0, "reason's text");
+    is((uint64_t)strcmp(staplehorn_reason_text(4), "a number is out of range"), 0, "reason's text");
     nothing();
     passed();
     words();

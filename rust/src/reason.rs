@@ -57,7 +57,7 @@ const TABLE: [(Reason, u32, &str); 21] = [
     (Reason::Size, 1, "the sheet has over 65,536 bytes or 4,096 lines"),
     (Reason::Layout, 2, "line 1 is not the header, or a line's layout is wrong"),
     (Reason::Form, 3, "the statement matches no form"),
-    (Reason::Number, 4, "a number is too large"),
+    (Reason::Number, 4, "a number is out of range"),
     (Reason::Registers, 5, "N is over the largest of its shape, or the count of registers differs"),
     (Reason::Name, 6, "a name is unbound, of the wrong sort or width, or taken"),
     (Reason::Values, 7, "a 129th value name is bound"),
