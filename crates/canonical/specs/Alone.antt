@@ -19,7 +19,7 @@ aloneReason (reading.Got t) = cond (counted t) 0 5
 aloneReason (reading.NoForm at) = reasonOf (reading.NoForm at)
 aloneReason (reading.TooLarge at) = reasonOf (reading.TooLarge at)
 
--- its column, from 1 at the first byte: that of the token that no form has there, of the number that is too large, or of the opcode; 0 where the reason is 0
+-- its column, from 1 at the first byte: that of the token that no form has there, of the number that is out of range, or of the opcode; 0 where the reason is 0
 abbrev pub aloneColumn : Reading → ℕ
 aloneColumn (reading.Got t) = cond (counted t) 0 1
 aloneColumn (reading.NoForm at) = at + 1

@@ -24,11 +24,11 @@ columns =
     ∷ ("exit; ", (3, 6))
     ∷ ("mov.b32 i 7;", (3, 11))
     ∷ ("mov.b32 i, 019;", (3, 12))
-    -- a number that is too large
+    -- a number that is out of range
     ∷ ("mov.b32 i,  4294967296;", (4, 13))
     ∷ ("mov.b32 i, 040000000000U;", (4, 12))
     ∷ ("tcgen05.ld.sync.aligned.32x32b.x1.b32 {r}, [t+4294967296];", (4, 47))
-    -- no form before too large
+    -- no form before out of range
     ∷ ("mov.b32 i, 4294967296", (3, 22))
     -- the opcode where the registers are miscounted, or N is over the largest
     ∷ ("tcgen05.ld.sync.aligned.32x32b.x1.b32 {r, s}, [t];", (5, 1))

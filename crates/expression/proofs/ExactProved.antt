@@ -13,7 +13,7 @@ use Rattle.expression.specs.declared.Operator.{Operator}
 use Rattle.expression.specs.declared.Operator.the-variants as o
 use Rattle.expression.specs.Amounts.{beyond, differ, ranged, negated, times, plus, apply}
 use Rattle.expression.specs.Integers.{Result, resultOf, operate, join, opposite}
-use Rattle.expression.specs.Claims.{amountOf, Exact}
+use Rattle.expression.specs.Claims.{amountOf, ArithmeticExact}
 
 -- ---- one amount
 -- the integer of a sign and a size
@@ -162,5 +162,5 @@ turned (some k) =
     rw (amount-is k)
     (ranged-as (not (isMinus k)) (sizeOf k) _ (flip-is (isMinus k) (sizeOf k)) ∙ ap (λ (n : ℤ). amountOf (resultOf (negℤ n))) (signed-is k))
 
-pub exact : Exact
-exact = record { apart = apart; number = ranged-is false; joined = joined; negated = turned }
+pub arithmetic-exact : ArithmeticExact
+arithmetic-exact = record { apart = apart; number = ranged-is false; joined = joined; negated = turned }

@@ -12,7 +12,7 @@ use Rattle.tokens.specs.Cursors.{Rest, Took, on, off, markHere, markC}
 use Rattle.expression.specs.declared.Amount.{Amount}
 use Rattle.expression.specs.declared.Operator.{Operator}
 use Rattle.expression.specs.Amounts.{apply, negated}
-use Rattle.expression.specs.Expressions.{clean, plainC, moreC, exprBy, factorC}
+use Rattle.expression.specs.Expressions.{clean, plainC, linksC, exprBy, factorC}
 use Rattle.expression.proofs.ShrinkLaws.{Shrinks, Takes, more-turns}
 
 -- ---- marks
@@ -44,17 +44,17 @@ abbrev pub took : Amount → Rest → Took Amount
 took v r = record { value = v; next = r }
 
 module _ (op : Rest → Took Operator) (f : Rest → Took Amount) (v : Amount) (r : Rest) where
-  none-more : (n : ℕ) → op r .next .ok ≡ false → moreC op f n (took v r) ≡ took v r
-  unfolding moreC
+  none-more : (n : ℕ) → op r .next .ok ≡ false → linksC op f n (took v r) ≡ took v r
+  unfolding linksC
   none-more zero e = refl
   none-more (suc n) e = rw e
 
   -- no operator comes next
-  pub more-done : (n : ℕ) (d : Took Operator) → d ≡ op r → d .next .ok ≡ false → moreC op f n (took v r) ≡ took v r
+  pub more-done : (n : ℕ) (d : Took Operator) → d ≡ op r → d .next .ok ≡ false → linksC op f n (took v r) ≡ took v r
   more-done n d p e = none-more n (ap (λ (x : Took Operator). x .next .ok) (sym p) ∙ e)
 
-  one-more : (n : ℕ) → op r .next .ok ≡ true → moreC op f (suc n) (took v r) ≡ moreC op f n (took (apply (op r .value) v (f (op r .next) .value)) (f (op r .next) .next))
-  unfolding moreC
+  one-more : (n : ℕ) → op r .next .ok ≡ true → linksC op f (suc n) (took v r) ≡ linksC op f n (took (apply (op r .value) v (f (op r .next) .value)) (f (op r .next) .next))
+  unfolding linksC
   one-more n e = rw e
 
   module _ (h : Takes op) (s : Shrinks f) (d : Took Operator) (g : Took Amount) (p : d ≡ op r) (e : d .next .ok ≡ true) (q : g ≡ f (d .next)) where
@@ -69,7 +69,7 @@ module _ (op : Rest → Took Operator) (f : Rest → Took Amount) (v : Amount) (
         ap-less = omega (arith, h r (ap (λ (x : Took Operator). x .next .ok) (sym p) ∙ e), ap (λ (x : Took Operator). length (x .next .rest)) p)
 
     -- and the chain goes on from there as it did
-    pub more-took : (w : Amount) → w ≡ apply (d .value) v (g .value) → moreC op f (length (g .next .rest)) (took w (g .next)) ≡ moreC op f (length (r .rest)) (took v r)
+    pub more-took : (w : Amount) → w ≡ apply (d .value) v (g .value) → linksC op f (length (g .next .rest)) (took w (g .next)) ≡ linksC op f (length (r .rest)) (took v r)
     more-took w u =
         let n : ℕ = length (r .rest) - 1 in
         let z : length (r .rest) ≡ suc n = omega (arith, more-less) in
@@ -79,9 +79,9 @@ module _ (op : Rest → Took Operator) (f : Rest → Took Amount) (v : Amount) (
         ∙ ap (λ (x : Took Amount). took (apply (d .value) v (x .value)) (x .next)) q
         ∙ ap (λ (x : Took Operator). took (apply (x .value) v (f (x .next) .value)) (f (x .next) .next)) p in
         more-turns op f h s (length (g .next .rest)) n (took w (g .next)) (omega arith) (omega (arith, more-less))
-        ∙ ap (moreC op f n) y
+        ∙ ap (linksC op f n) y
         ∙ sym (one-more n o)
-        ∙ ap (λ (x : ℕ). moreC op f x (took v r)) (sym z)
+        ∙ ap (λ (x : ℕ). linksC op f x (took v r)) (sym z)
 
 -- ---- factors
 module _ (r : Rest) where

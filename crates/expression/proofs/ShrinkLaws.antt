@@ -15,7 +15,7 @@ use Rattle.expression.specs.declared.Amount.{Amount}
 use Rattle.expression.specs.declared.Operator.{Operator}
 use Rattle.expression.specs.declared.Operator.the-variants as o
 use Rattle.expression.specs.Amounts.{apply, negated}
-use Rattle.expression.specs.Expressions.{clean, plainC, sumC, productC, moreC, chainC, termBy, exprBy, factorC}
+use Rattle.expression.specs.Expressions.{clean, plainC, sumC, productC, linksC, chainC, termBy, exprBy, factorC}
 
 -- ---- tokens
 blanks-le : (l : List ℕ) → length (afterBlanks l) ≤ length l
@@ -135,15 +135,15 @@ module _ (op : Rest → Took Operator) (f : Rest → Took Amount) (h : Takes op)
   onward-less : (t : Took Amount) → op (t .next) .next .ok ≡ true → length (onward t .next .rest) < length (t .next .rest)
   onward-less t e = omega (arith, h (t .next) e, s (op (t .next) .next))
 
-  more-shrinks : (n : ℕ) (t : Took Amount) → length (moreC op f n t .next .rest) ≤ length (t .next .rest)
-  unfolding moreC
+  more-shrinks : (n : ℕ) (t : Took Amount) → length (linksC op f n t .next .rest) ≤ length (t .next .rest)
+  unfolding linksC
   more-shrinks zero t = omega arith
   more-shrinks (suc n) t = go (op (t .next) .next .ok) refl (more-shrinks n (onward t))
     where
       res : Bool → Took Amount
-      res b = cond b (moreC op f n (onward t)) t
+      res b = cond b (linksC op f n (onward t)) t
 
-      go : (b : Bool) → op (t .next) .next .ok ≡ b → length (moreC op f n (onward t) .next .rest) ≤ length (onward t .next .rest) → length (res b .next .rest) ≤ length (t .next .rest)
+      go : (b : Bool) → op (t .next) .next .ok ≡ b → length (linksC op f n (onward t) .next .rest) ≤ length (onward t .next .rest) → length (res b .next .rest) ≤ length (t .next .rest)
       go true e i = omega (arith, onward-less t e, i)
       go false e i = omega arith
 
@@ -152,24 +152,24 @@ module _ (op : Rest → Took Operator) (f : Rest → Took Amount) (h : Takes op)
   chain-shrinks r = omega (arith, more-shrinks (length (f r .next .rest)) (f r), s r)
 
   -- turns past the bytes that are left change nothing
-  pub more-turns : (n m : ℕ) (t : Took Amount) → length (t .next .rest) ≤ n → length (t .next .rest) ≤ m → moreC op f n t ≡ moreC op f m t
-  unfolding moreC
+  pub more-turns : (n m : ℕ) (t : Took Amount) → length (t .next .rest) ≤ n → length (t .next .rest) ≤ m → linksC op f n t ≡ linksC op f m t
+  unfolding linksC
   more-turns zero zero t a b = refl
   more-turns zero (suc m) t a b = go (op (t .next) .next .ok) refl
     where
-      go : (c : Bool) → op (t .next) .next .ok ≡ c → t ≡ cond c (moreC op f m (onward t)) t
+      go : (c : Bool) → op (t .next) .next .ok ≡ c → t ≡ cond c (linksC op f m (onward t)) t
       go true e = absurd (omega (arith, h (t .next) e, a))
       go false e = refl
   more-turns (suc n) zero t a b = go (op (t .next) .next .ok) refl
     where
-      go : (c : Bool) → op (t .next) .next .ok ≡ c → cond c (moreC op f n (onward t)) t ≡ t
+      go : (c : Bool) → op (t .next) .next .ok ≡ c → cond c (linksC op f n (onward t)) t ≡ t
       go true e = absurd (omega (arith, h (t .next) e, b))
       go false e = refl
   more-turns (suc n) (suc m) t a b = go (op (t .next) .next .ok) refl (more-turns n m (onward t))
     where
       go : (c : Bool) → op (t .next) .next .ok ≡ c
-          → (length (onward t .next .rest) ≤ n → length (onward t .next .rest) ≤ m → moreC op f n (onward t) ≡ moreC op f m (onward t))
-          → cond c (moreC op f n (onward t)) t ≡ cond c (moreC op f m (onward t)) t
+          → (length (onward t .next .rest) ≤ n → length (onward t .next .rest) ≤ m → linksC op f n (onward t) ≡ linksC op f m (onward t))
+          → cond c (linksC op f n (onward t)) t ≡ cond c (linksC op f m (onward t)) t
       go true e i = i (omega (arith, onward-less t e, a)) (omega (arith, onward-less t e, b))
       go false e i = refl
 

@@ -15,7 +15,7 @@ amountOf none = beyond
 amountOf (some (pos n)) = record { over = false; minus = false; size = n }
 amountOf (some (negsuc n)) = record { over = false; minus = true; size = suc n }
 
-pub record Exact : Type 0 where
+pub record ArithmeticExact : Type 0 where
   -- No two results are one amount.
   pub apart : (u v : Result) → amountOf u ≡ amountOf v → u ≡ v
   -- A number gives the amount of that integer's result,

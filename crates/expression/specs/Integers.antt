@@ -16,21 +16,23 @@ abbrev pub inRange : ℤ → Bool
 inRange (pos n) = leb n (2 ^ 63 - 1)
 inRange (negsuc n) = leb (suc n) (2 ^ 63)
 
+-- the result of an operation, or none
 abbrev pub resultOf : ℤ → Result
 resultOf k = cond (inRange k) (some k) none
 
--- an operator's integer of two
+-- an operator on two integers
 abbrev pub operate : Operator → ℤ → ℤ → ℤ
 operate o.Plus j k = j +ℤ k
 operate o.Minus j k = j -ℤ k
 operate o.Times j k = j *ℤ k
 
--- the same of two results
+-- the same on two results: none if either is none, whatever the other
 abbrev pub join : Operator → Result → Result → Result
 join x (some j) (some k) = resultOf (operate x j k)
 join x (some j) none = none
 join x none v = none
 
+-- unary minus
 abbrev pub opposite : Result → Result
 opposite (some k) = resultOf (negℤ k)
 opposite none = none

@@ -8,7 +8,7 @@ use Rattle.tokens.specs.Text.{byte}
 use Rattle.expression.specs.declared.Operator.{Operator}
 use Rattle.expression.specs.declared.Operator.the-variants as o
 use Rattle.expression.specs.Integers.{Result}
-use Rattle.grammar.specs.Spells.{Mark, NumberText, Text, Sign, SumSign, added, taken, ProductSign, times, More, stops, next, Chain, TermOf, ExprOf, group, minus, plain, FactorText, QuantityText, alone, composed}
+use Rattle.grammar.specs.Spells.{Mark, NumberText, ResultText, OperatorText, SumOperator, added, taken, ProductOperator, times, More, stops, next, Chain, TermOf, ExprOf, group, minus, plain, FactorText, QuantityText, alone, composed}
 
 -- from l, which starts with a token, to r behind it; no token of an expression is a comma or a brace
 pub record Along (R : List ℕ → List ℕ → Type 0) : Type 0 where
@@ -18,20 +18,20 @@ pub record Along (R : List ℕ → List ℕ → Type 0) : Type 0 where
   pub number : {v : ℕ} {l r : List ℕ} → NumberText v l r → R l r
 
 module _ (R : List ℕ → List ℕ → Type 0) (a : Along R) where
-  abbrev Holds : Text → Type 0
+  abbrev Holds : ResultText → Type 0
   Holds F = (u : Result) (l r : List ℕ) → F u l r → R l r
 
-  abbrev SignHolds : Sign → Type 0
-  SignHolds S = (x : Operator) (l r : List ℕ) → S x l r → R l r
+  abbrev OperatorHolds : OperatorText → Type 0
+  OperatorHolds S = (x : Operator) (l r : List ℕ) → S x l r → R l r
 
-  sum-along : SignHolds SumSign
+  sum-along : OperatorHolds SumOperator
   sum-along o.Plus l r (added m) = a .mark (byte "+") refl refl refl m
   sum-along o.Minus l r (taken m) = a .mark (byte "-") refl refl refl m
 
-  product-along : SignHolds ProductSign
+  product-along : OperatorHolds ProductOperator
   product-along o.Times l r (times m) = a .mark (byte "*") refl refl refl m
 
-  module _ (S : Sign) (F : Text) (s : SignHolds S) (f : Holds F) where
+  module _ (S : OperatorText) (F : ResultText) (s : OperatorHolds S) (f : Holds F) where
     more-along : {v u : Result} {l r : List ℕ} → More S F v u l r → R l r
     more-along (stops z) = a .here
     more-along (next {x = x} {w = w} {l = l} {l₁ = l₁} {l₂ = l₂} m t i) = a .then (s x l l₁ m) (a .then (f w l₁ l₂ t) (more-along i))
@@ -39,8 +39,8 @@ module _ (R : List ℕ → List ℕ → Type 0) (a : Along R) where
     chain-along : Holds (Chain S F)
     chain-along u l r t = a .then (f (t .v) l (t .l₁) (t .head)) (more-along (t .tail))
 
-  expr-along : (F : Text) → Holds F → Holds (ExprOf F)
-  expr-along F f = chain-along SumSign (TermOf F) sum-along (chain-along ProductSign F product-along f)
+  expr-along : (F : ResultText) → Holds F → Holds (ExprOf F)
+  expr-along F f = chain-along SumOperator (TermOf F) sum-along (chain-along ProductOperator F product-along f)
 
   factor-along : (d : ℕ) → Holds (FactorText d)
   factor-along zero u l r t = a .number (t .spelled)

@@ -12,7 +12,7 @@ use Rattle.tokens.specs.Names.{sigil, isName, packed, lowBytes, strip, nameByte
 use Rattle.tokens.specs.Numbers.{digitOf, spells, worth, isNumber, valueOf, lowDigits, trimmed, decimal}
 use Rattle.tokens.specs.Cursors.{markC, endC, nameC, numberC}
 use Rattle.expression.specs.Amounts.{ranged, negated, times, plus}
-use Rattle.expression.specs.Expressions.{plainC, sumC, productC, moreC as chainedC, chainC, factorC, expressionC, goesOn, quantityC}
+use Rattle.expression.specs.Expressions.{plainC, sumC, productC, linksC, chainC, factorC, expressionC, goesOn, quantityC}
 use Rattle.statement.specs.declared.Statement.{Statement}
 use Rattle.statement.specs.Forms.{word}
 use Rattle.statement.specs.Opcodes.{opcodes, recognise}
@@ -51,7 +51,7 @@ unfolding given rowGiven textOf rowText moreRowText namesText moreNamesText oper
 statements-read = all-read (typed ++ (accesses ++ mmas)) refl refl
 
 pub examples : Examples
-unfolding readOf registersOf wholeC answerOf operandsC rowC moreRowC nameC numberC quantityC expressionC goesOn factorC chainC chainedC sumC productC plainC ranged negated times plus inBracketsC offsetC insideC addressC operandC moreC namesC endC markC recognise opcodes word opcodeByte wordByte letter afterBlanks blank tokenOf tokenLen afterToken isName sigil packed isNumber valueOf spells worth digitOf
+unfolding readOf registersOf wholeC answerOf operandsC rowC moreRowC nameC numberC quantityC expressionC goesOn factorC chainC linksC sumC productC plainC ranged negated times plus inBracketsC offsetC insideC addressC operandC moreC namesC endC markC recognise opcodes word opcodeByte wordByte letter afterBlanks blank tokenOf tokenLen afterToken isName sigil packed isNumber valueOf spells worth digitOf
     lowBytes strip nameBytes lowDigits trimmed decimal addressText operandText moreNamesText namesText moreRowText rowText textOf
     afterComma afterCommas operandFrom nameFrom operandPlace namePlace
 examples = record { reasons = refl; limits-are = refl; statements = statements-read; stops = refl; numbers-stop = refl; long = refl; operands = refl; canonicals-are = refl; decimals-are = refl }

@@ -18,24 +18,24 @@ use Rattle.expression.specs.declared.Operator.the-variants as o
 use Rattle.expression.specs.Amounts.{ranged, negated, apply}
 use Rattle.expression.specs.Integers.{Result, resultOf, join, opposite}
 use Rattle.expression.specs.Claims.{amountOf}
-use Rattle.expression.specs.Expressions.{clean, plainC, sumC, productC, moreC, chainC, termBy, exprBy, factorC}
-use Rattle.expression.proofs.ExactProved.{exact}
+use Rattle.expression.specs.Expressions.{clean, plainC, sumC, productC, linksC, chainC, termBy, exprBy, factorC}
+use Rattle.expression.proofs.ExactProved.{arithmetic-exact}
 use Rattle.expression.proofs.ShrinkLaws.{Shrinks, Takes, sum-takes, product-takes, term-shrinks, factor-shrinks}
-use Rattle.grammar.specs.Spells.{Mark, NumberText, Text, Sign, SumSign, added, taken, ProductSign, times, More, stops, next, Chain, ExprOf, Plain, group, minus, plain, FactorText}
+use Rattle.grammar.specs.Spells.{Mark, NumberText, ResultText, OperatorText, SumOperator, added, taken, ProductOperator, times, More, stops, next, Chain, ExprOf, Plain, group, minus, plain, FactorText}
 
 -- what is read is spelled,
-abbrev pub Sound : (Rest → Took Amount) → Text → Type 0
+abbrev pub Sound : (Rest → Took Amount) → ResultText → Type 0
 Sound f F = (r : Rest) → f r .next .ok ≡ true → (r .ok ≡ true) × (u : Result) × (f r .value ≡ amountOf u) × F u (r .rest) (f r .next .rest)
 
 -- and what is spelled is read, where no number was too large
-abbrev pub Complete : (Rest → Took Amount) → Text → Type 0
+abbrev pub Complete : (Rest → Took Amount) → ResultText → Type 0
 Complete f F = (u : Result) (l r : List ℕ) → F u l r → f (at l false []) ≡ record { value = amountOf u; next = at r false [] }
 
-abbrev pub SignSound : (Rest → Took Operator) → Sign → Type 0
-SignSound f S = (r : Rest) → f r .next .ok ≡ true → (r .ok ≡ true) × S (f r .value) (r .rest) (f r .next .rest)
+abbrev pub OperatorSound : (Rest → Took Operator) → OperatorText → Type 0
+OperatorSound f S = (r : Rest) → f r .next .ok ≡ true → (r .ok ≡ true) × S (f r .value) (r .rest) (f r .next .rest)
 
-abbrev pub SignComplete : (Rest → Took Operator) → Sign → Type 0
-SignComplete f S = (x : Operator) (l r : List ℕ) (v : Bool) (g : List ℕ) → S x l r → f (at l v g) ≡ record { value = x; next = at r v g }
+abbrev pub OperatorComplete : (Rest → Took Operator) → OperatorText → Type 0
+OperatorComplete f S = (x : Operator) (l r : List ℕ) (v : Bool) (g : List ℕ) → S x l r → f (at l v g) ≡ record { value = x; next = at r v g }
 
 -- where reading goes on
 pub ok-at : (r : Rest) → r .ok ≡ true → r ≡ at (r .rest) (r .over) (r .far)
@@ -50,37 +50,37 @@ mark-not m l v g n = go (markC m (at l v g) .ok) refl
     go false e = refl
 
 -- ---- operators
-sum-sound : SignSound sumC SumSign
+sum-sound : OperatorSound sumC SumOperator
 unfolding sumC
 sum-sound r h = go (markC (byte "+") r .ok) refl h
   where
     res : Bool → Took Operator
     res b = cond b (record { value = o.Plus; next = markC (byte "+") r }) (record { value = o.Minus; next = markC (byte "-") r })
 
-    go : (b : Bool) → markC (byte "+") r .ok ≡ b → res b .next .ok ≡ true → (r .ok ≡ true) × SumSign (res b .value) (r .rest) (res b .next .rest)
+    go : (b : Bool) → markC (byte "+") r .ok ≡ b → res b .next .ok ≡ true → (r .ok ≡ true) × SumOperator (res b .value) (r .rest) (res b .next .rest)
     go true e k = let x = mark-sound (byte "+") r e in (x .0, added (x .1))
     go false e k = let x = mark-sound (byte "-") r k in (x .0, taken (x .1))
 
-sum-complete : SignComplete sumC SumSign
+sum-complete : OperatorComplete sumC SumOperator
 unfolding sumC blank
 sum-complete o.Plus l r v g (added m) = rw (mark-complete (byte "+") l r v g refl m)
 sum-complete o.Minus l r v g (taken m) =
     rw (mark-not (byte "+") l v g (λ s k. mark-two (byte "-") (byte "+") l r s refl refl refl m k), mark-complete (byte "-") l r v g refl m)
 
-product-sound : SignSound productC ProductSign
+product-sound : OperatorSound productC ProductOperator
 unfolding productC
 product-sound r h = let x = mark-sound (byte "*") r h in (x .0, times (x .1))
 
-product-complete : SignComplete productC ProductSign
+product-complete : OperatorComplete productC ProductOperator
 unfolding productC blank
 product-complete o.Times l r v g (times m) = rw (mark-complete (byte "*") l r v g refl m)
 
 -- ---- chains
 -- of two amounts, as the integers have it
 joined-as : (x : Operator) (v w : Result) (a b : Amount) → a ≡ amountOf v → b ≡ amountOf w → apply x a b ≡ amountOf (join x v w)
-joined-as x v w a b p q = ap (λ (y : Amount). apply x y b) p ∙ ap (apply x (amountOf v)) q ∙ exact .joined x v w
+joined-as x v w a b p q = ap (λ (y : Amount). apply x y b) p ∙ ap (apply x (amountOf v)) q ∙ arithmetic-exact .joined x v w
 
-module _ (op : Rest → Took Operator) (S : Sign) (ss : SignSound op S) (sc : SignComplete op S) (tk : Takes op) (f : Rest → Took Amount) (sh : Shrinks f) (F : Text) where
+module _ (op : Rest → Took Operator) (S : OperatorText) (ss : OperatorSound op S) (sc : OperatorComplete op S) (tk : Takes op) (f : Rest → Took Amount) (sh : Shrinks f) (F : ResultText) where
   abbrev onward : Took Amount → Took Amount
   onward t = record { value = apply (op (t .next) .value) (t .value) (f (op (t .next) .next) .value); next = f (op (t .next) .next) .next }
 
@@ -97,24 +97,24 @@ module _ (op : Rest → Took Operator) (S : Sign) (ss : SignSound op S) (sc : Si
   stop-here : (r : Rest) → r .ok ≡ true → op r .next .ok ≡ false → (x : Operator) (s : List ℕ) → S x (r .rest) s → ⊥
   stop-here r k e = none-here (r .rest) (r .over) (r .far) (ap (λ (q : Rest). op q .next .ok) (sym (ok-at r k)) ∙ e)
 
-  more-ok : Sound f F → (n : ℕ) (t : Took Amount) → moreC op f n t .next .ok ≡ true → t .next .ok ≡ true
-  unfolding moreC
+  more-ok : Sound f F → (n : ℕ) (t : Took Amount) → linksC op f n t .next .ok ≡ true → t .next .ok ≡ true
+  unfolding linksC
   more-ok s zero t h = h
   more-ok s (suc n) t h = go (op (t .next) .next .ok) refl h (more-ok s n (onward t))
     where
       res : Bool → Took Amount
-      res c = cond c (moreC op f n (onward t)) t
+      res c = cond c (linksC op f n (onward t)) t
 
-      go : (c : Bool) → op (t .next) .next .ok ≡ c → res c .next .ok ≡ true → (moreC op f n (onward t) .next .ok ≡ true → onward t .next .ok ≡ true) → t .next .ok ≡ true
+      go : (c : Bool) → op (t .next) .next .ok ≡ c → res c .next .ok ≡ true → (linksC op f n (onward t) .next .ok ≡ true → onward t .next .ok ≡ true) → t .next .ok ≡ true
       go true e k i = ss (t .next) (s (op (t .next) .next) (i k) .0) .0
       go false e k i = k
 
   -- what is read from t on, whose value is v
   abbrev Spelled : ℕ → Took Amount → Result → Type 0
-  Spelled n t v = (u : Result) × (moreC op f n t .value ≡ amountOf u) × More S F v u (t .next .rest) (moreC op f n t .next .rest)
+  Spelled n t v = (u : Result) × (linksC op f n t .value ≡ amountOf u) × More S F v u (t .next .rest) (linksC op f n t .next .rest)
 
-  more-sound : Sound f F → (n : ℕ) (t : Took Amount) (v : Result) → t .value ≡ amountOf v → length (t .next .rest) ≤ n → moreC op f n t .next .ok ≡ true → Spelled n t v
-  unfolding moreC
+  more-sound : Sound f F → (n : ℕ) (t : Took Amount) (v : Result) → t .value ≡ amountOf v → length (t .next .rest) ≤ n → linksC op f n t .next .ok ≡ true → Spelled n t v
+  unfolding linksC
   more-sound s zero t v p b h = (v, p, stops (nothing (op (t .next) .next .ok) refl))
     where
       nothing : (c : Bool) → op (t .next) .next .ok ≡ c → (x : Operator) (r : List ℕ) → S x (t .next .rest) r → ⊥
@@ -123,10 +123,10 @@ module _ (op : Rest → Took Operator) (S : Sign) (ss : SignSound op S) (sc : Si
   more-sound s (suc n) t v p b h = go (op (t .next) .next .ok) refl h (more-sound s n (onward t))
     where
       res : Bool → Took Amount
-      res c = cond c (moreC op f n (onward t)) t
+      res c = cond c (linksC op f n (onward t)) t
 
       go : (c : Bool) → op (t .next) .next .ok ≡ c → res c .next .ok ≡ true
-          → ((v : Result) → onward t .value ≡ amountOf v → length (onward t .next .rest) ≤ n → moreC op f n (onward t) .next .ok ≡ true → Spelled n (onward t) v)
+          → ((v : Result) → onward t .value ≡ amountOf v → length (onward t .next .rest) ≤ n → linksC op f n (onward t) .next .ok ≡ true → Spelled n (onward t) v)
           → (u : Result) × (res c .value ≡ amountOf u) × More S F v u (t .next .rest) (res c .next .rest)
       go true e k i =
           let x = ss (t .next) e in
@@ -137,8 +137,8 @@ module _ (op : Rest → Took Operator) (S : Sign) (ss : SignSound op S) (sc : Si
       go false e k i = (v, p, stops (stop-here (t .next) k e))
 
   more-complete : Complete f F → (n : ℕ) (v u : Result) (l r : List ℕ) → length l ≤ n → More S F v u l r
-      → moreC op f n (record { value = amountOf v; next = at l false [] }) ≡ record { value = amountOf u; next = at r false [] }
-  unfolding moreC
+      → linksC op f n (record { value = amountOf v; next = at l false [] }) ≡ record { value = amountOf u; next = at r false [] }
+  unfolding linksC
   more-complete c zero v u l r h (stops z) = refl
   more-complete c zero v u l r h (next {x = x} {l₁ = l₁} s t i) =
       absurd (omega (arith, h, tk (at l false []) (ap (λ (q : Took Operator). q .next .ok) (sc x l l₁ false [] s))))
@@ -148,7 +148,7 @@ module _ (op : Rest → Took Operator) (S : Sign) (ss : SignSound op S) (sc : Si
       let q = c w l₁ l₂ t in
       let a : length l₁ ≤ n = omega (arith, h, tk (at l false []) (ap (λ (y : Took Operator). y .next .ok) p), ap (λ (y : Took Operator). length (y .next .rest)) p) in
       let k : length l₂ ≤ n = omega (arith, a, sh (at l₁ false []), ap (λ (y : Took Amount). length (y .next .rest)) q) in
-      rw (p, q, exact .joined x v w) (more-complete c n (join x v w) u l₂ r k i)
+      rw (p, q, arithmetic-exact .joined x v w) (more-complete c n (join x v w) u l₂ r k i)
 
   pub chain-sound : Sound f F → Sound (chainC op f) (Chain S F)
   unfolding chainC
@@ -162,15 +162,15 @@ module _ (op : Rest → Took Operator) (S : Sign) (ss : SignSound op S) (sc : Si
   unfolding chainC
   chain-complete c u l r t = rw (c (t .v) l (t .l₁) (t .head)) (more-complete c (length (t .l₁)) (t .v) u (t .l₁) r (omega arith) (t .tail))
 
-pub expr-sound : (f : Rest → Took Amount) (F : Text) → Shrinks f → Sound f F → Sound (exprBy f) (ExprOf F)
+pub expr-sound : (f : Rest → Took Amount) (F : ResultText) → Shrinks f → Sound f F → Sound (exprBy f) (ExprOf F)
 expr-sound f F sh s =
-    chain-sound sumC SumSign sum-sound sum-complete sum-takes (termBy f) (term-shrinks f sh) (Chain ProductSign F)
-    (chain-sound productC ProductSign product-sound product-complete product-takes f sh F s)
+    chain-sound sumC SumOperator sum-sound sum-complete sum-takes (termBy f) (term-shrinks f sh) (Chain ProductOperator F)
+    (chain-sound productC ProductOperator product-sound product-complete product-takes f sh F s)
 
-pub expr-complete : (f : Rest → Took Amount) (F : Text) → Shrinks f → Complete f F → Complete (exprBy f) (ExprOf F)
+pub expr-complete : (f : Rest → Took Amount) (F : ResultText) → Shrinks f → Complete f F → Complete (exprBy f) (ExprOf F)
 expr-complete f F sh c =
-    chain-complete sumC SumSign sum-sound sum-complete sum-takes (termBy f) (term-shrinks f sh) (Chain ProductSign F)
-    (chain-complete productC ProductSign product-sound product-complete product-takes f sh F c)
+    chain-complete sumC SumOperator sum-sound sum-complete sum-takes (termBy f) (term-shrinks f sh) (Chain ProductOperator F)
+    (chain-complete productC ProductOperator product-sound product-complete product-takes f sh F c)
 
 -- ---- numbers
 -- the number read up to 2^63 - 1, or that it was over, is the number if it is in range
@@ -186,7 +186,7 @@ pub plain-complete : Complete plainC Plain
 unfolding plainC
 plain-complete u l r t =
     let p = number-complete (2 ^ 63 - 1) (t .number) l r false [] (t .spelled) in
-    rw (p .is, cut-ranged (t .number), exact .number (t .number), t .value)
+    rw (p .is, cut-ranged (t .number), arithmetic-exact .number (t .number), t .value)
 
 pub plain-sound : Sound plainC Plain
 unfolding plainC
@@ -198,7 +198,7 @@ plain-sound r h =
     ap (λ (x : Rest). record { over = numberC (2 ^ 63 - 1) x .next .over; minus = false; size = numberC (2 ^ 63 - 1) x .value }) e
     ∙ ap (λ (x : Took ℕ). record { over = x .next .over; minus = false; size = x .value }) (q .is)
     ∙ cut-ranged (p .1) in
-    (p .0, resultOf (pos (p .1)), v ∙ exact .number (p .1), record { number = p .1; spelled = p .2; value = refl })
+    (p .0, resultOf (pos (p .1)), v ∙ arithmetic-exact .number (p .1), record { number = p .1; spelled = p .2; value = refl })
 
 -- a number starts with no mark
 number-first : (n m : ℕ) (l r s : List ℕ) → blank m ≡ false → (wordByte m || eqb m (byte "%")) ≡ false → NumberText n l r → Mark m l s → ⊥
@@ -233,7 +233,7 @@ factor-sound (suc d) r h = go (markC (byte "(") r .ok) refl (markC (byte "-") r 
     go false e true e′ k ih =
         let y = ih (markC (byte "-") r) k in
         let x = mark-sound (byte "-") r e′ in
-        (x .0, opposite (y .1), ap negated (y .2) ∙ exact .negated (y .1), minus (x .1) (y .3))
+        (x .0, opposite (y .1), ap negated (y .2) ∙ arithmetic-exact .negated (y .1), minus (x .1) (y .3))
     go false e false e′ k ih = let y = plain-sound r k in (y .0, y .1, y .2, plain (y .3))
 
 pub factor-complete : (d : ℕ) → Complete (factorC d) (FactorText d)
@@ -242,7 +242,7 @@ factor-complete zero u l r t = plain-complete u l r t
 factor-complete (suc d) u l r (group {l₁ = l₁} {l₂ = l₂} x e c) =
     rw (mark-complete (byte "(") l l₁ false [] refl x, expr-complete (factorC d) (FactorText d) (factor-shrinks d) (factor-complete d) u l₁ l₂ e, mark-complete (byte ")") l₂ r false [] refl c)
 factor-complete (suc d) u l r (minus {u = w} {l₁ = l₁} x t) =
-    rw (mark-not (byte "(") l false [] (λ s k. mark-two (byte "-") (byte "(") l l₁ s refl refl refl x k), mark-complete (byte "-") l l₁ false [] refl x, factor-complete d w l₁ r t, exact .negated w)
+    rw (mark-not (byte "(") l false [] (λ s k. mark-two (byte "-") (byte "(") l l₁ s refl refl refl x k), mark-complete (byte "-") l l₁ false [] refl x, factor-complete d w l₁ r t, arithmetic-exact .negated w)
 factor-complete (suc d) u l r (plain t) =
     rw (mark-not (byte "(") l false [] (λ s k. number-first (t .number) (byte "(") l r s refl refl (t .spelled) k), mark-not (byte "-") l false [] (λ s k. number-first (t .number) (byte "-") l r s refl refl (t .spelled) k))
     (plain-complete u l r t)

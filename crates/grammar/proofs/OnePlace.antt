@@ -4,12 +4,13 @@ use native.Mathlib.Omega.{arith}
 use mathlib.Core.Path.{_≡_, refl, sym, ap, _∙_}
 use mathlib.Core.List.{List, [], _∷_, _++_, append-assoc}
 use mathlib.Core.Bool.{Bool, true, false, cond}
+use mathlib.Core.Option.{Option·some-injective}
 use lib.ListN.{length, getD, take, drop, length-append, length-drop, take-append-drop}
 use lib.Seq.{take-at}
-use Rattle.tokens.specs.Bytes.{letter, wordByte, runLen, tokenLen, tokenOf, afterToken}
+use Rattle.tokens.specs.Bytes.{letter, wordByte, runLen, afterBlanks, tokenLen, tokenOf, afterToken}
 use Rattle.statement.specs.Reading.{opcodeLen}
 use Rattle.grammar.specs.Spells.{Spells}
-use Rattle.grammar.specs.Claims.{After, here, past, Stops, One}
+use Rattle.grammar.specs.Claims.{After, here, past, Stops, Over, One}
 use Rattle.grammar.proofs.Lexing.{token-parts}
 use Rattle.grammar.proofs.Readers.{ends}
 use Rattle.grammar.proofs.Stops.{lights, token-ends, token-replay}
@@ -83,5 +84,13 @@ one-place text p q a b = go (compare (drop (opcodeLen text) text) (drop p text) 
     go (inl k) = ordered text p q a b (drop p text) (drop q text) refl refl k
     go (inr k) = sym (ordered text q p b a (drop q text) (drop p text) refl refl k)
 
+-- of reason 4, by any one spelling
+one-over : (text : List ℕ) (p q : ℕ) → Over text p → Over text q → p ≡ q
+one-over text p q a b =
+    let x = a .starts (a .whole) (a .spelled) in
+    let y = b .starts (a .whole) (a .spelled) in
+    let e : drop p text ≡ drop q text = x .2 ∙ ap afterBlanks (Option·some-injective (x .0) (y .0) (sym (x .1) ∙ y .1)) ∙ sym (y .2) in
+    omega (arith, ap length e, length-drop p text, length-drop q text, a .inside, b .inside)
+
 pub ones : (text : List ℕ) → One text
-ones text = record { place = one-place text }
+ones text = record { place = one-place text; over = one-over text }

@@ -24,7 +24,7 @@ use Rattle.statement.specs.Positions.{within, afterComma, afterCommas, operandF
 use Rattle.expression.specs.Integers.{Result}
 use Rattle.grammar.proofs.Along.{Along, quantity-along}
 use Rattle.grammar.specs.Spells.{spaces, Mark, Word, NameText, NumberText, group, minus, plain, FactorText, QuantityText, alone, composed, BracketText, OffsetText, bare, plus, AddressText, OperandText, byName, byAddress, MoreNames, closes, comma, NamesText, opens, SlotText, MoreRow, RowText, Spells}
-use Rattle.grammar.specs.Operands.{Part, moreParts, rowParts, partsOf, nameIn, NameAt, MarkAt, Shows, Placed, AllPlaced, AllShown, OperandsPlaced}
+use Rattle.grammar.specs.Operands.{Part, moreParts, rowParts, partsOf, nameIn, NameAt, NumberAt, MarkAt, Shows, Placed, AllPlaced, AllShown, OperandsPlaced}
 use Rattle.statement.proofs.Each.{each-opcode, each-statement}
 use Rattle.laws.proofs.BoolLaws.{never, and-split}
 use Rattle.grammar.proofs.Lexing.{blanks-parts, starts, whole, whole-head, other, word-at, token-is, name-whole, number-whole, mark-at}
@@ -180,12 +180,12 @@ unfolding namePlace
 name-drop text i = let p = ends-name text i in place-drop text (p .0) (nameFrom text i) (p .1)
 
 -- a place where a byte stands is in the text
-in-text : (n x : ℕ) (s l : List ℕ) → drop n s ≡ x ∷ l → n < length s
+pub in-text : (n x : ℕ) (s l : List ℕ) → drop n s ≡ x ∷ l → n < length s
 in-text n x s l h = omega (arith, length-drop n s, ap length h)
 
 -- ---- one operand
 -- something stands there
-abbrev Some : List ℕ → Type 0
+abbrev pub Some : List ℕ → Type 0
 Some l = (x : ℕ) × (u : List ℕ) × (l ≡ x ∷ u)
 
 -- what an operand from l on shows, at its first byte and at its name's
@@ -209,6 +209,9 @@ word-token {w} {l} {r} g k = ap tokenOf (word-at w l r g k) ∙ token-is w r g (
 name-at : {n : Name} {l r : List ℕ} → NameText n l r → NameAt n (afterBlanks l)
 name-at k = let e = word-token (name-whole (k .bytes) (k .good)) (k .spelled) in (rw e (k .good), rw e (k .value))
 
+number-at : {v : ℕ} {l r : List ℕ} → NumberText v l r → NumberAt v (afterBlanks l)
+number-at k = let e = word-token (number-whole (k .bytes) (k .good)) (k .spelled) in (rw e (k .good), rw e (k .value))
+
 name-some : {n : Name} {l r : List ℕ} → NameText n l r → Some (afterBlanks l)
 name-some k = word-some (name-whole (k .bytes) (k .good)) (k .spelled)
 
@@ -216,9 +219,9 @@ mark-some : {m : ℕ} {l r : List ℕ} → blank m ≡ false → Mark m l r → 
 mark-some {m} {l} {r} d k = (m, r, mark-at m d k)
 
 -- ---- the first byte of an expression is no bracket, and spaces before it may be left out
-record First (l : List ℕ) : Type 0 where
-  some : Some (afterBlanks l)
-  bare : afterBracket (afterBlanks l) ≡ afterBlanks l
+pub record First (l : List ℕ) : Type 0 where
+  pub some : Some (afterBlanks l)
+  pub bare : afterBracket (afterBlanks l) ≡ afterBlanks l
 
 mark-opens : (m : ℕ) {l r : List ℕ} → blank m ≡ false → eqb m (byte "[") ≡ false → Mark m l r → First l
 mark-opens m {l} {r} d e k = record { some = mark-some d k; bare = rw (mark-at m d k, e) }
@@ -233,7 +236,7 @@ factor-opens (suc d) a l r (group m e c) = mark-opens (byte "(") refl refl m
 factor-opens (suc d) a l r (minus m t) = mark-opens (byte "-") refl refl m
 factor-opens (suc d) a l r (plain t) = number-opens (t .spelled)
 
-quantity-opens : (limit v : ℕ) (l r : List ℕ) → QuantityText limit v l r → First l
+pub quantity-opens : (limit v : ℕ) (l r : List ℕ) → QuantityText limit v l r → First l
 quantity-opens limit v l r (alone t n m) = number-opens t
 quantity-opens limit v l r (composed t h) = factor-opens 16 (t .head .v) l (t .head .l₁) (t .head .head)
 
@@ -289,6 +292,7 @@ module _ (text rest : List ℕ) (parts : drop (opcodeLen text) text ≡ rest) wh
         nameInside = in-text (namePlace text i) (s .someName .0) text (s .someName .1) (named ∙ s .someName .2);
         named = named;
         shows = rw (from, named) (s .shows);
+        numeral = λ n t. rw from (number-at t);
       }
 
   next : (i : ℕ) (p : Part) → afterCommas i rest ≡ p .from → afterCommas (suc i) rest ≡ afterComma false (p .rest)

@@ -24,7 +24,8 @@ use Rattle.statement.specs.Reading.{inBracketsC, offsetC, insideC, addressC, op
 use Rattle.expression.specs.Integers.{Result}
 use Rattle.expression.specs.Claims.{amountOf}
 use Rattle.grammar.proofs.Along.{Along, quantity-along}
-use Rattle.grammar.specs.Spells.{spaces, Mark, Word, MoreNames, closes, comma, opens, NumberText, QuantityText, alone, composed, worthOf, OffsetText, bare, plus, AddressText, byName, byAddress, SlotText, MoreRow, RowText, Spells, sizedSlot, sized}
+use Rattle.grammar.proofs.Operands.{First, quantity-opens, in-text}
+use Rattle.grammar.specs.Spells.{spaces, Mark, Word, MoreNames, closes, comma, opens, NumberText, QuantityText, alone, composed, numberFor, OffsetText, bare, plus, AddressText, byName, byAddress, SlotText, MoreRow, RowText, Spells, sizedSlot, sized}
 use Rattle.grammar.specs.Operands.{Part, moreParts, rowParts, partsOf, offsetFrom, numberFrom, firstOver}
 use Rattle.grammar.specs.Claims.{Over}
 use Rattle.laws.proofs.BoolLaws.{never, clash}
@@ -58,15 +59,15 @@ number-far limit v l r o f t =
     go false = refl
 
 settled-far : (limit : ℕ) (u : Result) (l r : List ℕ) (o : Bool) (f : List ℕ)
-    → settled limit (at l o f) (afterBlanks l) (record { value = amountOf u; next = at r false [] }) .next .far ≡ farBy (leb (worthOf limit u) limit) o f (some l)
-settled-far limit u l r o f = rw (fits-worth limit u) (go (leb (worthOf limit u) limit))
+    → settled limit (at l o f) (afterBlanks l) (record { value = amountOf u; next = at r false [] }) .next .far ≡ farBy (leb (numberFor limit u) limit) o f (some l)
+settled-far limit u l r o f = rw (fits-worth limit u) (go (leb (numberFor limit u) limit))
   where
     go : (b : Bool) → cond {A = Took ℕ} b (record { value = amountOf u .size; next = at r o f }) (record { value = 0; next = record { rest = r; ok = true; over = true; far = cond o f (afterBlanks l) } }) .next .far ≡ farBy b o f (some l)
     go true = refl
     go false = refl
 
 expression-far : (limit : ℕ) (u : Result) (l r : List ℕ) (o : Bool) (f : List ℕ) → exprBy (factorC 16) (at l false []) ≡ record { value = amountOf u; next = at r false [] }
-    → expressionC limit (at l o f) .next .far ≡ farBy (leb (worthOf limit u) limit) o f (some l)
+    → expressionC limit (at l o f) .next .far ≡ farBy (leb (numberFor limit u) limit) o f (some l)
 unfolding expressionC
 expression-far limit u l r o f e = ap (λ (t : Took Amount). settled limit (at l o f) (afterBlanks l) t .next .far) e ∙ settled-far limit u l r o f
 
@@ -266,6 +267,28 @@ to-number operand (operand.Descriptor n) l r (byName t) m e = absurd (Option·no
 to-number operand (operand.Address a) l r (byAddress t) m e = to-address t m e
 to-number names v l r t m e = absurd (Option·none-ne-some m e)
 
+-- at its number stands a byte
+offset-first : {v : ℕ} {l r : List ℕ} (t : OffsetText v l r) (m : List ℕ) → offsetFrom t ≡ some m → First m
+offset-first bare m e = absurd (Option·none-ne-some m e)
+offset-first {v = v} {r = r} (plus {l₁ = l₁} k t) m e = rw (← some-is l₁ m e) (quantity-opens maxOffset v l₁ r t)
+
+slot-first : (k : Slot) (v : Value k) (l r : List ℕ) (t : SlotText k v l r) (m : List ℕ) → numberFrom k v l r t ≡ some m → First m
+slot-first name v l r t m e = absurd (Option·none-ne-some m e)
+slot-first (number limit) v l r t m e = rw (← some-is l m e) (quantity-opens limit v l r t)
+slot-first inBrackets v l r t m e = absurd (Option·none-ne-some m e)
+slot-first address v l r t m e = offset-first (t .offset) m e
+slot-first operand (operand.Descriptor n) l r (byName t) m e = absurd (Option·none-ne-some m e)
+slot-first operand (operand.Address a) l r (byAddress t) m e = offset-first (t .offset) m e
+slot-first names v l r t m e = absurd (Option·none-ne-some m e)
+
+part-first : (ps : List Part) (m : List ℕ) → firstOver ps ≡ some m → First m
+part-first [] m e = absurd (Option·none-ne-some m e)
+part-first (p ∷ ps) m e = go (sizedSlot (p .slot) (p .value)) e (part-first ps m)
+  where
+    go : (b : Bool) → cond b (firstOver ps) (numberFrom (p .slot) (p .value) (p .from) (p .rest) (p .spelled)) ≡ some m → (firstOver ps ≡ some m → First m) → First m
+    go true h i = i h
+    go false h i = slot-first (p .slot) (p .value) (p .from) (p .rest) (p .spelled) m h
+
 more-row-ends : (ks : List Slot) (vs : Values ks) (l : List ℕ) (t : MoreRow ks vs l) (m : List ℕ) → firstOver (moreParts ks vs l t) ≡ some m → Ends l m
 more-row-ends [] vs l t m e = absurd (Option·none-ne-some m e)
 more-row-ends (k ∷ ks) vs l t m e =
@@ -284,7 +307,11 @@ row-ends (k ∷ ks) vs l t m e = go (sizedSlot k (vs .0)) e (more-row-ends ks (v
     go false h i = to-number k (vs .0) l (t .0) (t .1) m h
 
 pub overs : (text : List ℕ) (p : ℕ) → readOf text ≡ TooLarge p → Over text p
-overs text p h = let s = read-spells text (over-at text p h .0) in record { whole = s .0; spelled = s .1; starts = λ w t. starts-at t }
+overs text p h =
+    let s = read-spells text (over-at text p h .0) in
+    let x = starts-at (s .1) in
+    let f = part-first (partsOf (s .1)) (x .0) (x .1) .some in
+    record { whole = s .0; spelled = s .1; inside = in-text p (f .0) text (f .1) (x .2 ∙ f .2); starts = λ w t. starts-at t }
   where
     over-is : {w : Whole} (t : Spells w text) → overRow (row (t .opcode)) (t .values) false ≡ wholeC text .next .over
     over-is {w} t = over-sized (t .opcode) (t .values) ∙ ap (λ (y : Whole). not (sized (y .statement))) (t .made) ∙ sym (ap (λ (r : Rest). r .over) (spells-met w text t .next))

@@ -18,9 +18,9 @@ use Rattle.expression.specs.declared.Operator.the-variants as o
 use Rattle.expression.specs.Integers.{Result, resultOf, join}
 use Rattle.expression.specs.Claims.{amountOf}
 use Rattle.expression.specs.Expressions.{clean, keeping, exprBy, factorC, fitsIn, settled, expressionC, operatorFirst, goesOn, quantityC}
-use Rattle.expression.proofs.ExactProved.{exact}
+use Rattle.expression.proofs.ExactProved.{arithmetic-exact}
 use Rattle.expression.proofs.ShrinkLaws.{factor-shrinks}
-use Rattle.grammar.specs.Spells.{Mark, NumberText, Text, Sign, SumSign, added, taken, ProductSign, times, Without, More, stops, next, TermOf, plain, FactorText, ExprText, worthOf, QuantityText, alone, composed}
+use Rattle.grammar.specs.Spells.{Mark, NumberText, ResultText, OperatorText, SumOperator, added, taken, ProductOperator, times, Without, More, stops, next, TermOf, plain, FactorText, ExprText, numberFor, QuantityText, alone, composed}
 use Rattle.grammar.proofs.Expressions.{Sound, Complete, expr-sound, expr-complete, factor-sound, factor-complete, ok-at}
 
 -- ---- expressions of 16 levels
@@ -34,11 +34,11 @@ exprs-complete = expr-complete (factorC 16) (FactorText 16) (factor-shrinks 16) 
 expr-one : (u v : Result) (l r s : List ℕ) → ExprText u l r → ExprText v l s → (u ≡ v) × (r ≡ s)
 expr-one u v l r s a b =
     let p = took-one (exprs-complete u l r a) (exprs-complete v l s b) in
-    (exact .apart u v (p .0), p .1)
+    (arithmetic-exact .apart u v (p .0), p .1)
 
 -- ---- no operator follows
 -- none follows a chain, and whatever holds behind each of its links holds behind it
-module _ (S : Sign) (F : Text) where
+module _ (S : OperatorText) (F : ResultText) where
   more-without : (v u : Result) (l r : List ℕ) → More S F v u l r → Without S r
   more-without v u l r (stops z) = z
   more-without v u l r (next {x = x} {w = w} {l₂ = l₂} s t i) = more-without (join x v w) u l₂ r i
@@ -48,29 +48,29 @@ module _ (S : Sign) (F : Text) where
     more-behind v u l r p (stops z) = p
     more-behind v u l r p (next {x = x} {w = w} {l₁ = l₁} {l₂ = l₂} s t i) = more-behind (join x v w) u l₂ r (behind w l₁ l₂ t) i
 
-expr-ended : (u : Result) (l r : List ℕ) → ExprText u l r → Without SumSign r × Without ProductSign r
-expr-ended u l r t = (more-without SumSign Term (t .v) u (t .l₁) r (t .tail), more-behind SumSign Term (Without ProductSign) term-ended (t .v) u (t .l₁) r (term-ended (t .v) l (t .l₁) (t .head)) (t .tail))
+expr-ended : (u : Result) (l r : List ℕ) → ExprText u l r → Without SumOperator r × Without ProductOperator r
+expr-ended u l r t = (more-without SumOperator Term (t .v) u (t .l₁) r (t .tail), more-behind SumOperator Term (Without ProductOperator) term-ended (t .v) u (t .l₁) r (term-ended (t .v) l (t .l₁) (t .head)) (t .tail))
   where
-    Term : Text
+    Term : ResultText
     Term = TermOf (FactorText 16)
 
-    term-ended : (w : Result) (k m : List ℕ) → Term w k m → Without ProductSign m
-    term-ended w k m s = more-without ProductSign (FactorText 16) (s .v) w (s .l₁) m (s .tail)
+    term-ended : (w : Result) (k m : List ℕ) → Term w k m → Without ProductOperator m
+    term-ended w k m s = more-without ProductOperator (FactorText 16) (s .v) w (s .l₁) m (s .tail)
 
 -- an operator's mark is the first byte past the spaces
 first-mark : (m : ℕ) (r s : List ℕ) → blank m ≡ false → (eqb m (byte "+") || eqb m (byte "-") || eqb m (byte "*")) ≡ true → goesOn r ≡ false → Mark m r s → ⊥
 unfolding goesOn
 first-mark m r s d t h k = clash (ap operatorFirst (mark-at m d k) ∙ t) h
 
-pub ended-by : (r : List ℕ) → goesOn r ≡ false → Without SumSign r × Without ProductSign r
+pub ended-by : (r : List ℕ) → goesOn r ≡ false → Without SumOperator r × Without ProductOperator r
 unfolding blank
 ended-by r h = (no-sum, no-product)
   where
-    no-sum : Without SumSign r
+    no-sum : Without SumOperator r
     no-sum o.Plus s (added k) = first-mark (byte "+") r s refl refl h k
     no-sum o.Minus s (taken k) = first-mark (byte "-") r s refl refl h k
 
-    no-product : Without ProductSign r
+    no-product : Without ProductOperator r
     no-product o.Times s (times k) = first-mark (byte "*") r s refl refl h k
 
 -- where the first byte past the spaces is a mark, the mark stands there
@@ -78,7 +78,7 @@ mark-by : (m x : ℕ) (r l : List ℕ) → afterBlanks r ≡ x ∷ l → eqb x m
 unfolding markC
 mark-by m x r l e h = let o : markC m (at r false []) .ok ≡ true = rw (e, h) in (markC m (at r false []) .rest, mark-sound m (at r false []) o .1)
 
-pub goes-on : (r : List ℕ) → Without SumSign r → Without ProductSign r → goesOn r ≡ false
+pub goes-on : (r : List ℕ) → Without SumOperator r → Without ProductOperator r → goesOn r ≡ false
 unfolding goesOn
 goes-on r n p = go (afterBlanks r) refl
   where
@@ -113,25 +113,25 @@ followed-by u l r t h n s k = go (goesOn s) refl
 
 -- ---- the value of an expression, as it is settled
 -- it fits where its worth is at most the limit
-pub fits-worth : (limit : ℕ) (u : Result) → fitsIn limit (amountOf u) ≡ leb (worthOf limit u) limit
+pub fits-worth : (limit : ℕ) (u : Result) → fitsIn limit (amountOf u) ≡ leb (numberFor limit u) limit
 fits-worth limit none = sym (lt-leb (suc limit) limit (omega arith))
 fits-worth limit (some (negsuc n)) = sym (lt-leb (suc limit) limit (omega arith))
 fits-worth limit (some (pos n)) = refl
 
 -- and then it is its worth
-fits-size : (limit : ℕ) (u : Result) → fitsIn limit (amountOf u) ≡ true → amountOf u .size ≡ worthOf limit u
+fits-size : (limit : ℕ) (u : Result) → fitsIn limit (amountOf u) ≡ true → amountOf u .size ≡ numberFor limit u
 fits-size limit none h = never h
 fits-size limit (some (negsuc n)) h = never h
 fits-size limit (some (pos n)) h = refl
 
 settle-reads : (limit : ℕ) (u : Result) (l r : List ℕ) (o : Bool) (f g : List ℕ)
-    → Reads (settled limit (at l o f) g (record { value = amountOf u; next = at r false [] })) (cut limit (worthOf limit u)) r (overBy (leb (worthOf limit u) limit) o)
-settle-reads limit u l r o f g = rw (fits-worth limit u) (go (leb (worthOf limit u) limit) (λ e. fits-size limit u (fits-worth limit u ∙ e)))
+    → Reads (settled limit (at l o f) g (record { value = amountOf u; next = at r false [] })) (cut limit (numberFor limit u)) r (overBy (leb (numberFor limit u) limit) o)
+settle-reads limit u l r o f g = rw (fits-worth limit u) (go (leb (numberFor limit u) limit) (λ e. fits-size limit u (fits-worth limit u ∙ e)))
   where
     res : Bool → Took ℕ
     res b = cond b (record { value = amountOf u .size; next = at r o f }) (record { value = 0; next = record { rest = r; ok = true; over = true; far = cond o f g } })
 
-    go : (b : Bool) → (b ≡ true → amountOf u .size ≡ worthOf limit u) → Reads (res b) (cond b (worthOf limit u) 0) r (overBy b o)
+    go : (b : Bool) → (b ≡ true → amountOf u .size ≡ numberFor limit u) → Reads (res b) (cond b (numberFor limit u) 0) r (overBy b o)
     go true s = record { far = f; is = ap (λ (n : ℕ). record { value = n; next = at r o f }) (s refl) }
     go false s = record { far = cond o f g; is = refl }
 
@@ -194,8 +194,8 @@ quantity-sound limit r h = go (alone-at limit r) refl
         let k = settled-ok limit r (afterBlanks (r .rest)) x (ap (λ (t : Took ℕ). t .next .ok) (sym (i ∙ j)) ∙ h) in
         let p = exprs-sound (clean r) (k .0) in
         let w : quantityC limit r .next .rest ≡ x .next .rest = ap (λ (t : Took ℕ). t .next .rest) (i ∙ j) ∙ k .1 in
-        let m : QuantityText limit (worthOf limit (p .1)) (r .rest) (x .next .rest) = composed (p .3) (more (p .0) (p .1) (x .next .rest) (p .3)) in
-        (p .0, worthOf limit (p .1), subst (λ (l : List ℕ). QuantityText limit (worthOf limit (p .1)) (r .rest) l) (sym w) m)
+        let m : QuantityText limit (numberFor limit (p .1)) (r .rest) (x .next .rest) = composed (p .3) (more (p .0) (p .1) (x .next .rest) (p .3)) in
+        (p .0, numberFor limit (p .1), subst (λ (l : List ℕ). QuantityText limit (numberFor limit (p .1)) (r .rest) l) (sym w) m)
       where
         -- it is more than a number
         more : r .ok ≡ true → (u : Result) (s : List ℕ) → ExprText u (r .rest) s → (n : ℕ) → NumberText n (r .rest) s → ⊥
@@ -212,4 +212,4 @@ quantity-one limit n m l r s (alone a h j) (composed {u = v} b k) = absurd (clas
 quantity-one limit n m l r s (composed {u = u} a h) (alone b k j) = absurd (clash (followed-by u l r a h m s b) (goes-on s k j))
 quantity-one limit n m l r s (composed {u = u} a h) (composed {u = v} b k) =
     let p = expr-one u v l r s a b in
-    (ap (worthOf limit) (p .0), p .1)
+    (ap (numberFor limit) (p .0), p .1)

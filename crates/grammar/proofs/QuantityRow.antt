@@ -20,7 +20,7 @@ use Rattle.expression.specs.declared.Operator.{Operator}
 use Rattle.expression.specs.declared.Operator.the-variants as o
 use Rattle.expression.specs.Amounts.{negated, apply}
 use Rattle.expression.specs.Integers.{resultOf}
-use Rattle.expression.specs.Expressions.{clean, keeping, plainC, sumC, productC, moreC, chainC, termBy, exprBy, factorC, fitsIn, settled, expressionC, goesOn, quantityC}
+use Rattle.expression.specs.Expressions.{clean, keeping, plainC, sumC, productC, linksC, chainC, termBy, exprBy, factorC, fitsIn, settled, expressionC, goesOn, quantityC}
 use Rattle.expression.proofs.ShrinkLaws.{mark-takes, factor-shrinks}
 use Rattle.grammar.proofs.Expressions.{ok-at}
 use Rattle.grammar.proofs.Quantities.{alone-at, quantity-is, exprs-complete, alone-expr}
@@ -92,14 +92,14 @@ unfoldable moreR : (Rest → Rest) → (Rest → Rest) → ℕ → Rest → Rest
 moreR op f zero r = r
 moreR op f (suc n) r = cond (op r .ok) (moreR op f n (f (op r))) r
 
-more-next : (op : Rest → Took Operator) (f : Rest → Took Amount) (n : ℕ) (t : Took Amount) → moreC op f n t .next ≡ moreR (λ r. op r .next) (λ r. f r .next) n (t .next)
-unfolding moreC moreR
+more-next : (op : Rest → Took Operator) (f : Rest → Took Amount) (n : ℕ) (t : Took Amount) → linksC op f n t .next ≡ moreR (λ r. op r .next) (λ r. f r .next) n (t .next)
+unfolding linksC moreR
 more-next op f zero t = refl
 more-next op f (suc n) t =
     go (op (t .next) .next .ok) (more-next op f n (record { value = apply (op (t .next) .value) (t .value) (f (op (t .next) .next) .value); next = f (op (t .next) .next) .next }))
   where
     on-it : Took Amount
-    on-it = moreC op f n (record { value = apply (op (t .next) .value) (t .value) (f (op (t .next) .next) .value); next = f (op (t .next) .next) .next })
+    on-it = linksC op f n (record { value = apply (op (t .next) .value) (t .value) (f (op (t .next) .next) .value); next = f (op (t .next) .next) .next })
 
     rests : Rest
     rests = moreR (λ r. op r .next) (λ r. f r .next) n (f (op (t .next) .next) .next)

@@ -26,7 +26,7 @@ use Rattle.statement.specs.Canonical.{textOf, given}
 pub record Exact (text : List ℕ) : Type 0 where
   -- A text reads as a statement, with the names of its registers, if and only if it spells it, its numbers are in range and it has at most 4,096 bytes.
   pub got : (w : Whole) → ((readOf text ≡ Got (w .statement)) × (registersOf text ≡ w .registers)) ↔ (Spells w text × (sized (w .statement) ≡ true) × (length text ≤ 4096))
-  -- Reason 4 is given if and only if it spells a statement with a number out of range, in at most 4,096 bytes.
+  -- Reason 4 is given if and only if it spells a statement with a number or an expression out of range, in at most 4,096 bytes.
   pub four : (reasonOf (readOf text) ≡ 4) ↔ ((w : Whole) × Spells w text × (sized (w .statement) ≡ false) × (length text ≤ 4096))
   -- Reason 3 is given if and only if it spells no statement in at most 4,096 bytes.
   pub three : (reasonOf (readOf text) ≡ 3) ↔ (length text ≤ 4096 → (w : Whole) → Spells w text → ⊥)
@@ -92,12 +92,14 @@ pub record Over (text : List ℕ) (place : ℕ) : Type 0 where
   -- It spells a statement,
   pub whole : Whole
   pub spelled : Spells whole text
+  pub inside : place < length text
   -- and in whatever spelling of it, at the place starts, past its spaces, the first number or expression that is out of range.
   pub starts : (w : Whole) (s : Spells w text) → (from : List ℕ) × (firstOver (partsOf s) ≡ some from) × (drop place text ≡ afterBlanks from)
 
--- There is one such place at most.
+-- There is one such place at most, of each of the two.
 pub record One (text : List ℕ) : Type 0 where
   pub place : (a b : ℕ) → Stops text a → Stops text b → a ≡ b
+  pub over : (a b : ℕ) → Over text a → Over text b → a ≡ b
 
 -- ---- the theorems
 pub record Theorems : Type 0 where

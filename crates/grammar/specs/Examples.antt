@@ -258,7 +258,7 @@ mmas =
     ("tcgen05.mma.ws.sp.cta_group::1.kind::f16 [d+1], [a+2], b, [m+3], i, p;", (multiplies true F16 (operand.Address (offsetBy "a" 2)) (Sparse (offsetBy "m" 3))), []) ∷
     []
 
--- The place of 3 is that of the first token at which no form can go on, of 4 that of the first number too large.
+-- The place of 3 is that of the first token at which no form can go on, of 4 that of the first number out of range.
 abbrev pub places : List (String × Reading)
 places =
     ("mov.b32 x y", NoForm 10) ∷

@@ -10,12 +10,13 @@ use Rattle.tokens.specs.Text.{byte}
 use Rattle.tokens.specs.declared.Name.{Name}
 use Rattle.tokens.specs.Bytes.{afterBlanks, tokenOf}
 use Rattle.tokens.specs.Names.{isName, packed}
+use Rattle.tokens.specs.Numbers.{isNumber, valueOf}
 use Rattle.statement.specs.declared.Operand.{Operand}
 use Rattle.statement.specs.declared.Operand.the-variants as operand
 use Rattle.statement.specs.Forms.{Slot, name, number, inBrackets, address, operand, names, Value, Values, row, Whole}
 use Rattle.statement.specs.Canonical.{opcodeOf, valuesOf}
 use Rattle.statement.specs.Positions.{operandPlace, namePlace, namesOf}
-use Rattle.grammar.specs.Spells.{QuantityText, OffsetText, bare, plus, OperandText, byName, byAddress, SlotText, MoreRow, RowText, Spells, sizedSlot}
+use Rattle.grammar.specs.Spells.{NumberText, QuantityText, OffsetText, bare, plus, OperandText, byName, byAddress, SlotText, MoreRow, RowText, Spells, sizedSlot}
 
 -- ---- the operands of a spelling
 -- one of them: its slot and value, and that `from` starts with its spelling
@@ -74,14 +75,18 @@ firstOver [] = none
 firstOver (p ∷ ps) = cond (sizedSlot (p .slot) (p .value)) (firstOver ps) (numberFrom (p .slot) (p .value) (p .from) (p .rest) (p .spelled))
 
 -- ---- what stands at a place
--- the token there is this name, this mark
+-- the token there is this name, this number
 abbrev pub NameAt : Name → List ℕ → Type 0
 NameAt n l = (isName (tokenOf l) ≡ true) × (packed (tokenOf l) ≡ n)
 
--- there starts, past its spaces, a number or an expression of this value
+abbrev pub NumberAt : ℕ → List ℕ → Type 0
+NumberAt v l = (isNumber (tokenOf l) ≡ true) × (valueOf (tokenOf l) ≡ v)
+
+-- there starts a number or an expression of this value
 abbrev pub QuantityAt : ℕ → ℕ → List ℕ → Type 0
 QuantityAt limit v here = (l : List ℕ) × (r : List ℕ) × QuantityText limit v l r × (afterBlanks l ≡ here)
 
+-- the token there is this mark
 abbrev pub MarkAt : ℕ → List ℕ → Type 0
 MarkAt m l = tokenOf l ≡ m ∷ []
 
@@ -107,8 +112,10 @@ pub record Placed (text : List ℕ) (i : ℕ) (p : Part) : Type 0 where
   -- at the place of its name the first byte of its name,
   pub nameInside : namePlace text i < length text
   pub named : drop (namePlace text i) text ≡ afterBlanks (nameIn (p .slot) (p .value) (p .from) (p .rest) (p .spelled))
-  -- and the tokens at both are what its slot and its value say.
+  -- and what stands at both is what its slot and its value say.
   pub shows : Shows (p .slot) (p .value) (drop (operandPlace text i) text) (drop (namePlace text i) text)
+  -- Where it is a number alone, the token there is that number.
+  pub numeral : (n : ℕ) → NumberText n (p .from) (p .rest) → NumberAt n (drop (operandPlace text i) text)
 
 -- of each of them, the first of which is operand i
 abbrev pub AllPlaced : List ℕ → ℕ → List Part → Type 0

@@ -1,5 +1,5 @@
 -- The grammar, declared: which texts spell a statement. `Xs v l r` says that l starts with a spelling of v, and that r is what follows it.
--- Numbers have any size here; `sized` says which are in range. Assumes nothing.
+-- A number alone has any size here, and an expression out of range or below 0 stands as its place's limit and 1; `sized` says which are in range. Assumes nothing.
 use Rattle.tokens.specs.Text.{byte}
 use Prim.Native.Nat.{ℕ, zero, suc, _≤_}
 use mathlib.Core.Path.{_≡_}
@@ -54,40 +54,42 @@ pub record NumberText (v : ℕ) (l r : List ℕ) : Type 0 where
 
 -- ---- expressions
 -- l starts with a spelling of this result, and r is what follows
-abbrev pub Text : Type 1
-Text = Result → List ℕ → List ℕ → Type 0
+abbrev pub ResultText : Type 1
+ResultText = Result → List ℕ → List ℕ → Type 0
 
-abbrev pub Sign : Type 1
-Sign = Operator → List ℕ → List ℕ → Type 0
+-- l starts with a spelling of this operator
+abbrev pub OperatorText : Type 1
+OperatorText = Operator → List ℕ → List ℕ → Type 0
 
-pub data SumSign : Operator → List ℕ → List ℕ → Type 0 where
-  added : {l r : List ℕ} → Mark (byte "+") l r → SumSign o.Plus l r
-  taken : {l r : List ℕ} → Mark (byte "-") l r → SumSign o.Minus l r
+pub data SumOperator : Operator → List ℕ → List ℕ → Type 0 where
+  added : {l r : List ℕ} → Mark (byte "+") l r → SumOperator o.Plus l r
+  taken : {l r : List ℕ} → Mark (byte "-") l r → SumOperator o.Minus l r
 
-pub data ProductSign : Operator → List ℕ → List ℕ → Type 0 where
-  times : {l r : List ℕ} → Mark (byte "*") l r → ProductSign o.Times l r
+pub data ProductOperator : Operator → List ℕ → List ℕ → Type 0 where
+  times : {l r : List ℕ} → Mark (byte "*") l r → ProductOperator o.Times l r
 
 -- no such operator follows
-abbrev pub Without : Sign → List ℕ → Type 0
+abbrev pub Without : OperatorText → List ℕ → Type 0
 Without S l = (x : Operator) (r : List ℕ) → S x l r → ⊥
 
 -- v, and each that follows behind an operator, joined from left to right, give u
-pub data More (S : Sign) (F : Text) : Result → Result → List ℕ → List ℕ → Type 0 where
+pub data More (S : OperatorText) (F : ResultText) : Result → Result → List ℕ → List ℕ → Type 0 where
   stops : {v : Result} {l : List ℕ} → Without S l → More S F v v l l
   next : {x : Operator} {v w u : Result} {l l₁ l₂ r : List ℕ} → S x l l₁ → F w l₁ l₂ → More S F (join x v w) u l₂ r → More S F v u l r
 
-pub record Chain (S : Sign) (F : Text) (u : Result) (l r : List ℕ) : Type 0 where
+-- a first one, and more
+pub record Chain (S : OperatorText) (F : ResultText) (u : Result) (l r : List ℕ) : Type 0 where
   pub v : Result
   pub l₁ : List ℕ
   pub head : F v l l₁
   pub tail : More S F v u l₁ r
 
 -- a term is factors joined by *, an expression terms joined by + and -
-abbrev pub TermOf : Text → Text
-TermOf F = Chain ProductSign F
+abbrev pub TermOf : ResultText → ResultText
+TermOf F = Chain ProductOperator F
 
-abbrev pub ExprOf : Text → Text
-ExprOf F = Chain SumSign (TermOf F)
+abbrev pub ExprOf : ResultText → ResultText
+ExprOf F = Chain SumOperator (TermOf F)
 
 -- a number in an expression
 pub record Plain (u : Result) (l r : List ℕ) : Type 0 where
@@ -96,31 +98,32 @@ pub record Plain (u : Result) (l r : List ℕ) : Type 0 where
   pub value : resultOf (pos number) ≡ u
 
 -- ( expression ), - factor, or a number; what is nested in the first two has one level less
-pub data Nested (E F : Text) : Result → List ℕ → List ℕ → Type 0 where
+pub data Nested (E F : ResultText) : Result → List ℕ → List ℕ → Type 0 where
   group : {u : Result} {l l₁ l₂ r : List ℕ} → Mark (byte "(") l l₁ → E u l₁ l₂ → Mark (byte ")") l₂ r → Nested E F u l r
   minus : {u : Result} {l l₁ r : List ℕ} → Mark (byte "-") l l₁ → F u l₁ r → Nested E F (opposite u) l r
   plain : {u : Result} {l r : List ℕ} → Plain u l r → Nested E F u l r
 
 -- a factor with so many levels left
-abbrev pub FactorText : ℕ → Text
+abbrev pub FactorText : ℕ → ResultText
 FactorText zero = Plain
 FactorText (suc d) = Nested (ExprOf (FactorText d)) (FactorText d)
 
-abbrev pub ExprText : Text
+-- an expression, of 16 levels at most
+abbrev pub ExprText : ResultText
 ExprText = ExprOf (FactorText 16)
 
 -- ---- where a number up to a limit stands
--- the number that an expression stands for; one out of range or below 0 is over every limit
-abbrev pub worthOf : ℕ → Result → ℕ
-worthOf limit (some (pos n)) = n
-worthOf limit (some (negsuc n)) = suc limit
-worthOf limit none = suc limit
+-- the number of an expression in a place of this limit; out of range or below 0 it is the limit and 1, which does not fit there
+abbrev pub numberFor : ℕ → Result → ℕ
+numberFor limit (some (pos n)) = n
+numberFor limit (some (negsuc n)) = suc limit
+numberFor limit none = suc limit
 
 pub data QuantityText (limit : ℕ) : ℕ → List ℕ → List ℕ → Type 0 where
   -- a number alone, of any size
-  alone : {v : ℕ} {l r : List ℕ} → NumberText v l r → Without SumSign r → Without ProductSign r → QuantityText limit v l r
+  alone : {v : ℕ} {l r : List ℕ} → NumberText v l r → Without SumOperator r → Without ProductOperator r → QuantityText limit v l r
   -- an expression that is more than a number
-  composed : {u : Result} {l r : List ℕ} → ExprText u l r → ((n : ℕ) → NumberText n l r → ⊥) → QuantityText limit (worthOf limit u) l r
+  composed : {u : Result} {l r : List ℕ} → ExprText u l r → ((n : ℕ) → NumberText n l r → ⊥) → QuantityText limit (numberFor limit u) l r
 
 -- ---- operands
 pub record BracketText (n : Name) (l r : List ℕ) : Type 0 where
@@ -185,7 +188,7 @@ pub record Spells (whole : Whole) (text : List ℕ) : Type 0 where
   pub operands : RowText (row opcode) values rest
   pub made : make opcode values ≡ whole
 
--- ---- each number is in range, as the slots of the row say
+-- ---- each number and expression is in range, as the slots of the row say
 abbrev pub sizedOperand : Operand → Bool
 sizedOperand (operand.Descriptor n) = true
 sizedOperand (operand.Address a) = leb (a .offset) maxOffset

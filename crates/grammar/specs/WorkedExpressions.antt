@@ -11,13 +11,14 @@ use Rattle.statement.specs.Reading.{readOf}
 use Rattle.grammar.specs.Examples.{named, canonical, reading}
 
 -- ---- what is moved
--- the reading of `mov.b64 x, ` and a text, and one that moves a number; 11 bytes stand before the text
+-- the reading of `mov.b64 x, `, which is 11 bytes, a text and `;`
 abbrev pub movedBytes : List ℕ → Reading
 movedBytes text = readOf (bytes "mov.b64 x, " ++ (text ++ bytes ";"))
 
 abbrev pub moved : String → Reading
 moved text = movedBytes (bytes text)
 
+-- it moves this number
 abbrev pub is : ℕ → Reading
 is v = Got (Mov64 (named "x") v)
 
@@ -25,6 +26,7 @@ is v = Got (Mov64 (named "x") v)
 abbrev pub noForm : ℕ → Reading
 noForm i = NoForm (11 + i)
 
+-- reason 4, which is at the text's first byte
 abbrev pub outOfRange : Reading
 outOfRange = TooLarge 11
 
@@ -87,7 +89,8 @@ broken =
     ("", noForm 0) ∷
     ("()", noForm 1) ∷
     ("(1", noForm 2) ∷
-    ("(1;", noForm 2) ∷
+    ("-1,", noForm 2) ∷
+    ("1-2 3", noForm 4) ∷
     ("1)", noForm 1) ∷
     ("1 2", noForm 2) ∷
     ("(1)(2)", noForm 3) ∷
@@ -112,6 +115,10 @@ ranges =
     ("(9223372036854775808)", outOfRange) ∷
     ("(9223372036854775807)", is 9223372036854775807) ∷
     ("9223372036854775808-1", outOfRange) ∷
+    ("1+9223372036854775808", outOfRange) ∷
+    ("9-9223372036854775808", outOfRange) ∷
+    ("9-(9223372036854775807+1)", outOfRange) ∷
+    ("9+0*99999999999999999999999", outOfRange) ∷
     ("9223372036854775806+1", is 9223372036854775807) ∷
     ("9223372036854775807+1", outOfRange) ∷
     ("9223372036854775807-1+1", is 9223372036854775807) ∷
@@ -151,20 +158,20 @@ products =
     []
 
 -- ---- levels
-abbrev pub times : ℕ → String → List ℕ
-times zero text = []
-times (suc n) text = bytes text ++ times n text
+abbrev pub repeated : ℕ → String → List ℕ
+repeated zero text = []
+repeated (suc n) text = bytes text ++ repeated n text
 
 -- n pairs of parentheses, n minuses, and n of both in turn, around 1; and n times (1) added
 abbrev pub levels : ℕ → List Reading
 levels n =
-    movedBytes (times n "(" ++ (bytes "1" ++ times n ")")) ∷
-    movedBytes (times n "-" ++ bytes "1") ∷
-    movedBytes (times n "-(" ++ (bytes "1" ++ times n ")")) ∷
-    movedBytes (times n "(1)+" ++ bytes "0") ∷
+    movedBytes (repeated n "(" ++ (bytes "1" ++ repeated n ")")) ∷
+    movedBytes (repeated n "-" ++ bytes "1") ∷
+    movedBytes (repeated n "-(" ++ (bytes "1" ++ repeated n ")")) ∷
+    movedBytes (repeated n "(1)+" ++ bytes "0") ∷
     []
 
--- 16 levels are taken, and the 17th fails where it opens: a parenthesis and a minus are a level each. Beside another, one starts anew.
+-- 16 levels are taken, and the 17th fails where it opens: a parenthesis and a minus are a level each. Each operand counts its levels anew.
 abbrev pub depths : List (ℕ × List Reading)
 depths =
     (7, is 1 ∷ outOfRange ∷ outOfRange ∷ is 7 ∷ []) ∷
@@ -194,6 +201,11 @@ abbrev pub inPlaces : List (String × Reading)
 inPlaces =
     ("mov.b32 x, 2 * (4294967296);", TooLarge 11) ∷
     ("mov.b32 x, 65535*65537+1;", TooLarge 11) ∷
+    ("mov.b32 x, (1", NoForm 13) ∷
+    ("mov.b32 x, (1 ", NoForm 14) ∷
+    ("mov.b32 x, 1+", NoForm 13) ∷
+    ("mov.b32 x, -", NoForm 12) ∷
+    ("mov.b32 x, 1-2", NoForm 14) ∷
     ("tcgen05.alloc.cta_group::1.sync.aligned.b32 [t], -32;", TooLarge 49) ∷
     ("tcgen05.dealloc.cta_group::1.sync.aligned.b32 t, 32-64;", TooLarge 49) ∷
     ("tcgen05.ld.sync.aligned.32x32b.x1.b32 {r}, [t+(65536)*65536];", TooLarge 46) ∷
@@ -201,7 +213,8 @@ inPlaces =
     ("tcgen05.ld.sync.aligned.32x32b.x1.b32 {r}, [t-4];", NoForm 45) ∷
     ("tcgen05.ld.sync.aligned.32x32b.x1.b32 {r}, [t++4];", NoForm 46) ∷
     ("tcgen05.ld.sync.aligned.32x32b.x1.b32 {r}, [t+(4];", NoForm 48) ∷
-    ("tcgen05.mma.sp.cta_group::1.kind::f16 [d+1-2], [a+1-2], b, [m+1], i, p;", TooLarge 41) ∷
+    ("tcgen05.mma.sp.cta_group::1.kind::f16 [d+1-2], [a+(1)], b, [m+1+1], i, p;", TooLarge 41) ∷
+    ("tcgen05.mma.sp.cta_group::1.kind::f16 [d+4294967296], [a+(1)], b, [m+1-2], i, p;", TooLarge 41) ∷
     ("tcgen05.mma.sp.cta_group::1.kind::f16 [d+2-1], [a+1-2], b, [m+1-2], i, p;", TooLarge 50) ∷
     ("tcgen05.mma.sp.cta_group::1.kind::f16 [d+2-1], [a+2-1], b, [m+1-2], i, p;", TooLarge 62) ∷
     []

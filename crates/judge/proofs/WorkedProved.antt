@@ -11,7 +11,7 @@ use Rattle.tokens.specs.Names.{sigil, isName, packed}
 use Rattle.tokens.specs.Numbers.{digitOf, spells, worth, isNumber, valueOf}
 use Rattle.tokens.specs.Cursors.{markC, endC, nameC, numberC}
 use Rattle.expression.specs.Amounts.{ranged, negated, times, plus}
-use Rattle.expression.specs.Expressions.{plainC, sumC, productC, moreC as chainedC, chainC, factorC, expressionC, goesOn, quantityC}
+use Rattle.expression.specs.Expressions.{plainC, sumC, productC, linksC, chainC, factorC, expressionC, goesOn, quantityC}
 use Rattle.lines.specs.Sheet as lines
 use Rattle.statement.specs.Cells as cells
 use Rattle.statement.specs.Forms.{word}
@@ -28,7 +28,7 @@ use Rattle.judge.specs.Worked.{sheetOf, upper, lower, wholes as wholeShe
 wholes : Gives (λ lines. judgedOf (sheetOf lines) 3) wholeSheets
 unfolding judgedOf startsAfter placesAfter linesOf byteColumns byteColumn lines.upto lines.textOf lines.endedOf lines.rest lines.after lines.countFrom lines.lineCount lines.headed lines.warpByte
     lines.warpOf lines.plain lines.laidOut lines.contentOf lines.oversize
-    reading.readOf reading.wholeC reading.answerOf reading.operandsC reading.rowC reading.moreRowC nameC numberC quantityC expressionC goesOn factorC chainC chainedC sumC productC plainC ranged negated times plus reading.inBracketsC reading.offsetC
+    reading.readOf reading.wholeC reading.answerOf reading.operandsC reading.rowC reading.moreRowC nameC numberC quantityC expressionC goesOn factorC chainC linksC sumC productC plainC ranged negated times plus reading.inBracketsC reading.offsetC
     reading.insideC reading.addressC reading.operandC reading.moreC reading.namesC endC markC recognise opcodes word opcodeByte wordByte letter afterBlanks blank
     tokenOf tokenLen afterToken isName sigil packed isNumber valueOf spells worth digitOf afterComma afterCommas operandFrom nameFrom
     operandPlace namePlace every least s.isLive s.columnsOf s.without s.total s.covers s.isFree s.freeFrom s.slot s.lowest s.isBound s.widthOf s.numberOf s.bind s.isBy s.isBusy s.afterWait s.afterRelease
@@ -41,7 +41,7 @@ wholes = refl
 starts : startsAfter (sheetOf (upper ++ ("1\ttcgen05.wait::ld.sync.aligned;" ∷ lower))) (9 ∷ 9 ∷ 9 ∷ 9 ∷ []) ≡ 0 ∷ 64 ∷ 0 ∷ 9 ∷ []
 unfolding judgedOf startsAfter placesAfter linesOf byteColumns byteColumn lines.upto lines.textOf lines.endedOf lines.rest lines.after lines.countFrom lines.lineCount lines.headed lines.warpByte
     lines.warpOf lines.plain lines.laidOut lines.contentOf lines.oversize
-    reading.readOf reading.wholeC reading.answerOf reading.operandsC reading.rowC reading.moreRowC nameC numberC quantityC expressionC goesOn factorC chainC chainedC sumC productC plainC ranged negated times plus reading.inBracketsC reading.offsetC
+    reading.readOf reading.wholeC reading.answerOf reading.operandsC reading.rowC reading.moreRowC nameC numberC quantityC expressionC goesOn factorC chainC linksC sumC productC plainC ranged negated times plus reading.inBracketsC reading.offsetC
     reading.insideC reading.addressC reading.operandC reading.moreC reading.namesC endC markC recognise opcodes word opcodeByte wordByte letter afterBlanks blank
     tokenOf tokenLen afterToken isName sigil packed isNumber valueOf spells worth digitOf afterComma afterCommas operandFrom nameFrom
     operandPlace namePlace every least s.isLive s.columnsOf s.without s.total s.covers s.isFree s.freeFrom s.slot s.lowest s.isBound s.widthOf s.numberOf s.bind s.isBy s.isBusy s.afterWait s.afterRelease
@@ -54,7 +54,7 @@ starts = refl
 pub worked : Worked
 unfolding judgedOf linesOf byteColumns byteColumn lines.upto lines.textOf lines.endedOf lines.rest lines.after lines.countFrom lines.lineCount lines.headed lines.warpByte
     lines.warpOf lines.plain lines.laidOut lines.contentOf lines.oversize
-    reading.readOf reading.wholeC reading.answerOf reading.operandsC reading.rowC reading.moreRowC nameC numberC quantityC expressionC goesOn factorC chainC chainedC sumC productC plainC ranged negated times plus reading.inBracketsC reading.offsetC
+    reading.readOf reading.wholeC reading.answerOf reading.operandsC reading.rowC reading.moreRowC nameC numberC quantityC expressionC goesOn factorC chainC linksC sumC productC plainC ranged negated times plus reading.inBracketsC reading.offsetC
     reading.insideC reading.addressC reading.operandC reading.moreC reading.namesC endC markC recognise opcodes word opcodeByte wordByte letter afterBlanks blank
     tokenOf tokenLen afterToken isName sigil packed isNumber valueOf spells worth digitOf afterComma afterCommas operandFrom nameFrom
     operandPlace namePlace every least s.isLive s.columnsOf s.without s.total s.covers s.isFree s.freeFrom s.slot s.lowest s.isBound s.widthOf s.numberOf s.bind s.isBy s.isBusy s.afterWait s.afterRelease

@@ -128,7 +128,7 @@ layouts =
     (exit ∷ "0\texit;\t" ∷ [], (2, 3, 1)) ∷
     []
 
--- 3 is at the token at which no form can go on, 4 at the first number too large; a statement starts in column 3.
+-- 3 is at the token at which no form can go on, 4 at the first number out of range; a statement starts in column 3.
 abbrev pub stops : List (List String × (ℕ × ℕ × ℕ))
 stops =
     ("0\t" ∷ [], (3, 2, 3)) ∷
@@ -203,6 +203,7 @@ mmas =
 abbrev pub sums : List (List String × (ℕ × ℕ × ℕ))
 sums =
     ("0\tmov.b32 x, +1;" ∷ [], (3, 2, 14)) ∷
+    ("0\tmov.b32 x, (1" ∷ [], (3, 2, 16)) ∷
     ("0\tmov.b32 x, (((((((((((((((((1)))))))))))))))));" ∷ [], (3, 2, 30)) ∷
     ("0\tmov.b32 x, 4294967296*4294967296*4294967296+;" ∷ [], (3, 2, 47)) ∷
     ("0\tmov.b32 x, 2*-3;" ∷ [], (4, 2, 14)) ∷

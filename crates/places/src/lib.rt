@@ -107,7 +107,7 @@ pub fn name(s: &[u8], index: usize) -> usize
     lexer::cursor::place(s, part_at(s, index, true))
 }
 
-// The place of the token that no form has there, or of the number that is too large; 0 for a text that reads.
+// The place of the token that no form has there, or of the number that is out of range; 0 for a text that reads.
 fn stop_of(t: Reading) -> usize
     ensures { λ r. ⌜ r ≡ stopIn t ⌝ }
 {

@@ -57,7 +57,7 @@ pairC b limit r = cond b (rowC (inBrackets ∷ number limit ∷ []) r) (rowC (na
 abbrev pub pairSeen : List ℕ → (limit : ℕ) → Pair → Took (Values (name ∷ number limit ∷ []))
 pairSeen s limit p = record { value = (p .name, (p .number, tt)); next = seen s (p .next) }
 
--- + and a number alone, or nothing, which is 0
+-- + and a number, whatever follows it, or nothing, which is 0
 unfoldable pub plainOffsetC : Rest → Took ℕ
 plainOffsetC r = let d = markC (byte "+") r in cond (d .ok) (numberC maxOffset d) (record { value = 0; next = r })
 

@@ -20,7 +20,7 @@ ghost use Rattle.reader.specs.Rows.{namedC, plainOffsetC};
 // The most names that a list has.
 const MOST: usize = statement::NAMES;
 
-// A number of 32 bits.
+// A number or an expression of 32 bits.
 pub fn number32(s: &[u8], k: Cursor) -> OffsetRead
     ensures { λ r. ⌜ offsetSeen (now (s .entry)) r ≡ quantityC max32 (seen (now (s .entry)) k) ⌝ }
 {
@@ -79,7 +79,7 @@ pub fn offset(s: &[u8], k: Cursor) -> OffsetRead
     OffsetRead { value: 0, next: k }
 }
 
-// + and a number alone, or nothing, which is 0.
+// + and a number, whatever follows it, or nothing, which is 0.
 fn plain_offset(s: &[u8], k: Cursor) -> OffsetRead
     ensures { λ r. ⌜ offsetSeen (now (s .entry)) r ≡ plainOffsetC (seen (now (s .entry)) k) ⌝ }
 {

@@ -8,7 +8,7 @@ pub const SIZE: u32 = 1;
 pub const LAYOUT: u32 = 2;
 // no form matches
 pub const FORM: u32 = 3;
-// a number is too large
+// a number is out of range
 pub const NUMBER: u32 = 4;
 // N is over the shape's largest, or the count of registers differs
 pub const REGISTERS: u32 = 5;

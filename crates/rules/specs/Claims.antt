@@ -89,7 +89,7 @@ pointing =
     (2, atStart)
     ∷ (15, atStart)
     ∷ (16, atStart)
-    -- the token at which no form can go on; the number that is too large
+    -- the token at which no form can go on; the number that is out of range
     ∷ (3, atToken)
     ∷ (4, atToken)
     -- the number

@@ -10,7 +10,7 @@ use Rattle.statement.specs.declared.Position.{Position}
 use Rattle.statement.specs.declared.Position.the-variants as position
 
 -- ---- what a column points at
--- the line's first byte, where its warp stands; the token that no form has there, or the number that is too large; the opcode; the name of an operand; an operand's first byte, be it
+-- the line's first byte, where its warp stands; the token that no form has there, or the number that is out of range; the opcode; the name of an operand; an operand's first byte, be it
 -- a number's or the bracket of an address
 pub data Sort : Type 0 where
   atStart : Sort

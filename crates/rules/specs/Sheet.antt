@@ -22,7 +22,7 @@ use Rattle.rules.specs.Rows.{atStart, atToken, whole, broken, Row, row, 
 use Rattle.rules.specs.Reasons.{rows}
 
 -- ---- lines
--- a line after line 1: its layout is wrong; no form matches; a number is too large; or a statement, with its warp
+-- a line after line 1: its layout is wrong; no form matches; a number is out of range; or a statement, with its warp
 pub data Line : Type 0 where
   badLayout : Line
   noForm : Line

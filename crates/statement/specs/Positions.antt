@@ -101,7 +101,7 @@ abbrev pub namesOf : Statement → List (Option Name)
 namesOf t = rowNames (row (opcodeOf t)) (valuesOf t [])
 
 -- ---- columns
--- the place of the token that no form has there, or of the number that is too large; 0 for a text that reads
+-- the place of the token that no form has there, or of the number that is out of range; 0 for a text that reads
 abbrev pub stopIn : Reading → ℕ
 stopIn (Got t) = 0
 stopIn (NoForm at) = at

@@ -35,7 +35,7 @@ inBracketsC r = let n = nameC (markC (byte "[") r) in record { value = n .value;
 unfoldable pub offsetC : Rest → Took ℕ
 offsetC r = let d = markC (byte "+") r in cond (d .ok) (quantityC maxOffset d) (record { value = 0; next = r })
 
--- name ] or name + number ]
+-- name ] or name + and a number or an expression ]
 unfoldable pub insideC : Rest → Took Address
 insideC r =
     let n = nameC r in

@@ -113,14 +113,14 @@ pub enum Found {
     Nothing,
 }
 
-// A statement; or the position of the token at which no form can go on, or that of a number that is too large.
+// A statement; or the position of the token at which no form can go on, or that of a number that is out of range.
 pub enum Reading {
     Got(Statement),
     NoForm(usize),
     TooLarge(usize),
 }
 
-// What a column points at: the line's first byte, where its warp stands; the token that no form has there, or the number that is too large; the opcode; the name of an
+// What a column points at: the line's first byte, where its warp stands; the token that no form has there, or the number that is out of range; the opcode; the name of an
 // operand, inside its bracket where it has one; an operand's first byte. Operands are counted from 0.
 pub enum Position {
     Start,

@@ -8,7 +8,7 @@ use Prim.Native.Nat.{_+_, _*_}
 use lib.ListN.{length, drop}
 use Rattle.tokens.specs.Cursors.{Took}
 use Rattle.expression.specs.declared.Amount.{Amount}
-use Rattle.expression.specs.Expressions.{sumC, productC, moreC, chainC, termBy, factorC, reached, amountSeen}
+use Rattle.expression.specs.Expressions.{sumC, productC, linksC, chainC, termBy, factorC, reached, amountSeen}
 use Rattle.expression.proofs.ShrinkLaws.{sum-takes, product-takes, term-shrinks, factor-shrinks}
 use Rattle.expression.proofs.Laws.{more-done, more-less, more-took, level-none, group, minus, number}
 use Prim.Native.Nat.{ℕ, _<_}
@@ -27,8 +27,8 @@ use Rattle.expression.proofs.exact.joined.Reads as joined-reads
 use Rattle.expression.proofs.exact.negate.Reads as negate-reads
 use Rattle.expression.proofs.mark.Reads as mark-reads
 use Rattle.expression.proofs.plain.Reads as plain-reads
-use Rattle.expression.proofs.product_sign.Reads as product-sign-reads
-use Rattle.expression.proofs.sum_sign.Reads as sum-sign-reads
+use Rattle.expression.proofs.product_operator.Reads as product-operator-reads
+use Rattle.expression.proofs.sum_operator.Reads as sum-operator-reads
 use Rattle.expression.proofs.+expr+factor+term.{statement}
 use Rattle.expression.proofs.+expr+factor+term.Tie.{close}
 
@@ -60,7 +60,7 @@ abbrev term-below : ℕ → In 1 term-kinds.ps
 term-below t = and 1 term-kinds.ps (falls 1 term-kinds.ps _<_ μ-term t) term.Pre
 
 abbrev expr-Inv-loop : expr-lts.InvT-loop
-expr-Inv-loop s at ok depth t₀ t = moreC sumC (termBy (factorC depth)) (length (drop (t .at) s)) (amountSeen s t) ≡ moreC sumC (termBy (factorC depth)) (length (drop (t₀ .at) s)) (amountSeen s t₀)
+expr-Inv-loop s at ok depth t₀ t = linksC sumC (termBy (factorC depth)) (length (drop (t .at) s)) (amountSeen s t) ≡ linksC sumC (termBy (factorC depth)) (length (drop (t₀ .at) s)) (amountSeen s t₀)
 
 abbrev expr-μ-loop : expr-lts.MeasureT-loop
 expr-μ-loop s at ok depth t₀ t = length (drop (t .at) s)
@@ -68,8 +68,8 @@ expr-μ-loop s at ok depth t₀ t = length (drop (t .at) s)
 expr-term-requires : (t : ℕ) → expr-lts.Need-term-requires (
   term-below t,
   term.Post,
-  sum-sign-reads.Asked,
-  sum-sign-reads.Learnt,
+  sum-operator-reads.Asked,
+  sum-operator-reads.Learnt,
   joined-reads.Asked,
   joined-reads.Learnt,
 ) (expr-at t) expr.Post expr-Inv-loop expr-μ-loop
@@ -78,43 +78,43 @@ expr-term-requires t c κs = (omega (arith, c .before .pre .0), tt)
 expr-loop-holds : (t : ℕ) → expr-lts.Need-loop-holds (
   term-below t,
   term.Post,
-  sum-sign-reads.Asked,
-  sum-sign-reads.Learnt,
+  sum-operator-reads.Asked,
+  sum-operator-reads.Learnt,
   joined-reads.Asked,
   joined-reads.Learnt,
 ) (expr-at t) expr.Post expr-Inv-loop expr-μ-loop
 expr-loop-holds t c = refl
 
-expr-sum-sign-requires : (t : ℕ) → expr-lts.Need-sum-sign-requires (
+expr-sum-operator-requires : (t : ℕ) → expr-lts.Need-sum-operator-requires (
   term-below t,
   term.Post,
-  sum-sign-reads.Asked,
-  sum-sign-reads.Learnt,
+  sum-operator-reads.Asked,
+  sum-operator-reads.Learnt,
   joined-reads.Asked,
   joined-reads.Learnt,
 ) (expr-at t) expr.Post expr-Inv-loop expr-μ-loop
-expr-sum-sign-requires t c κs = search needs
+expr-sum-operator-requires t c κs = search needs
 
 expr-returns : (t : ℕ) → expr-lts.Need-returns (
   term-below t,
   term.Post,
-  sum-sign-reads.Asked,
-  sum-sign-reads.Learnt,
+  sum-operator-reads.Asked,
+  sum-operator-reads.Learnt,
   joined-reads.Asked,
   joined-reads.Learnt,
 ) (expr-at t) expr.Post expr-Inv-loop expr-μ-loop
 unfolding chainC
 expr-returns t c = let a = c .before .before .before .before .before .before .args in
     let l = c .before .before .before .loop .t in
-    sym (more-done sumC (termBy (factorC (a .depth))) (l .value) (reached (a .s .now) (l .at) (l .ok)) (length (drop (l .at) (a .s .now))) _ (c .before .before .sum-sign .ensures) (not-true _ (c .if1 .taken)))
+    sym (more-done sumC (termBy (factorC (a .depth))) (l .value) (reached (a .s .now) (l .at) (l .ok)) (length (drop (l .at) (a .s .now))) _ (c .before .before .sum-operator .ensures) (not-true _ (c .if1 .taken)))
     ∙ c .before .before .before .loop .inv
-    ∙ ap (λ (t : Took Amount). moreC sumC (termBy (factorC (a .depth))) (length (t .next .rest)) t) (c .before .before .before .before .term .ensures)
+    ∙ ap (λ (t : Took Amount). linksC sumC (termBy (factorC (a .depth))) (length (t .next .rest)) t) (c .before .before .before .before .term .ensures)
 
 expr-term-requires-2 : (t : ℕ) → expr-lts.Need-term-requires-2 (
   term-below t,
   term.Post,
-  sum-sign-reads.Asked,
-  sum-sign-reads.Learnt,
+  sum-operator-reads.Asked,
+  sum-operator-reads.Learnt,
   joined-reads.Asked,
   joined-reads.Learnt,
 ) (expr-at t) expr.Post expr-Inv-loop expr-μ-loop
@@ -123,8 +123,8 @@ expr-term-requires-2 t c κs = (omega (arith, c .before .before .before .before 
 expr-joined-requires : (t : ℕ) → expr-lts.Need-joined-requires (
   term-below t,
   term.Post,
-  sum-sign-reads.Asked,
-  sum-sign-reads.Learnt,
+  sum-operator-reads.Asked,
+  sum-operator-reads.Learnt,
   joined-reads.Asked,
   joined-reads.Learnt,
 ) (expr-at t) expr.Post expr-Inv-loop expr-μ-loop
@@ -133,26 +133,26 @@ expr-joined-requires t c κs = search needs
 expr-loop-less : (t : ℕ) → expr-lts.Need-loop-less (
   term-below t,
   term.Post,
-  sum-sign-reads.Asked,
-  sum-sign-reads.Learnt,
+  sum-operator-reads.Asked,
+  sum-operator-reads.Learnt,
   joined-reads.Asked,
   joined-reads.Learnt,
 ) (expr-at t) expr.Post expr-Inv-loop expr-μ-loop
 expr-loop-less t c = let a = c .before .before .before .before .before .before .before .before .before .before .args in
     let l = c .before .before .before .before .before .before .before .loop .t in
-    more-less sumC (termBy (factorC (a .depth))) (l .value) (reached (a .s .now) (l .at) (l .ok)) sum-takes (term-shrinks _ (factor-shrinks (a .depth))) _ _ (c .before .before .before .before .before .before .sum-sign .ensures) (not-false _ (c .before .before .before .before .if1 .left)) (c .before .before .before .term2 .ensures)
+    more-less sumC (termBy (factorC (a .depth))) (l .value) (reached (a .s .now) (l .at) (l .ok)) sum-takes (term-shrinks _ (factor-shrinks (a .depth))) _ _ (c .before .before .before .before .before .before .sum-operator .ensures) (not-false _ (c .before .before .before .before .if1 .left)) (c .before .before .before .term2 .ensures)
 
 expr-loop-again : (t : ℕ) → expr-lts.Need-loop-again (
   term-below t,
   term.Post,
-  sum-sign-reads.Asked,
-  sum-sign-reads.Learnt,
+  sum-operator-reads.Asked,
+  sum-operator-reads.Learnt,
   joined-reads.Asked,
   joined-reads.Learnt,
 ) (expr-at t) expr.Post expr-Inv-loop expr-μ-loop
 expr-loop-again t c = let a = c .before .before .before .before .before .before .before .before .before .before .args in
     let l = c .before .before .before .before .before .before .before .loop .t in
-    more-took sumC (termBy (factorC (a .depth))) (l .value) (reached (a .s .now) (l .at) (l .ok)) sum-takes (term-shrinks _ (factor-shrinks (a .depth))) _ _ (c .before .before .before .before .before .before .sum-sign .ensures) (not-false _ (c .before .before .before .before .if1 .left)) (c .before .before .before .term2 .ensures) _ (c .joined .ensures)
+    more-took sumC (termBy (factorC (a .depth))) (l .value) (reached (a .s .now) (l .at) (l .ok)) sum-takes (term-shrinks _ (factor-shrinks (a .depth))) _ _ (c .before .before .before .before .before .before .sum-operator .ensures) (not-false _ (c .before .before .before .before .if1 .left)) (c .before .before .before .term2 .ensures) _ (c .joined .ensures)
     ∙ c .before .before .before .before .before .before .before .loop .inv
 
 factor-plain-requires : (t : ℕ) → factor-lts.Need-plain-requires (
@@ -352,7 +352,7 @@ factor-returns-4 : (t : ℕ) → factor-lts.Need-returns-4 (
 factor-returns-4 t c = c .plain2 .ensures ∙ number _ _ _ (c .before .before .before .before .mark .ensures) (c .before .before .before .if2 .left) (c .before .before .mark3 .ensures) _ (c .before .if3 .left)
 
 abbrev term-Inv-loop : term-lts.InvT-loop
-term-Inv-loop s at ok depth t₀ t = moreC productC (factorC depth) (length (drop (t .at) s)) (amountSeen s t) ≡ moreC productC (factorC depth) (length (drop (t₀ .at) s)) (amountSeen s t₀)
+term-Inv-loop s at ok depth t₀ t = linksC productC (factorC depth) (length (drop (t .at) s)) (amountSeen s t) ≡ linksC productC (factorC depth) (length (drop (t₀ .at) s)) (amountSeen s t₀)
 
 abbrev term-μ-loop : term-lts.MeasureT-loop
 term-μ-loop s at ok depth t₀ t = length (drop (t .at) s)
@@ -360,8 +360,8 @@ term-μ-loop s at ok depth t₀ t = length (drop (t .at) s)
 term-factor-requires : (t : ℕ) → term-lts.Need-factor-requires (
   factor-below t,
   factor.Post,
-  product-sign-reads.Asked,
-  product-sign-reads.Learnt,
+  product-operator-reads.Asked,
+  product-operator-reads.Learnt,
   joined-reads.Asked,
   joined-reads.Learnt,
 ) (term-at t) term.Post term-Inv-loop term-μ-loop
@@ -370,43 +370,43 @@ term-factor-requires t c κs = (omega (arith, c .before .pre .0), tt)
 term-loop-holds : (t : ℕ) → term-lts.Need-loop-holds (
   factor-below t,
   factor.Post,
-  product-sign-reads.Asked,
-  product-sign-reads.Learnt,
+  product-operator-reads.Asked,
+  product-operator-reads.Learnt,
   joined-reads.Asked,
   joined-reads.Learnt,
 ) (term-at t) term.Post term-Inv-loop term-μ-loop
 term-loop-holds t c = refl
 
-term-product-sign-requires : (t : ℕ) → term-lts.Need-product-sign-requires (
+term-product-operator-requires : (t : ℕ) → term-lts.Need-product-operator-requires (
   factor-below t,
   factor.Post,
-  product-sign-reads.Asked,
-  product-sign-reads.Learnt,
+  product-operator-reads.Asked,
+  product-operator-reads.Learnt,
   joined-reads.Asked,
   joined-reads.Learnt,
 ) (term-at t) term.Post term-Inv-loop term-μ-loop
-term-product-sign-requires t c κs = search needs
+term-product-operator-requires t c κs = search needs
 
 term-returns : (t : ℕ) → term-lts.Need-returns (
   factor-below t,
   factor.Post,
-  product-sign-reads.Asked,
-  product-sign-reads.Learnt,
+  product-operator-reads.Asked,
+  product-operator-reads.Learnt,
   joined-reads.Asked,
   joined-reads.Learnt,
 ) (term-at t) term.Post term-Inv-loop term-μ-loop
 unfolding chainC
 term-returns t c = let a = c .before .before .before .before .before .before .args in
     let l = c .before .before .before .loop .t in
-    sym (more-done productC (factorC (a .depth)) (l .value) (reached (a .s .now) (l .at) (l .ok)) (length (drop (l .at) (a .s .now))) _ (c .before .before .product-sign .ensures) (not-true _ (c .if1 .taken)))
+    sym (more-done productC (factorC (a .depth)) (l .value) (reached (a .s .now) (l .at) (l .ok)) (length (drop (l .at) (a .s .now))) _ (c .before .before .product-operator .ensures) (not-true _ (c .if1 .taken)))
     ∙ c .before .before .before .loop .inv
-    ∙ ap (λ (t : Took Amount). moreC productC (factorC (a .depth)) (length (t .next .rest)) t) (c .before .before .before .before .factor .ensures)
+    ∙ ap (λ (t : Took Amount). linksC productC (factorC (a .depth)) (length (t .next .rest)) t) (c .before .before .before .before .factor .ensures)
 
 term-factor-requires-2 : (t : ℕ) → term-lts.Need-factor-requires-2 (
   factor-below t,
   factor.Post,
-  product-sign-reads.Asked,
-  product-sign-reads.Learnt,
+  product-operator-reads.Asked,
+  product-operator-reads.Learnt,
   joined-reads.Asked,
   joined-reads.Learnt,
 ) (term-at t) term.Post term-Inv-loop term-μ-loop
@@ -415,8 +415,8 @@ term-factor-requires-2 t c κs = (omega (arith, c .before .before .before .befor
 term-joined-requires : (t : ℕ) → term-lts.Need-joined-requires (
   factor-below t,
   factor.Post,
-  product-sign-reads.Asked,
-  product-sign-reads.Learnt,
+  product-operator-reads.Asked,
+  product-operator-reads.Learnt,
   joined-reads.Asked,
   joined-reads.Learnt,
 ) (term-at t) term.Post term-Inv-loop term-μ-loop
@@ -425,34 +425,34 @@ term-joined-requires t c κs = search needs
 term-loop-less : (t : ℕ) → term-lts.Need-loop-less (
   factor-below t,
   factor.Post,
-  product-sign-reads.Asked,
-  product-sign-reads.Learnt,
+  product-operator-reads.Asked,
+  product-operator-reads.Learnt,
   joined-reads.Asked,
   joined-reads.Learnt,
 ) (term-at t) term.Post term-Inv-loop term-μ-loop
 term-loop-less t c = let a = c .before .before .before .before .before .before .before .before .before .before .args in
     let l = c .before .before .before .before .before .before .before .loop .t in
-    more-less productC (factorC (a .depth)) (l .value) (reached (a .s .now) (l .at) (l .ok)) product-takes (factor-shrinks (a .depth)) _ _ (c .before .before .before .before .before .before .product-sign .ensures) (not-false _ (c .before .before .before .before .if1 .left)) (c .before .before .before .factor2 .ensures)
+    more-less productC (factorC (a .depth)) (l .value) (reached (a .s .now) (l .at) (l .ok)) product-takes (factor-shrinks (a .depth)) _ _ (c .before .before .before .before .before .before .product-operator .ensures) (not-false _ (c .before .before .before .before .if1 .left)) (c .before .before .before .factor2 .ensures)
 
 term-loop-again : (t : ℕ) → term-lts.Need-loop-again (
   factor-below t,
   factor.Post,
-  product-sign-reads.Asked,
-  product-sign-reads.Learnt,
+  product-operator-reads.Asked,
+  product-operator-reads.Learnt,
   joined-reads.Asked,
   joined-reads.Learnt,
 ) (term-at t) term.Post term-Inv-loop term-μ-loop
 term-loop-again t c = let a = c .before .before .before .before .before .before .before .before .before .before .args in
     let l = c .before .before .before .before .before .before .before .loop .t in
-    more-took productC (factorC (a .depth)) (l .value) (reached (a .s .now) (l .at) (l .ok)) product-takes (factor-shrinks (a .depth)) _ _ (c .before .before .before .before .before .before .product-sign .ensures) (not-false _ (c .before .before .before .before .if1 .left)) (c .before .before .before .factor2 .ensures) _ (c .joined .ensures)
+    more-took productC (factorC (a .depth)) (l .value) (reached (a .s .now) (l .at) (l .ok)) product-takes (factor-shrinks (a .depth)) _ _ (c .before .before .before .before .before .before .product-operator .ensures) (not-false _ (c .before .before .before .before .if1 .left)) (c .before .before .before .factor2 .ensures) _ (c .joined .ensures)
     ∙ c .before .before .before .before .before .before .before .loop .inv
 
 pub +expr+factor+term-spec : {M : Type 1} → statement M
 +expr+factor+term-spec = close μ-expr μ-factor μ-term (λ t. expr-lts.spec (
   term-below t,
   term.Post,
-  sum-sign-reads.Asked,
-  sum-sign-reads.Learnt,
+  sum-operator-reads.Asked,
+  sum-operator-reads.Learnt,
   joined-reads.Asked,
   joined-reads.Learnt,
 )
@@ -462,7 +462,7 @@ pub +expr+factor+term-spec : {M : Type 1} → statement M
     expr-μ-loop
     (expr-term-requires t)
     (expr-loop-holds t)
-    (expr-sum-sign-requires t)
+    (expr-sum-operator-requires t)
     (expr-returns t)
     (expr-term-requires-2 t)
     (expr-joined-requires t)
@@ -499,8 +499,8 @@ pub +expr+factor+term-spec : {M : Type 1} → statement M
     λ t. term-lts.spec (
       factor-below t,
       factor.Post,
-      product-sign-reads.Asked,
-      product-sign-reads.Learnt,
+      product-operator-reads.Asked,
+      product-operator-reads.Learnt,
       joined-reads.Asked,
       joined-reads.Learnt,
     )
@@ -510,7 +510,7 @@ pub +expr+factor+term-spec : {M : Type 1} → statement M
     term-μ-loop
     (term-factor-requires t)
     (term-loop-holds t)
-    (term-product-sign-requires t)
+    (term-product-operator-requires t)
     (term-returns t)
     (term-factor-requires-2 t)
     (term-joined-requires t)
