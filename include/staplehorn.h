@@ -222,7 +222,7 @@ uint32_t staplehorn_fragment_holder(uint32_t matrix, uint32_t row, uint32_t colu
                                     uint32_t holder[STAPLEHORN_HOLDER_FIELDS]);
 
 /* Statements. A number in one is decimal, hexadecimal (0x40), octal (0100: a leading zero) or binary (0b1000000), and one U may
-   stand behind it; or it is an expression of such, with +, -, *, a minus before it and parentheses, nested to 16:
+   stand behind it; or it is an expression of such, with +, - and *, unary minus and parentheses, nested to 16:
    (32*65536)+4. docs/FORMAT.md has each spelling and the rule. */
 
 /* The reason of a statement's text by itself: 3 no form matches, 4 a number is too large, or a result or a partial result of an

@@ -1,5 +1,5 @@
-//! Numbers as a sheet spells them. The library reads them, so that there is one reader: of a mov that has the number it writes the
-//! canonical text, and that has its decimals.
+//! Numbers as a sheet spells them. The library reads them: of a mov that has the number it writes the canonical text, and that has its
+//! decimals. `expression` only says why one is refused.
 
 use crate::expression::{self, Out};
 use staplehorn::{canonical, Reason};

@@ -1,5 +1,5 @@
 -- The grammar, declared: which texts spell a statement. `Xs v l r` says that l starts with a spelling of v, and that r is what follows it.
--- A number alone has any size here, and an expression out of range or below 0 stands as its place's limit and 1; `sized` says which are in range. Assumes nothing.
+-- A number alone has any size here, and an expression out of range or below 0 stands as its place's limit plus 1; `sized` says which are in range. Assumes nothing.
 use Rattle.tokens.specs.Text.{byte}
 use Prim.Native.Nat.{ℕ, zero, suc, _≤_}
 use mathlib.Core.Path.{_≡_}
@@ -61,10 +61,12 @@ ResultText = Result → List ℕ → List ℕ → Type 0
 abbrev pub OperatorText : Type 1
 OperatorText = Operator → List ℕ → List ℕ → Type 0
 
+-- + or -
 pub data SumOperator : Operator → List ℕ → List ℕ → Type 0 where
   added : {l r : List ℕ} → Mark (byte "+") l r → SumOperator o.Plus l r
   taken : {l r : List ℕ} → Mark (byte "-") l r → SumOperator o.Minus l r
 
+-- *
 pub data ProductOperator : Operator → List ℕ → List ℕ → Type 0 where
   times : {l r : List ℕ} → Mark (byte "*") l r → ProductOperator o.Times l r
 
@@ -113,12 +115,13 @@ abbrev pub ExprText : ResultText
 ExprText = ExprOf (FactorText 16)
 
 -- ---- where a number up to a limit stands
--- the number of an expression in a place of this limit; out of range or below 0 it is the limit and 1, which does not fit there
+-- the number of an expression in a place of this limit; out of range or below 0 it is the limit plus 1, which does not fit there
 abbrev pub numberFor : ℕ → Result → ℕ
 numberFor limit (some (pos n)) = n
 numberFor limit (some (negsuc n)) = suc limit
 numberFor limit none = suc limit
 
+-- a number alone, or an expression, where a number up to this limit may stand
 pub data QuantityText (limit : ℕ) : ℕ → List ℕ → List ℕ → Type 0 where
   -- a number alone, of any size
   alone : {v : ℕ} {l r : List ℕ} → NumberText v l r → Without SumOperator r → Without ProductOperator r → QuantityText limit v l r

@@ -221,6 +221,8 @@ inPlaces =
 
 abbrev pub rewritten : List (String × List ℕ)
 rewritten =
+    ("mov.b32 x, 4294967296-1;", bytes "mov.b32 x, 4294967295;") ∷
+    ("tcgen05.st.sync.aligned.32x32b.x1.b32 [t+4294967296-4294967295], {r};", bytes "tcgen05.st.sync.aligned.32x32b.x1.b32 [t+1], {r};") ∷
     ("mov.b32 x, 65535*65537;", bytes "mov.b32 x, 4294967295;") ∷
     ("tcgen05.alloc.cta_group::1.sync.aligned.b32 [t], 2*(16+16);", bytes "tcgen05.alloc.cta_group::1.sync.aligned.b32 [t], 64;") ∷
     ("tcgen05.dealloc.cta_group::1.sync.aligned.b32 t, 128-64;", bytes "tcgen05.dealloc.cta_group::1.sync.aligned.b32 t, 64;") ∷

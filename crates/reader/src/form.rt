@@ -22,7 +22,7 @@ ghost use Rattle.reader.specs.Rows.{pairedOpcode, bracketedOf, limitOf, 
 // The most bytes of a text that reads.
 const LONGEST: usize = 4096;
 
-// No form where reading stopped, or past the end of a longer text; too large where a number was; else the statement.
+// No form where reading stopped, or past the end of a longer text; out of range where a number or an expression was; else the statement.
 pub fn answer(s: &[u8], k: Cursor, t: Statement) -> Reading
     ensures { λ r. ⌜ r ≡ answerOf (now (s .entry)) (seen (now (s .entry)) k) t ⌝ }
 {

@@ -98,7 +98,7 @@ rowC (k ∷ ks) r =
 abbrev pub longestText : ℕ
 longestText = 4096
 
--- no form where reading stopped, or else past the end of a longer text, before too large; each with its position in text
+-- no form where reading stopped, or else past the end of a longer text, before out of range; each with its position in text
 unfoldable pub answerOf : List ℕ → Rest → Statement → Reading
 answerOf text r t =
     cond (r .ok)

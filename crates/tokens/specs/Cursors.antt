@@ -13,7 +13,7 @@ use Rattle.tokens.specs.Bytes.{afterBlanks, tokenOf, afterToken}
 use Rattle.tokens.specs.Names.{isName, packed, noName}
 use Rattle.tokens.specs.Numbers.{isNumber, valueOf}
 
--- the bytes from which reading goes on, or, not ok, from the token at which it stopped; whether a number was too large, and the bytes from the first such on
+-- the bytes from which reading goes on, or, not ok, from the token at which it stopped; whether a number or an expression was out of range, and the bytes from the first such on
 pub record Rest : Type 0 where
   pub rest : List ℕ
   pub ok : Bool

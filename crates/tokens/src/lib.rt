@@ -6,7 +6,7 @@ pub struct Name {
     pub lo: u64,
 }
 
-// Where reading goes on; or, not ok, the first token at which no form can go on. `over`: a number was too large, the
+// Where reading goes on; or, not ok, the first token at which no form can go on. `over`: a number or an expression was out of range, the
 // first such at `far`.
 pub struct Cursor {
     pub at: usize,

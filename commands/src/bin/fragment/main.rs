@@ -20,7 +20,7 @@ stands. THREAD:ELEMENT: where it stands. ROW,COLUMN: who holds it. Two numbers a
 MATRIX  A, B, C or D, in either case; D has the layout of C
 THREAD  %laneid, 0 to 31
 ELEMENT its number in the PTX ISA, from 0: 3 is a3, b3, c3 or d3. Two elements of f16 share a register: i is in register i / 2
-NUMBER  as in a sheet: decimal, 0x and hex digits, 0b and binary digits, or 0 and octal digits; a U may follow
+NUMBER  as in a sheet: decimal, 0x and hex digits, 0b and binary digits, or 0 and octal digits; a U may follow; no expression
 
   fragment C
   fragment B 7

@@ -24,7 +24,7 @@ fn write(s: &Spot, e: &mut Explanation, (from, to): (usize, usize), name: &[u8],
     let name = shown(name);
     match offset {
         Some(offset) => offer(s, e, format!("write `[{name}+{offset}]`"), s.edit(from, to, format!("[{name}+{offset}]"))),
-        None => say(e, format!("write `[{name}+NUMBER]`, with the offset as one number")),
+        None => say(e, format!("write `[{name}+NUMBER]`, with the offset as a number or an expression of numbers")),
     }
 }
 
