@@ -91,6 +91,18 @@ fn comments_and_guards() {
         ("@!%p1 exit;", "the statement has a guard, `@!%p1`; guards may not stand in a sheet", Some("exit;")),
         ("@p add.s32 r, r, 1;", "the statement has a guard, `@p`; guards may not stand in a sheet", None),
     ]);
+    let either =
+        |mark: &str| format!("`{mark}` stands between numbers: it may begin a comment or be meant as a division, and neither is taken");
+    check(&[
+        ("mov.b32 y, 64//2;", &either("//"), None),
+        ("mov.b32 y, 64 /*2;", &either("/*"), None),
+        ("mov.b32 y, 64 /*2*/;", comment, Some("mov.b32 y, 64;")),
+        ("mov.b32 y, 64 // two", comment, Some("mov.b32 y, 64;")),
+        ("mov.b32 y, 64; // 2", comment, Some("mov.b32 y, 64;")),
+    ]);
+    let out = "if a comment is meant, take the `//` and what stands behind it out";
+    assert_eq!(help_of("mov.b32 y, 2+64//2;"), format!("if a division is meant, write what it comes to, 34\n{out}"));
+    assert_eq!(help_of("mov.b32 y, 7//2;"), format!("if a division is meant: 7/2 is not a whole number\n{out}"));
     assert!(help_of("@p mov.b32 y, 1;").ends_with("take the line out if it is not executed"));
     // a line that is nothing else is taken out
     for statement in ["// a", "# a", "/* a */", ""] {
@@ -342,6 +354,19 @@ fn operators_that_are_not_taken() {
         ("mov.b32 y, ~3;", "`~` is not taken in an expression", None),
         ("mov.b32 y, 1<<99;", "`<<` is not taken in an expression", None),
         ("mov.b32 y, 1==2;", "`==` is not taken in an expression", None),
+        ("mov.b32 y, 7/2;", "`/` is not taken in an expression", None),
+        ("mov.b32 y, 7/2*2;", "`/` is not taken in an expression", None),
+        ("mov.b32 y, 2^6;", "`^` is not taken in an expression", None),
+        ("mov.b32 y, 1<<2^6;", "`<<` is not taken in an expression", None),
+        (&ld("+2^6"), "`^` is not taken in an expression", None),
+        (&format!("{LOAD}[t]+2^6;"), "the offset stands outside the brackets of the address", None),
+        ("mov.b32 y, 64.5*2;", "`64.5` has a point; only whole numbers are read", None),
+        ("mov.b32 y, 64.0*2;", "`64.0` has a point; only whole numbers are read", Some("mov.b32 y, 64*2;")),
+        (
+            "mov.b32 y, 0f3F800000*2;",
+            "`0f3F800000` is no number: it has the bits of a float, which `mov.b32` moves with `0x` before them",
+            None,
+        ),
         ("mov.b32 y, 2*x;", "`x` stands where a number must be written out", Some("mov.b32 y, 2*1;")),
         ("mov.b32 y, 2*x8;", "`x8` stands where a number must be written out", None),
         ("mov.b32 y, 2*1.5;", "`1.5` has a point; only whole numbers are read", None),
@@ -349,6 +374,21 @@ fn operators_that_are_not_taken() {
         ("mov.b32 y, (2).5;", "`.5` has a point; only whole numbers are read", None),
         ("mov.b32 y, 2*08;", "`08` is no number: a leading zero means octal, which has the digits 0 to 7", Some("mov.b32 y, 2*8;")),
     ]);
+    for (statement, help) in [
+        ("mov.b32 y, 7/2;".into(), "7/2 is not a whole number"),
+        ("mov.b32 y, 2^6;".into(), "if a power is meant by `^`, write 64; if exclusive or, 4"),
+        (ld("+1+2^6"), "if a power is meant by `^`, write 65; if exclusive or, 5"),
+        ("mov.b32 y, 2^40;".into(), ""),
+        ("mov.b32 y, 64/0;".into(), "it divides by 0"),
+        ("mov.b32 y, 64/;".into(), "a number is missing after the `/`"),
+        ("mov.b32 y, 1<<;".into(), "a number is missing after the `<<`"),
+        ("mov.b32 y, -64/2;".into(), "it comes to -32, which does not fit here"),
+        ("mov.b32 y, 1<<99;".into(), "it comes to more than fits here"),
+        ("mov.b32 y, 1==2;".into(), ""),
+        ("mov.b32 y, 64/n;".into(), "write what it comes to as one number"),
+    ] {
+        assert_eq!(help_of(&statement), help, "{statement}");
+    }
     assert!(notes_of("mov.b32 y, 64/2;").contains("an expression has `+`, `-`, `*`, a minus before a number, and parentheses"));
     assert!(notes_of("mov.b32 y, 64/2;").contains("what could stand there: `;`, `+`, `-` or `*`, as in `mov.b32 x, 1;`"));
 }
@@ -399,6 +439,12 @@ fn parentheses() {
         (&format!("{LOAD}[t + ;"), "a number is missing after the `+`", None),
         ("mov.b32 y, 1 2;", "`2` stands behind a number, and no operator between them", Some("mov.b32 y, 12;")),
         ("mov.b32 y, (1)2;", "`2` stands behind a number, and no operator between them", None),
+        ("mov.b32 y, 3*1 2;", "`2` stands behind a number, and no operator between them", None),
+        ("mov.b32 y, 1 2*3;", "`2` stands behind a number, and no operator between them", None),
+        (&format!("{LOAD}[t+1 2];"), "`2` stands behind a number, and no operator between them", Some(&format!("{LOAD}[t+12];"))),
+        (&format!("{LOAD}[t+65536 4];"), "`4` stands behind a number, and no operator between them", None),
+        (&format!("{LOAD}[t+32*65536 4];"), "`4` stands behind a number, and no operator between them", None),
+        (&format!("{}[v], 3 3;", ALLOC), "`3` stands behind a number, and no operator between them", None),
         ("mov.b32 y, (1)(2);", "`(` stands behind a number, and no operator between them", Some("mov.b32 y, (1)*(2);")),
         (&format!("{LOAD}[t+2(3)];"), "`(` stands behind a number, and no operator between them", Some(&format!("{LOAD}[t+2*(3)];"))),
     ]);

@@ -296,6 +296,9 @@ fn comment(s: &Spot, e: &mut Explanation) -> bool {
     }
     let closed = ends_comment(text).filter(|_| text.starts_with(b"/*"));
     let length = closed.unwrap_or(text.len());
+    if closed.is_none() && (text.starts_with(b"//") || last_line(s).is_none()) && sum::divided(s, e) {
+        return true;
+    }
     e.title("a comment stands in the line; comments may not stand in a sheet");
     s.point(e, s.at + spaces + length, "the comment");
     if text.starts_with(b"/*") && closed.is_none() && over_lines(s, e) {
@@ -310,10 +313,15 @@ fn comment(s: &Spot, e: &mut Explanation) -> bool {
     offer(s, e, "take the comment out", s.instead(if reads(&ended) { &ended } else { &kept }))
 }
 
+/// The later line in which a comment ends, and where.
+fn last_line(s: &Spot) -> Option<(usize, usize)> {
+    let ends = |line: usize| Some((line, ends_comment(s.c.sheet.line(line))?));
+    (s.c.line() + 1..=s.c.sheet.count()).find_map(ends)
+}
+
 /// A comment that ends in a later line.
 fn over_lines(s: &Spot, e: &mut Explanation) -> bool {
-    let ends = |line: usize| Some((line, ends_comment(s.c.sheet.line(line))?));
-    let Some((last, end)) = (s.c.line() + 1..=s.c.sheet.count()).find_map(ends) else { return false };
+    let Some((last, end)) = last_line(s) else { return false };
     let alone = s.before().is_empty() && s.c.sheet.line(last)[end..].trim_ascii().is_empty();
     let kept = if alone { "" } else { "; keep the statement that stands before or after it" };
     say(e, format!("the comment goes on up to the `*/` in line {last}: every line of it must go, {} to {last}{kept}", s.c.line()))

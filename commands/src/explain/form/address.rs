@@ -13,9 +13,11 @@ pub fn explain(s: &Spot, e: &mut Explanation) -> bool {
 fn number(s: &Spot, text: &[u8]) -> Option<String> {
     match shown(text) {
         text if is_number(text.as_bytes()) || number::b32(&text).is_ok() => Some(text),
-        text => {
-            sum::value(&text).filter(|&value| value >= 0).map(|value| value.to_string()).or(digits::known(s, &text).map(|found| found.0))
-        }
+        text => sum::value(&text)
+            .ok()
+            .filter(|&value| value >= 0)
+            .map(|value| value.to_string())
+            .or(digits::known(s, &text).map(|found| found.0)),
     }
 }
 

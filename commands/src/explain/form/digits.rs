@@ -45,7 +45,10 @@ pub fn run(s: &Spot, e: &mut Explanation) -> bool {
     if s.text.get(to) == Some(&b'.') {
         return false;
     }
-    let (because, candidates) = spelling(&shown(s.token), &s.opcode());
+    let (because, mut candidates) = spelling(&shown(s.token), &s.opcode());
+    if because.contains("the bits of") && !is_moved(s, s.at, to) {
+        candidates.clear();
+    }
     e.title(format!("`{found}` is no number: {because}"));
     s.point(e, to, "a number must stand here");
     e.note("a number is decimal (`64`), hexadecimal (`0x40`), octal (`0100`) or binary (`0b1000000`), with a capital `U` behind it or not");
@@ -91,6 +94,12 @@ fn spelling(run: &str, opcode: &str) -> (&'static str, Vec<(&'static str, String
         _ if is_hex(run) => ("a byte of it is no decimal digit", vec![hex()]),
         _ => ("a byte of it is no digit", vec![]),
     }
+}
+
+/// What stands between two places is all that a mov moves.
+fn is_moved(s: &Spot, from: usize, to: usize) -> bool {
+    let behind = s.text[to..].trim_ascii_start();
+    s.text[..from].trim_ascii_end().ends_with(b",") && (behind.is_empty() || behind.starts_with(b";"))
 }
 
 /// The bits of a float as PTX writes them, if the statement moves as many.
@@ -154,8 +163,7 @@ pub fn dot(s: &Spot, e: &mut Explanation) -> bool {
     if even {
         e.fix(s.c.sheet, format!("{what}write `{}`", brief(&s.text[from..s.at])), s.edit(s.at, to, ""));
     }
-    let is_alone = s.text[..from].trim_ascii_end().ends_with(b",");
-    match bits(&whole, &s.opcode()).filter(|bits| is_alone && s.reads_with(from, to, bits.as_bytes())) {
+    match bits(&whole, &s.opcode()).filter(|bits| is_moved(s, from, to) && s.reads_with(from, to, bits.as_bytes())) {
         Some(bits) => offer(s, e, format!("if the bits of a float are meant, write `{bits}`"), s.edit(from, to, bits)),
         None if is_count(s) && !even => say_count(s, e),
         None => even || say(e, "write a whole number"),

@@ -95,14 +95,34 @@ impl<'a> Broken<'a> {
         e.related(self.s.c.line(), (at + 3, at + 4), label);
     }
 
-    /// Offers what the expression comes to, where that is known and can stand there.
-    fn comes_to(&self, e: &mut Explanation, value: Option<i128>, to: usize) -> bool {
+    /// One number of this value can stand there.
+    fn fits(&self, value: i128) -> bool {
+        (0..=if self.s.opcode() == "mov.b64" { u64::MAX.into() } else { i128::from(u32::MAX) }).contains(&value)
+    }
+
+    /// Offers what the expression comes to, where that is known and can stand there; else says why none is offered.
+    fn comes_to(&self, e: &mut Explanation, value: Result<i128, Lack>, to: usize) -> bool {
         let s = self.s;
-        let most = if s.opcode() == "mov.b64" { u64::MAX.into() } else { i128::from(u32::MAX) };
-        match value.filter(|value| (0..=most).contains(value)) {
-            Some(value) => offer(s, e, format!("write what it comes to, {value}"), s.edit(self.from, to, value.to_string())),
-            None => say(e, "write what it comes to as one number"),
+        match value {
+            Ok(value) if self.fits(value) => {
+                offer(s, e, format!("write what it comes to, {value}"), s.edit(self.from, to, value.to_string()))
+            }
+            Ok(value) => say(e, format!("it comes to {value}, which does not fit here")),
+            Err(Lack::Large) => say(e, "it comes to more than fits here"),
+            Err(Lack::Zero) => say(e, "it divides by 0"),
+            Err(Lack::Missing(mark)) => say(e, format!("a number is missing after the `{mark}`")),
+            Err(Lack::Part(a, b)) => say(e, format!("{a}/{b} is not a whole number")),
+            Err(Lack::Unknown) => say(e, "write what it comes to as one number"),
         }
+    }
+
+    /// A `^` may be a power or exclusive or: says what either comes to, and offers neither.
+    fn caret(&self, e: &mut Explanation, text: &str) -> bool {
+        let as_read = |caret| evaluated(text, caret).ok().filter(|&value| self.fits(value));
+        if let (Some(power), Some(or)) = (as_read(Caret::Power), as_read(Caret::Or)) {
+            e.help(format!("if a power is meant by `^`, write {power}; if exclusive or, {or}"));
+        }
+        true
     }
 
     fn nested(&self, e: &mut Explanation) -> bool {
@@ -118,7 +138,7 @@ impl<'a> Broken<'a> {
         let read = expression::deep(s.text, self.from, DEEPEST).ok();
         let to = read.map_or(s.at, |read| read.whole.to);
         say(e, "take out parentheses and signs that change nothing");
-        self.comes_to(e, read.and_then(|read| read.whole.value), to)
+        self.comes_to(e, read.and_then(|read| read.whole.value).ok_or(Lack::Unknown), to)
     }
 
     /// A plus before a number.
@@ -222,7 +242,13 @@ impl<'a> Broken<'a> {
         s.point(e, s.at + length, "no operator of a sheet");
         e.note(TAKEN);
         let to = extent(s.text, self.from, b"],;");
-        self.comes_to(e, value(&shown(&s.text[self.from..to])), to)
+        let text = shown(&s.text[self.from..to]);
+        match value(&text) {
+            _ if text.contains('^') => self.caret(e, &text),
+            // a comparison comes to no number
+            Err(Lack::Unknown) if text.contains(['=', '?', '!']) => true,
+            value => self.comes_to(e, value, to),
+        }
     }
 
     /// Two numbers without an operator.
@@ -238,28 +264,79 @@ impl<'a> Broken<'a> {
         if !is_run {
             return offer(s, e, "if they are multiplied, put a `*` between them", s.edit(s.at, s.at, "*"));
         }
-        let run = s.text[..s.end()].iter().rev().take_while(|b| b.is_ascii_alphanumeric()).count();
-        let joined = [&s.text[s.end() - run..s.end()], s.token].concat();
-        if run > 0 && is_number(&joined) {
-            e.fix(s.c.sheet, format!("if they are one number, write `{}`", brief(&joined)), s.edit(s.end(), s.at, ""));
+        // the two are all of the operand
+        let is_all = is_number(&s.text[self.from..s.end()]) && to == extent(s.text, self.from, b"],;");
+        let joined = [&s.text[self.from..s.end()], s.token].concat();
+        let edit = s.edit(s.end(), s.at, "");
+        if is_all && is_number(&joined) && (s.opcode().starts_with("mov.") || s.passes(&edit)) {
+            e.fix(s.c.sheet, format!("if they are one number, write `{}`", brief(&joined)), edit);
         }
         say(e, "put `+`, `-` or `*` between them, or take one of them out")
     }
 }
 
+/// `64//2` and `64/*2`: a comment, or a division. Neither is offered, for with the comment out the statement would read.
+pub fn divided(s: &Spot, e: &mut Explanation) -> bool {
+    let mark = &s.rest()[..s.rest().len().min(2)];
+    let Some(b) = Broken::at(s).filter(|b| !b.stop.operand && matches!(mark, b"//" | b"/*")) else { return false };
+    if expression::read(s.text, s.at + 2).is_err() {
+        return false;
+    }
+    let mark = shown(mark);
+    e.title(format!("`{mark}` stands between numbers: it may begin a comment or be meant as a division, and neither is taken"));
+    s.point(e, s.at + 2, "a comment or a division");
+    let to = extent(s.text, b.from, b"],;");
+    let text = format!("{}/{}", shown(&s.text[b.from..s.at]), shown(&s.text[s.at + 2..to]));
+    match value(&text) {
+        Ok(value) if b.fits(value) => e.help(format!("if a division is meant, write what it comes to, {value}")),
+        Err(Lack::Part(a, b)) => e.help(format!("if a division is meant: {a}/{b} is not a whole number")),
+        Err(Lack::Zero) => e.help("if a division is meant: it divides by 0"),
+        _ => {}
+    }
+    say(e, format!("if a comment is meant, take the `{mark}` and what stands behind it out"))
+}
+
 /// Operators by how loosely they bind, those that are not taken too.
 const BINDING: [&[&str]; 6] = [&["|"], &["^"], &["&"], &["<<", ">>"], &["+", "-"], &["*", "/", "%"]];
 
-/// The value of an expression that may have operators that are not taken; none if it is none, or goes too far.
-pub fn value(text: &str) -> Option<i128> {
-    let mut reader = Reader { text, depth: 0 };
+/// Why an expression with operators that are not taken has no value that can be written for it.
+#[derive(Clone, Copy, PartialEq, Eq, Debug)]
+pub enum Lack {
+    /// It divides by 0.
+    Zero,
+    /// A division that is not exact.
+    Part(i128, i128),
+    /// Nothing stands behind an operator.
+    Missing(&'static str),
+    /// It has over 64 bits.
+    Large,
+    /// It is none that is read here, or may mean several things.
+    Unknown,
+}
+
+/// What a `^` is read as.
+#[derive(Clone, Copy, PartialEq, Eq)]
+enum Caret {
+    Nothing,
+    Or,
+    Power,
+}
+
+/// The value of an expression that may have operators that are not taken; none with a `^`, which may mean two things.
+pub fn value(text: &str) -> Result<i128, Lack> {
+    evaluated(text, Caret::Nothing)
+}
+
+fn evaluated(text: &str, caret: Caret) -> Result<i128, Lack> {
+    let mut reader = Reader { text, depth: 0, caret };
     let value = reader.level(0)?;
-    reader.text.trim_start().is_empty().then_some(value)
+    reader.text.trim_start().is_empty().then_some(value).ok_or(Lack::Unknown)
 }
 
 struct Reader<'a> {
     text: &'a str,
     depth: usize,
+    caret: Caret,
 }
 
 impl Reader<'_> {
@@ -269,74 +346,131 @@ impl Reader<'_> {
         rest.is_some()
     }
 
-    fn level(&mut self, level: usize) -> Option<i128> {
-        let Some(operators) = BINDING.get(level) else { return self.unit() };
+    fn level(&mut self, level: usize) -> Result<i128, Lack> {
+        let Some(operators) = BINDING.get(level) else { return self.powers() };
         let mut value = self.level(level + 1)?;
-        while let Some(operator) = operators.iter().find(|operator| self.take(operator)) {
+        while let Some(operator) = operators.iter().find(|&&mark| (mark != "^" || self.caret == Caret::Or) && self.take(mark)) {
+            if self.text.trim_start().is_empty() || self.text.trim_start().starts_with(')') {
+                return Err(Lack::Missing(operator));
+            }
             let other = self.level(level + 1)?;
-            value = combined(operator, value, other).filter(|value| value.unsigned_abs() < 1 << 64)?;
+            value = small(combined(operator, value, other)?)?;
         }
-        Some(value)
+        Ok(value)
+    }
+
+    /// Powers, the right one first; of a base below 0 it is not plain whether the minus belongs to it.
+    fn powers(&mut self) -> Result<i128, Lack> {
+        let base = self.unit()?;
+        if self.caret != Caret::Power || !self.take("^") {
+            return Ok(base);
+        }
+        let exponent = self.nested(Self::powers)?;
+        match u32::try_from(exponent) {
+            Ok(exponent) if base >= 0 => base.checked_pow(exponent).ok_or(Lack::Large).and_then(small),
+            _ => Err(Lack::Unknown),
+        }
+    }
+
+    /// One level further in, if that is not too deep.
+    fn nested(&mut self, inner: fn(&mut Self) -> Result<i128, Lack>) -> Result<i128, Lack> {
+        if self.depth == LEVELS {
+            return Err(Lack::Unknown);
+        }
+        self.depth += 1;
+        let value = inner(self)?;
+        self.depth -= 1;
+        Ok(value)
     }
 
     /// A number, a sign and what it belongs to, or what stands in parentheses.
-    fn unit(&mut self) -> Option<i128> {
-        self.depth += 1;
-        if self.depth > LEVELS {
-            return None;
+    fn unit(&mut self) -> Result<i128, Lack> {
+        if self.take("-") {
+            return Ok(-self.nested(Self::unit)?);
         }
-        let value = if self.take("-") {
-            -self.unit()?
-        } else if self.take("(") {
-            let value = self.level(0)?;
-            self.take(")").then_some(value)?
-        } else {
-            let text = self.text.trim_start();
-            let length = text.bytes().take_while(u8::is_ascii_alphanumeric).count();
-            self.text = &text[length..];
-            i128::from(number::plain64(&text[..length]).ok()?)
-        };
-        self.depth -= 1;
-        Some(value)
+        if self.take("(") {
+            let value = self.nested(|reader| reader.level(0))?;
+            return self.take(")").then_some(value).ok_or(Lack::Unknown);
+        }
+        let text = self.text.trim_start();
+        let length = text.bytes().take_while(u8::is_ascii_alphanumeric).count();
+        self.text = &text[length..];
+        number::plain64(&text[..length]).map(i128::from).map_err(|_| Lack::Unknown)
     }
 }
 
-/// The result of an operator; of those that are not taken only where none is negative, for there signs are no matter.
-fn combined(operator: &str, a: i128, b: i128) -> Option<i128> {
+/// A result of at most 64 bits.
+fn small(value: i128) -> Result<i128, Lack> {
+    (value.unsigned_abs() < 1 << 64).then_some(value).ok_or(Lack::Large)
+}
+
+/// The result of an operator. A division is exact; other operators that are not taken have one only where none is negative, for there
+/// signs are no matter.
+fn combined(operator: &str, a: i128, b: i128) -> Result<i128, Lack> {
     match operator {
-        "+" => a.checked_add(b),
-        "-" => a.checked_sub(b),
-        "*" => a.checked_mul(b),
-        _ if a < 0 || b < 0 => None,
-        "|" => Some(a | b),
-        "^" => Some(a ^ b),
-        "&" => Some(a & b),
-        "/" => a.checked_div(b),
-        "%" => a.checked_rem(b),
-        "<<" if b < 63 => a.checked_mul(1 << b),
-        ">>" if b < 63 => Some(a >> b),
-        _ => None,
+        "+" => Ok(a + b),
+        "-" => Ok(a - b),
+        "*" => a.checked_mul(b).ok_or(Lack::Large),
+        "/" | "%" if b == 0 => Err(Lack::Zero),
+        "/" if a % b == 0 => Ok(a / b),
+        "/" => Err(Lack::Part(a, b)),
+        _ if a < 0 || b < 0 => Err(Lack::Unknown),
+        "|" => Ok(a | b),
+        "^" => Ok(a ^ b),
+        "&" => Ok(a & b),
+        "%" => Ok(a % b),
+        "<<" if b < 63 => a.checked_mul(1 << b).ok_or(Lack::Large),
+        "<<" => Err(Lack::Large),
+        _ => Ok(if b < 127 { a >> b } else { 0 }),
     }
 }
 
 #[cfg(test)]
 mod tests {
-    use super::value;
+    use super::{evaluated, value, Caret, Lack};
 
     #[test]
     fn values() {
-        assert_eq!(value("(32*65536)+4"), Some(2_097_156));
-        assert_eq!(value(" 1 << 16 | 0x10 "), Some(65_552));
-        assert_eq!(value("2+3*4-1"), Some(13));
-        assert_eq!(value("8 - 2 - 1"), Some(5));
-        assert_eq!(value("- (-4)"), Some(4));
-        assert_eq!(value("-4"), Some(-4));
-        assert_eq!(value("100/8*2 + 100%8"), Some(28));
-        assert_eq!(value("6&3^1|8"), Some(11));
-        for none in ["", "1+", "(1", "x", "1<<99", "1 2", "08", "18446744073709551615*2", "4/0", "4%0", "-4/2", "-1|1", "4/-2"] {
-            assert_eq!(value(none), None, "{none}");
+        for (text, right) in [
+            ("(32*65536)+4", 2_097_156),
+            (" 1 << 16 | 0x10 ", 65_552),
+            ("2+3*4-1", 13),
+            ("8 - 2 - 1", 5),
+            ("- (-4)", 4),
+            ("-4", -4),
+            ("-64/2", -32),
+            ("4/-2", -2),
+            ("96/8*2 + 100%8", 28),
+            ("6&3|8", 10),
+            ("8>>99", 0),
+        ] {
+            assert_eq!(value(text), Ok(right), "{text}");
         }
-        assert_eq!(value(&"(".repeat(2000)), None);
-        assert_eq!(value(&"-".repeat(2000)), None);
+        for none in ["", "(1", "x", "1 2", "08", "2^6", "-1|1", "1//2", "1/*2", "64/n", "1<2"] {
+            assert_eq!(value(none), Err(Lack::Unknown), "{none}");
+        }
+        for (text, lack) in [
+            ("4/0", Lack::Zero),
+            ("4%(1-1)", Lack::Zero),
+            ("(3+4)/2*2", Lack::Part(7, 2)),
+            ("64/", Lack::Missing("/")),
+            ("(1<<)", Lack::Missing("<<")),
+            ("1<<99", Lack::Large),
+            ("18446744073709551615*2", Lack::Large),
+        ] {
+            assert_eq!(value(text), Err(lack), "{text}");
+        }
+        assert_eq!(value(&"(".repeat(2000)), Err(Lack::Unknown));
+        assert_eq!(value(&"-".repeat(2000)), Err(Lack::Unknown));
+    }
+
+    /// A power binds closer than all others, and exclusive or between `|` and `&`.
+    #[test]
+    fn carets() {
+        for (text, power, or) in [("2^6", Ok(64), Ok(4)), ("1+2^3^2", Ok(513), Ok(2)), ("6&3^1|8", Ok(10), Ok(11))] {
+            assert_eq!((evaluated(text, Caret::Power), evaluated(text, Caret::Or)), (power, or), "{text}");
+        }
+        assert_eq!((evaluated("-2^6", Caret::Power), evaluated("2^99", Caret::Power)), (Err(Lack::Unknown), Err(Lack::Large)));
+        assert!(evaluated(&"2^".repeat(2000), Caret::Power).is_err());
     }
 }
