@@ -23,8 +23,10 @@ pub enum Fault {
     Nested(usize),
     /// An expression does not go on at a byte of it.
     Broken(usize),
-    /// It ends before it is whole.
+    /// It ends where a number must stand.
     Short,
+    /// It ends before a `(` of it is closed.
+    Open,
     /// The library would not read it, whatever it is: a statement has at most 4,096 bytes.
     Long,
 }
@@ -51,7 +53,8 @@ impl fmt::Display for Fault {
             Fault::Partial(from, to) => write!(f, "out of range (-2^63 to 2^63-1) in bytes {from} to {to}"),
             Fault::Nested(at) => write!(f, "nested over {} levels at byte {at}", expression::LEVELS),
             Fault::Broken(at) => write!(f, "broken at byte {at}"),
-            Fault::Short => write!(f, "not whole"),
+            Fault::Short => write!(f, "a number is missing at the end"),
+            Fault::Open => write!(f, "a `)` is missing at the end"),
             Fault::Long => write!(f, "over {MOST} bytes"),
         }
     }
@@ -117,7 +120,8 @@ fn fault(text: &str, bits: u32, reason: Reason) -> Fault {
         _ if is_run && text.starts_with('0') && text.len() > 1 && text.bytes().all(|b| b.is_ascii_digit()) => Fault::Octal,
         _ if is_run => Fault::Spelling,
         (_, Ok(read)) => Fault::Broken(read.whole.to + text[read.whole.to..].find(|ch| ch != ' ').unwrap_or(0) + 1),
-        (_, Err(stop)) if stop.at == text.len() => Fault::Short,
+        (_, Err(stop)) if stop.at == text.len() && stop.operand => Fault::Short,
+        (_, Err(stop)) if stop.at == text.len() => Fault::Open,
         (_, Err(stop)) if stop.is_nested(text.as_bytes()) => Fault::Nested(stop.at + 1),
         (_, Err(stop)) => Fault::Broken(stop.at + 1),
     }

@@ -280,8 +280,12 @@ fn words_of_describe() {
         ("()", Fault::Broken(2), "broken at byte 2"),
         ("3+08", Fault::Broken(3), "broken at byte 3"),
         ("1+x", Fault::Broken(3), "broken at byte 3"),
-        ("1+", Fault::Short, "not whole"),
-        ("(1", Fault::Short, "not whole"),
+        ("1+", Fault::Short, "a number is missing at the end"),
+        ("1*", Fault::Short, "a number is missing at the end"),
+        ("-", Fault::Short, "a number is missing at the end"),
+        ("(", Fault::Short, "a number is missing at the end"),
+        ("(1", Fault::Open, "a `)` is missing at the end"),
+        ("2*((1)", Fault::Open, "a `)` is missing at the end"),
     ] {
         assert_eq!((b32(text), fault.to_string().as_str()), (Err(fault), said), "{text}");
     }
