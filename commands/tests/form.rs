@@ -438,6 +438,15 @@ fn parentheses() {
         (&format!("{LOAD}[t+];"), "a number is missing after the `+`", Some(&format!("{LOAD}[t];"))),
         (&format!("{LOAD}[t + ;"), "a number is missing after the `+`", None),
         ("mov.b32 y, 1 2;", "`2` stands behind a number, and no operator between them", Some("mov.b32 y, 12;")),
+        (&format!("{LOAD}[t+(32*65536,4)];"), "a `,` stands inside the parentheses", None),
+        ("mov.b32 y, (1, 2);", "a `,` stands inside the parentheses", None),
+        (&format!("{LOAD}[t+32*65536,4];"), "a `,` stands inside the brackets", None),
+        (&format!("{LOAD}[t+(1, 4];"), "a `(` is not closed", None),
+        (
+            "tcgen05.st.sync.aligned.32x32b.x1.b32 [t+4, {r};",
+            "the `]` is missing",
+            Some("tcgen05.st.sync.aligned.32x32b.x1.b32 [t+4], {r};"),
+        ),
         ("mov.b32 y, (1)2;", "`2` stands behind a number, and no operator between them", None),
         ("mov.b32 y, 3*1 2;", "`2` stands behind a number, and no operator between them", None),
         ("mov.b32 y, 1 2*3;", "`2` stands behind a number, and no operator between them", None),
@@ -543,6 +552,9 @@ fn results_out_of_range() {
         (primary.from, primary.to, e.related.iter().map(|span| (span.from, span.to, span.label.clone())).collect::<Vec<_>>())
     };
     assert_eq!(marks("mov.b32 y, 4294967296*4294967296*0;"), (14, 35, vec![]));
+    let label_of = |statement: &str| said(statement).primary.unwrap().label;
+    assert_eq!(label_of("mov.b64 y, -1;"), "an expression: 0 to 2^63-1; one number alone: to 2^64-1");
+    assert_eq!(label_of("mov.b32 y, -1;"), "0 to 4,294,967,295 fit here");
     let label = "this is 9,223,372,036,854,775,809".to_string();
     assert_eq!(marks("mov.b32 y, 1+(2+9223372036854775807)*3;"), (14, 17, vec![(17, 38, label)]));
     let label = "this has over 127 bits".to_string();
@@ -731,6 +743,20 @@ fn offsets_are_not_lost() {
             ("{r}, [t+n];", "`n` stands where a number must be written out", &[("write `32`, which line 6 moves to `n`", right)]),
         ],
     );
+    // in an expression a number has up to 63 bits, and a name never stands for one
+    let named = "`c` stands where a number must be written out";
+    table(
+        "0\tmov.b64 c, 0x100000000;\n",
+        DENSE_WORD,
+        LD,
+        &[
+            ("{r}, [t+c-4294967296+32];", named, &[("which line 6 moves to `c`", "{r}, [t+0x100000000-4294967296+32];")]),
+            ("{r}, [t+c];", named, &[("`c` is 0x100000000, which does not fit in 32 bits", "")]),
+            ("{r}, [t+2*z];", "`z` stands where", &[("an expression takes no names: write the number of `z`", "")]),
+            ("{r}, [t+z*2];", "`z` stands where", &[("an expression takes no names: write the number of `z`", "")]),
+        ],
+    );
+    table("0\tmov.b64 c, 0x8000000000000000;\n", DENSE_WORD, LD, &[("{r}, [t+2*c];", named, &[("which is over 2^63-1", "")])]);
     // of an expression that was moved the number is written
     let offered = ("write `32`, which line 6 moves to `n`", "{r}, [t+2*32];");
     table("0\tmov.b32 n, 28+4;\n", DENSE_WORD, LD, &[("{r}, [t+2*n];", "`n` stands where a number must be written out", &[offered])]);

@@ -79,8 +79,13 @@ fn negative(c: &Context, e: &mut Explanation, read: &Expression, value: i128) {
     let is = if written == value.to_string() { "negative".into() } else { signed(value) };
     let rule = if is_mov || is_offset(c) { "numbers and offsets below 0 are not read in this version" } else { "it is a count of columns" };
     e.title(format!("`{}` is {is}; {rule}", cut(&written)));
-    let most = ((1i128 << bits) - 1).min(MOST);
-    e.point(read.whole.to + 3, format!("0 to {} fit here", signed(most)));
+    e.point(
+        read.whole.to + 3,
+        match bits {
+            64 => "an expression: 0 to 2^63-1; one number alone: to 2^64-1".into(),
+            _ => format!("0 to {} fit here", signed((1i128 << bits) - 1)),
+        },
+    );
     if is_mov {
         if value < -(1 << (bits - 1)) {
             return e.help(format!("it has more than the {bits} bits that the statement moves"));

@@ -1,9 +1,9 @@
 //! What stands in place of a number: a run that is none, a number with a point, or a name.
 
-use super::{brief, is_name, is_number, offer, say, token, Spot};
+use super::{brief, is_name, is_number, offer, say, sum, token, Spot};
 use crate::explain::booking::any_legal;
 use crate::explain::{shown, Explanation};
-use crate::number;
+use crate::{expression, number};
 
 /// The number is one of columns: only an alloc and a dealloc have such.
 pub fn is_count(s: &Spot) -> bool {
@@ -107,6 +107,17 @@ fn float(run: &str, moves: bool, because: &'static str) -> (&'static str, Vec<(&
     (because, if moves { vec![("", format!("0x{}", &run[2..]))] } else { vec![] })
 }
 
+/// What stands at the place up to another is not all of its operand, but a part of an expression.
+fn is_part(s: &Spot, to: usize) -> bool {
+    let ends = s.text[to..].trim_ascii_start().first().is_none_or(|b| b"],;".contains(b));
+    !ends || sum::begins(s) != Some(s.at)
+}
+
+/// The number may stand in an expression.
+fn is_in_range(text: &str) -> bool {
+    expression::read(text.as_bytes(), 0).is_ok_and(|read| read.beyond.is_none())
+}
+
 /// A name where a number must be written out.
 pub fn name(s: &Spot, e: &mut Explanation) -> bool {
     if !is_name(s.token) || s.could[..] != ["1"] {
@@ -118,11 +129,11 @@ pub fn name(s: &Spot, e: &mut Explanation) -> bool {
     if let Some((number, line)) = known(s, &found) {
         e.related(line, s.c.span(line, 1), format!("the number of `{found}`"));
         let text = format!("write `{number}`, which line {line} moves to `{found}`");
-        return if fits(s, &number) {
-            offer(s, e, text, s.edit(s.at, to, number))
-        } else {
-            say(e, format!("`{found}` is {number}, which does not fit in 32 bits"))
+        let (fits, most) = match is_part(s, to) {
+            true => (is_in_range(&number), "is over 2^63-1, the most of a number of an expression"),
+            false => (fits(s, &number), "does not fit in 32 bits"),
         };
+        return if fits { offer(s, e, text, s.edit(s.at, to, number)) } else { say(e, format!("`{found}` is {number}, which {most}")) };
     }
     if is_count(s) {
         return say_count(s, e);
@@ -134,6 +145,9 @@ pub fn name(s: &Spot, e: &mut Explanation) -> bool {
                 "`{found}` is an allocation: its name stands for its address wherever one is wanted, so that no number is moved or added"
             ),
         );
+    }
+    if is_part(s, to) {
+        return say(e, format!("an expression takes no names: write the number of `{found}`"));
     }
     let what = if s.opcode().starts_with("mov.") { "the number to move" } else { "the offset" };
     say(e, format!("write {what} in digits: no line up to here moves a number to `{found}`"))

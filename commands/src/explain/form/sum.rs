@@ -19,14 +19,14 @@ struct Broken<'a> {
 }
 
 pub fn explain(s: &Spot, e: &mut Explanation) -> bool {
-    if behind_name(s, e) {
+    if behind_name(s, e) || bracketed(s, e) {
         return true;
     }
     let Some(b) = Broken::at(s) else { return false };
     if b.stop.operand {
         b.nested(e) || b.plus(e) || b.empty(e) || b.missing(e) || b.doubled(e) || b.foreign(e)
     } else {
-        b.extra(e) || b.unclosed(e) || b.foreign(e) || b.side_by_side(e)
+        b.extra(e) || b.parted(e) || b.unclosed(e) || b.foreign(e) || b.side_by_side(e)
     }
 }
 
@@ -52,8 +52,21 @@ fn behind_name(s: &Spot, e: &mut Explanation) -> bool {
     say(e, "count the column from the start of the allocation, so that the offset is 0 or more")
 }
 
+/// `[t+4,8]`: a comma before the `]`.
+fn bracketed(s: &Spot, e: &mut Explanation) -> bool {
+    let is_closed = s.rest().iter().find(|b| b"[]{;".contains(b)) == Some(&b']');
+    s.token == b"," && s.could("]") && is_closed && comma(s, e, "brackets")
+}
+
+/// Says of a comma what it stands inside of; what is meant by it is not known.
+fn comma(s: &Spot, e: &mut Explanation, inside: &str) -> bool {
+    e.title(format!("a `,` stands inside the {inside}"));
+    s.point(e, s.at + 1, format!("found `,`, where {} or an operator must stand", s.must()));
+    say(e, format!("one number or one expression stands inside the {inside}: write an operator for the `,`, or take it out"))
+}
+
 /// Where the number begins that the place is in or behind: after the `+` of an address, or after the comma of a mov, alloc or dealloc.
-fn begins(s: &Spot) -> Option<usize> {
+pub fn begins(s: &Spot) -> Option<usize> {
     let before = s.before();
     let skip = |from: usize| from + s.text[from..].len() - s.text[from..].trim_ascii_start().len();
     let open = before.iter().rposition(|b| b"[,".contains(b))?;
@@ -207,6 +220,16 @@ impl<'a> Broken<'a> {
         e.title("a `)` stands here that closes nothing");
         s.point(e, to, "no `(` is open here");
         offer(s, e, "take it out, or put a `(` where it opens", s.edit(s.at, to, ""))
+    }
+
+    /// A comma inside parentheses that are closed behind it.
+    fn parted(&self, e: &mut Explanation) -> bool {
+        let (s, open) = (self.s, self.stop.parentheses(self.s.text));
+        let inside = s.rest().split(|b| b"];".contains(b)).next().unwrap_or_default();
+        let count = |mark| inside.iter().filter(|&&b| b == mark).count();
+        let Some(&last) = open.last().filter(|_| s.token == b"," && count(b')') > count(b'(')) else { return false };
+        self.relate(e, last, "they open here");
+        comma(s, e, "parentheses")
     }
 
     /// A `(` that is not closed where the expression ends.
