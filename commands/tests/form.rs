@@ -452,6 +452,7 @@ fn parentheses() {
         ("mov.b32 y, 1 2*3;", "`2` stands behind a number, and no operator between them", None),
         (&format!("{LOAD}[t+1 2];"), "`2` stands behind a number, and no operator between them", Some(&format!("{LOAD}[t+12];"))),
         (&format!("{LOAD}[t+65536 4];"), "`4` stands behind a number, and no operator between them", None),
+        (&format!("{LOAD}[t+2 (3)];"), "`(` stands behind a number, and no operator between them", None),
         (&format!("{LOAD}[t+32*65536 4];"), "`4` stands behind a number, and no operator between them", None),
         (&format!("{}[v], 3 3;", ALLOC), "`3` stands behind a number, and no operator between them", None),
         ("mov.b32 y, (1)(2);", "`(` stands behind a number, and no operator between them", Some("mov.b32 y, (1)*(2);")),

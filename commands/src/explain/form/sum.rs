@@ -284,14 +284,15 @@ impl<'a> Broken<'a> {
         let (found, to) = (brief(s.token), s.at + s.token.len());
         e.title(format!("`{found}` stands behind a number, and no operator between them"));
         s.point(e, to, format!("found `{found}`, where {} or an operator must stand", s.must()));
-        if !is_run {
+        // with a gap before the `(` a `+` may be meant as well
+        if !is_run && s.end() == s.at {
             return offer(s, e, "if they are multiplied, put a `*` between them", s.edit(s.at, s.at, "*"));
         }
         // the two are all of the operand
         let is_all = is_number(&s.text[self.from..s.end()]) && to == extent(s.text, self.from, b"],;");
         let joined = [&s.text[self.from..s.end()], s.token].concat();
         let edit = s.edit(s.end(), s.at, "");
-        if is_all && is_number(&joined) && (s.opcode().starts_with("mov.") || s.passes(&edit)) {
+        if is_run && is_all && is_number(&joined) && (s.opcode().starts_with("mov.") || s.passes(&edit)) {
             e.fix(s.c.sheet, format!("if they are one number, write `{}`", brief(&joined)), edit);
         }
         say(e, "put `+`, `-` or `*` between them, or take one of them out")
