@@ -445,7 +445,8 @@ fn combined(operator: &str, a: i128, b: i128) -> Result<i128, Lack> {
         "%" => Ok(a % b),
         "<<" if b < 63 => a.checked_mul(1 << b).ok_or(Lack::Large),
         "<<" => Err(Lack::Large),
-        _ => Ok(if b < 127 { a >> b } else { 0 }),
+        _ if b < 63 => Ok(a >> b),
+        _ => Err(Lack::Unknown),
     }
 }
 
@@ -466,11 +467,10 @@ mod tests {
             ("4/-2", -2),
             ("96/8*2 + 100%8", 28),
             ("6&3|8", 10),
-            ("8>>99", 0),
         ] {
             assert_eq!(value(text), Ok(right), "{text}");
         }
-        for none in ["", "(1", "x", "1 2", "08", "2^6", "-1|1", "1//2", "1/*2", "64/n", "1<2"] {
+        for none in ["", "(1", "x", "1 2", "08", "2^6", "-1|1", "1//2", "1/*2", "64/n", "1<2", "8>>99"] {
             assert_eq!(value(none), Err(Lack::Unknown), "{none}");
         }
         for (text, lack) in [
