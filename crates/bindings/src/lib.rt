@@ -1,11 +1,12 @@
 // The names that `mov` bound, by value: a table of 128 entries, each with a name, its number and its width (32 or 64; 0 where the
 // entry is unbound).
+#![tactic(auto)]
 ghost use Rattle.std.specs.Prelude.{◌≡◌, ◌≤◌};
 ghost use Rattle.bindings.specs.Table.{empty, home_of, stops, entry_of, value_in};
 
 use tokens::Name;
 
-#[derive(Drop)]
+#[derive(Clone, Copy)]
 pub struct Bindings {
     pub hi: [u64; 128],
     pub lo: [u64; 128],
@@ -14,7 +15,7 @@ pub struct Bindings {
 }
 
 // What a name is bound to; width 0 where it is unbound.
-#[derive(Drop)]
+#[derive(Clone, Copy)]
 pub struct Value {
     pub width: u8,
     pub number: u64,

@@ -1,4 +1,5 @@
 // A statement's text by itself: its reason and column, and its canonical text.
+#![tactic(auto)]
 ghost use Rattle.std.specs.Prelude.{◌≡◌, length};
 ghost use Rattle.statement.specs.Reading.{read_of, registers_of};
 ghost use Rattle.statement.specs.declared.Reading.{Reading};
@@ -8,7 +9,7 @@ ghost use Rattle.canonical.specs.Alone.{alone_of, rewritten, left_of};
 use statement::{Reading, Statement, Written};
 
 // The reason of a text, and the column that it is found in, from 1; 0 and 0 for a good one.
-#[derive(Drop)]
+#[derive(Clone, Copy)]
 pub struct Alone {
     pub reason: u32,
     pub column: usize,

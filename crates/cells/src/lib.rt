@@ -1,4 +1,5 @@
 // Registers, lanes and columns of an access, from one table, and reason 5's test.
+#![tactic(auto)]
 ghost use Rattle.std.specs.Prelude.{◌≡◌};
 ghost use Rattle.statement.specs.Cells.{times, registers_for, lanes_for, columns_for, miscounted, counted};
 ghost use Rattle.cells.specs.Rows.{row_of};
@@ -6,7 +7,7 @@ ghost use Rattle.cells.specs.Rows.{row_of};
 use statement::{Access, Num, Shape, Statement};
 
 // A row of the table: registers for each N, lanes, columns for each N, largest N.
-#[derive(Drop)]
+#[derive(Clone, Copy)]
 pub struct Row {
     pub registers: usize,
     pub lanes: usize,

@@ -1,4 +1,5 @@
 // What a ld, a st or an mma is refused for, by tables that are left where they are.
+#![tactic(auto)]
 ghost use Rattle.std.specs.Prelude.{◌≡◌, ◌&&◌, ◌||◌, ◌+◌, ◌*◌, ◌/◌, ◌%◌, ◌^◌, eqb, leb};
 ghost use Rattle.laws.specs.Rules.{first_broken};
 ghost use Rattle.statement.specs.Canonical.{sparse};
@@ -11,7 +12,7 @@ use statement::{Access, Address, Metadata, Mma, Num, Operand, Shape, Statement};
 use tokens::Name;
 
 // The tests of an operand of an mma: a name of its sort, a descriptor that reads, and columns inside the allocation.
-#[derive(Drop)]
+#[derive(Clone, Copy)]
 pub struct Tested {
     pub named: bool,
     pub reads: bool,
@@ -19,7 +20,7 @@ pub struct Tested {
 }
 
 // The reason of a ld or st, or 0; the first column of its allocation, 0 where it is refused.
-#[derive(Drop)]
+#[derive(Clone, Copy)]
 pub struct Accessed {
     pub reason: u32,
     pub start: u32,

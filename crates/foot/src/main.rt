@@ -1,4 +1,5 @@
 // foot: reads a sheet from standard input and prints its report. It prints nothing where reading failed.
+#![tactic(auto)]
 ghost use Rattle.std.specs.Prelude.{◌+◌, ◌-◌, ◌≤◌, ◌≡◌, length, take};
 ghost use Rattle.libc.specs.Io.{Moved};
 ghost use Rattle.lines.specs.Sheet.{most_bytes};
@@ -11,7 +12,7 @@ use libc::{STDIN_FILENO, STDOUT_FILENO};
 const ENOUGH: usize = lines::BYTES + 1;
 
 // How reading stands after so many bytes: more are to be read, all came, or a read failed.
-#[derive(Drop)]
+#[derive(Clone, Copy)]
 pub enum Input {
     More(usize),
     All(usize),

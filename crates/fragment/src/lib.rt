@@ -1,11 +1,13 @@
 // The fragments of the warp-level `mma.m16n8k16` on f16: which thread of a warp holds which element of the matrices A, B and C.
+#![tactic(auto)]
+
 ghost use Rattle.std.specs.Prelude.{◌*◌, ◌<◌, ◌≡◌, true, get_or};
 ghost use Rattle.std.proofs.Math.Option.{some};
 ghost use Rattle.fragment.specs.Fragment as F;
 
 mod tables;
 
-#[derive(Drop)]
+#[derive(Clone, Copy)]
 pub enum Matrix {
     A,
     B,
@@ -13,35 +15,35 @@ pub enum Matrix {
 }
 
 // The matrix that a number stands for, or nothing.
-#[derive(Drop)]
+#[derive(Clone, Copy)]
 pub enum MatrixRead {
     Is(Matrix),
     Unknown,
 }
 
 // A place of a matrix.
-#[derive(Drop)]
+#[derive(Clone, Copy)]
 pub struct Place {
     pub row: u32,
     pub column: u32,
 }
 
 // A thread of the warp, and one of its elements.
-#[derive(Drop)]
+#[derive(Clone, Copy)]
 pub struct Holder {
     pub thread: u32,
     pub element: u32,
 }
 
 // 0 and the place, or 22 and zeros.
-#[derive(Drop)]
+#[derive(Clone, Copy)]
 pub struct PlaceRead {
     pub reason: u32,
     pub place: Place,
 }
 
 // 0 and the holder, or 22 and zeros.
-#[derive(Drop)]
+#[derive(Clone, Copy)]
 pub struct HolderRead {
     pub reason: u32,
     pub holder: Holder,

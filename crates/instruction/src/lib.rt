@@ -1,4 +1,6 @@
 // The instruction descriptor: 32 bits, read and written under an opcode: a kind, `.ws` and `.sp`.
+#![tactic(auto)]
+
 ghost use Rattle.std.specs.Prelude.{◌<◌, ◌≡◌, [], ◌∷◌};
 ghost use Rattle.laws.specs.Tests.{all, is_some};
 ghost use Rattle.laws.specs.Layout.{pack, says, stands, ranges};
@@ -6,7 +8,7 @@ ghost use Rattle.laws.specs.Rules.{first_broken};
 ghost use Rattle.laws.proofs.LayoutLaws.{Inside};
 ghost use Rattle.instruction.specs.Instruction.{layout, kind_number, is_i8, dtype_of, element_of, values, named, fields_read, encoded_numbers, keeps, no_descriptor, decoded, m_listed, steps, n_listed, types_listed, listing, fields_reason, dense_k, k_of, judged};
 
-#[derive(Drop)]
+#[derive(Clone, Copy)]
 pub enum Kind {
     F16,
     Tf32,
@@ -15,7 +17,7 @@ pub enum Kind {
 }
 
 // The fields of a descriptor as numbers: types by their codes, flags as 0 and 1.
-#[derive(Drop)]
+#[derive(Clone, Copy)]
 pub struct Fields {
     pub selector: u32,
     pub sparse: u32,
@@ -33,21 +35,21 @@ pub struct Fields {
 }
 
 // What decoding answers: 0 and the fields, or 12 and zeros.
-#[derive(Drop)]
+#[derive(Clone, Copy)]
 pub struct FieldsRead {
     pub reason: u32,
     pub fields: Fields,
 }
 
 // What an mma needs of its instruction descriptor: the reason of the word, and N where it reads.
-#[derive(Drop)]
+#[derive(Clone, Copy)]
 pub struct Judged {
     pub reason: u32,
     pub n: u32,
 }
 
 // What encoding answers: 0 and the word, or 12 and 0.
-#[derive(Drop)]
+#[derive(Clone, Copy)]
 pub struct InstructionWord {
     pub reason: u32,
     pub word: u32,

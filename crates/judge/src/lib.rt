@@ -1,4 +1,5 @@
 // Judges a sheet: each line is read, judged and booked in turn, up to the first that is refused.
+#![tactic(auto)]
 ghost use Rattle.std.specs.Prelude.{◌≡◌, true, cond, ◌≤◌, eqb, length, take};
 ghost use Rattle.std.proofs.lemmas.List.Edits.{sets};
 ghost use Rattle.lines.specs.Sheet.{most_lines, headed, line_count};
@@ -13,7 +14,7 @@ use progress::Progress;
 use rules::Answer;
 
 // The answer, and how many starts come with it.
-#[derive(Drop)]
+#[derive(Clone, Copy)]
 pub struct Judged {
     pub answer: Answer,
     pub starts: usize,

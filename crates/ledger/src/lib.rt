@@ -1,6 +1,7 @@
 // The columns of Tensor Memory that a sheet holds, by value: each booking takes the ledger and gives back the next one,
 // unchanged on refusal. An allocation has at least 32 of 512 columns and starts at a multiple of 32, so that slot i of 16
 // is for the one that starts at column 32 * i.
+#![tactic(auto)]
 ghost use Rattle.std.specs.Prelude.{◌≡◌, not, ◌||◌, ◌+◌, ◌≤◌, ◌<◌, eqb};
 ghost use Rattle.ledger.specs.Slots.{owns, slot_of, place_of, past_of};
 ghost use Rattle.ledger.specs.Booking.{empty, unchanged, alloc_of, release_of, relinquish_of, find_in};
@@ -9,7 +10,7 @@ use tokens::Name;
 
 // Slot by slot the name and the columns of an allocation, 0 columns where there is none. `fixed`: a warp is fixed, and
 // `warp` says which.
-#[derive(Drop)]
+#[derive(Clone, Copy)]
 pub struct Ledger {
     pub hi: [u64; 16],
     pub lo: [u64; 16],
@@ -20,7 +21,7 @@ pub struct Ledger {
 }
 
 // The next ledger and 0, or the same ledger and the reason. `start`: of an alloc that is accepted, the first column.
-#[derive(Drop)]
+#[derive(Clone, Copy)]
 pub struct Booked {
     pub next: Ledger,
     pub reason: u32,
@@ -28,7 +29,7 @@ pub struct Booked {
 }
 
 // The columns of an allocation, from the first on; 0 columns where there is none.
-#[derive(Drop)]
+#[derive(Clone, Copy)]
 pub struct Span {
     pub start: u32,
     pub columns: u32,

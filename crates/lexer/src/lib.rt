@@ -1,3 +1,4 @@
+#![tactic(auto)]
 pub mod bytes;
 pub mod cursor;
 pub mod name;

@@ -42,7 +42,7 @@ fn least(a: usize, b: usize) -> usize
 }
 
 // A run of word bytes as digits at base 256, and where it ends.
-#[derive(Drop)]
+#[derive(Clone, Copy)]
 pub struct Packed {
     pub value: u64,
     pub end: usize,
@@ -69,7 +69,7 @@ fn pack(s: &[u8], at: usize, room: usize, v: u64) -> Packed
 }
 
 // A name, if one was there, and where it ends; else where it should start.
-#[derive(Drop)]
+#[derive(Clone, Copy)]
 pub struct Taken {
     pub ok: bool,
     pub value: Name,

@@ -8,7 +8,7 @@ use crate::bytes::{digit_of, wide, word_at};
 use tokens::Numeral;
 
 // How a number is written: a row of the table of notations.
-#[derive(Drop)]
+#[derive(Clone, Copy)]
 pub enum Base {
     Hexadecimal,
     Binary,
@@ -17,7 +17,7 @@ pub enum Base {
 }
 
 // What digits are as a number: one over 2^64-1, or a value; and where they end.
-#[derive(Drop)]
+#[derive(Clone, Copy)]
 pub struct Digits {
     pub over: bool,
     pub value: u64,

@@ -1,4 +1,5 @@
 // Lines of a sheet: whether a sheet is too large, whether it begins with its header, and the line at a place.
+#![tactic(auto)]
 ghost use Rattle.std.specs.Prelude.{◌≡◌, true, cond, ◌+◌, ◌<◌, ◌≤◌, ◌^◌, length, get_or, take, drop};
 ghost use Rattle.laws.specs.Tests.{bit};
 ghost use Rattle.tokens.specs.Bytes.{all, run_len};
@@ -15,7 +16,7 @@ pub const HEADER: usize = 16;
 
 // A line after the first: its warp, where its statement starts and ends, and where the next line starts. Not ok: its
 // layout is wrong, and all numbers are 0.
-#[derive(Drop)]
+#[derive(Clone, Copy)]
 pub struct Line {
     pub ok: bool,
     pub warp: u8,
@@ -239,7 +240,7 @@ fn find_line(s: &[u8], at: usize) -> Line
 
 // A sheet and a place in it: it gives out a line at a time. Few functions are over it, each proved by a walk; the work is in
 // `find_line`.
-#[derive(Drop)]
+#[derive(Clone, Copy)]
 pub struct LineReader<'a> {
     pub src: &'a [u8],
     pub at: usize,

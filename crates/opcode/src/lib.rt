@@ -1,4 +1,5 @@
 // The opcode at the head of a text: a few bytes tell the one that it can be, and the text is compared with that one's word.
+#![tactic(auto)]
 mod candidate;
 mod piece;
 
@@ -14,7 +15,7 @@ use instruction::Kind;
 use statement::{Found, Num, Opcode, Shape};
 
 // An opcode and where it ends; 0 where there is none.
-#[derive(Drop)]
+#[derive(Clone, Copy)]
 pub struct Head {
     pub found: Found,
     pub end: usize,

@@ -6,7 +6,7 @@ ghost use Rattle.opcode.specs.Pieces.{starts_with, left_seen, piece_c, whole};
 use spellings::Spelling;
 
 // A position in a word, and whether all before it was as wanted.
-#[derive(Drop)]
+#[derive(Clone, Copy)]
 pub struct Place {
     pub at: usize,
     pub ok: bool,

@@ -1,4 +1,5 @@
 // The report of a sheet, printed into a lent room.
+#![tactic(auto)]
 ghost use Rattle.std.specs.Prelude.{◌≡◌, ◌+◌, ◌-◌, ◌≤◌, length};
 ghost use Rattle.std.proofs.lemmas.List.Edits.{sets};
 ghost use Rattle.statement.specs.Reading.{read_of};
@@ -12,14 +13,14 @@ use statement::{Reading, Statement};
 use tokens::Name;
 
 // The sheet's reason (0 passed), and how many bytes its report has. Where the room is too short: 19, and 0.
-#[derive(Drop)]
+#[derive(Clone, Copy)]
 pub struct Printed {
     pub reason: u32,
     pub length: usize,
 }
 
 // What an alloc asks for; not ok: no alloc.
-#[derive(Drop)]
+#[derive(Clone, Copy)]
 struct Asked {
     ok: bool,
     name: Name,

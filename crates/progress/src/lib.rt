@@ -1,4 +1,5 @@
 // One line of a sheet: read, judged, booked and counted.
+#![tactic(auto)]
 ghost use Rattle.std.specs.Prelude.{◌≡◌, cond, ◌+◌, ◌-◌, ◌%◌, ◌≤◌, ◌<◌, max, eqb, length, set};
 ghost use Rattle.lines.specs.Sheet.{most_lines, line_at};
 ghost use Rattle.steps.specs.Steps.{arrays_now, arrays_in, arrays_out, only, Sized, LineDone};
@@ -9,7 +10,7 @@ use steps::{Status, Step};
 
 // What is known after some accepted lines, beside the arrays and the starts: what is kept, the requests, the columns held and
 // the most that were, and how many lines there are.
-#[derive(Drop)]
+#[derive(Clone, Copy)]
 pub struct Progress {
     pub status: Status,
     pub requests: usize,
@@ -19,7 +20,7 @@ pub struct Progress {
 }
 
 // One line more: its reason, or 0, the column of a line that is refused, and where the next line starts.
-#[derive(Drop)]
+#[derive(Clone, Copy)]
 pub struct Advanced {
     pub progress: Progress,
     pub reason: u32,
@@ -28,7 +29,7 @@ pub struct Advanced {
 }
 
 // What a line gives, its column, and where the next line starts.
-#[derive(Drop)]
+#[derive(Clone, Copy)]
 struct Stepped {
     step: Step,
     column: usize,

@@ -1,4 +1,5 @@
 // Statements, read.
+#![tactic(auto)]
 pub mod form;
 pub mod operand;
 
@@ -12,7 +13,7 @@ use statement::{Found, Metadata, Opcode, Reading, Statement};
 use tokens::{Cursor, Name};
 
 // The forms of a name and a number.
-#[derive(Drop)]
+#[derive(Clone, Copy)]
 pub enum Paired {
     Mov32,
     Mov64,
@@ -21,7 +22,7 @@ pub enum Paired {
 }
 
 // A name and a number, and what follows the form's end.
-#[derive(Drop)]
+#[derive(Clone, Copy)]
 pub struct Pair {
     pub name: Name,
     pub number: u64,
@@ -29,7 +30,7 @@ pub struct Pair {
 }
 
 // The metadata of an mma, and what follows it.
-#[derive(Drop)]
+#[derive(Clone, Copy)]
 pub struct MetadataRead {
     pub value: Metadata,
     pub next: Cursor,

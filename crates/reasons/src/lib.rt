@@ -1,4 +1,5 @@
 // The published numbers of the reasons. docs/FORMAT.md says when each is given.
+#![tactic(auto)]
 
 // passed
 pub const PASSED: u32 = 0;

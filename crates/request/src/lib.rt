@@ -1,4 +1,6 @@
 // A request for columns of Tensor Memory.
+#![tactic(auto)]
+
 ghost use Rattle.std.specs.Prelude.{◌≡◌};
 ghost use Rattle.request.specs.Request.{request_reason};
 

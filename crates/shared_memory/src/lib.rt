@@ -1,4 +1,6 @@
 // The shared memory descriptor: 64 bits. Addresses and offsets are in bytes.
+#![tactic(auto)]
+
 ghost use Rattle.std.specs.Prelude.{◌%◌, ◌≡◌, ◌&&◌, cond, eqb, leb};
 ghost use Rattle.std.proofs.Math.Option.{some};
 ghost use Rattle.laws.specs.Tests.{all};
@@ -6,7 +8,7 @@ ghost use Rattle.laws.specs.Layout.{pack, says, stands, ranges};
 ghost use Rattle.laws.proofs.LayoutLaws.{Inside};
 ghost use Rattle.shared_memory.specs.Shared.{layout, numbers, named, rules, zero, decoded, encoded};
 
-#[derive(Drop)]
+#[derive(Clone, Copy)]
 pub struct Shared {
     pub start: u64,
     pub leading: u64,
@@ -17,14 +19,14 @@ pub struct Shared {
 }
 
 // What decoding answers: 0 and the descriptor, or 12 and zeros.
-#[derive(Drop)]
+#[derive(Clone, Copy)]
 pub struct SharedRead {
     pub reason: u32,
     pub descriptor: Shared,
 }
 
 // What encoding answers: 0 and the word, or 12 and 0.
-#[derive(Drop)]
+#[derive(Clone, Copy)]
 pub struct SharedWord {
     pub reason: u32,
     pub word: u64,

@@ -1,4 +1,5 @@
 // The spellings of SHAPE, NUM and KIND, each in one place: the reader compares with them, the writer writes them.
+#![tactic(auto)]
 ghost use Rattle.statement.specs.Forms.{shape_text, num_text, kind_text};
 ghost use Rattle.spellings.specs.Spellings.{Spells};
 
@@ -6,7 +7,7 @@ use instruction::Kind;
 use statement::{Num, Shape};
 
 // The first `length` of eight bytes.
-#[derive(Drop)]
+#[derive(Clone, Copy)]
 pub struct Spelling {
     pub bytes: [u8; 8],
     pub length: usize,

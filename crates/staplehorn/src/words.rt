@@ -9,7 +9,7 @@ use instruction::{Fields, FieldsRead, InstructionWord, Kind};
 use shared_memory::Shared;
 
 // A kind with `.ws` and `.sp`.
-#[derive(Drop)]
+#[derive(Clone, Copy)]
 pub struct Opcode {
     pub kind: Kind,
     pub ws: bool,
@@ -17,20 +17,20 @@ pub struct Opcode {
 }
 
 // What a caller's numbers stand for, or nothing.
-#[derive(Drop)]
+#[derive(Clone, Copy)]
 pub enum KindRead {
     Is(Kind),
     Unknown,
 }
 
-#[derive(Drop)]
+#[derive(Clone, Copy)]
 pub enum OpcodeRead {
     Is(Opcode),
     Unknown,
 }
 
 // 0 and K, or 12 and 0.
-#[derive(Drop)]
+#[derive(Clone, Copy)]
 pub struct KRead {
     pub reason: u32,
     pub k: u32,

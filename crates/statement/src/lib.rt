@@ -1,4 +1,5 @@
 // The typed statement. Types and limits alone; what they mean, how they are read and written stands in specs/.
+#![tactic(auto)]
 use instruction::Kind;
 use tokens::{Cursor, Name};
 
@@ -11,7 +12,7 @@ pub const MAX64: u64 = 0xffff_ffff_ffff_ffff;
 pub const NAMES: usize = 128;
 
 // SHAPE of an access: lanes by bits.
-#[derive(Drop)]
+#[derive(Clone, Copy)]
 pub enum Shape {
     S32x32,
     S16x64,
@@ -20,7 +21,7 @@ pub enum Shape {
 }
 
 // NUM of an access, 1 to 128.
-#[derive(Drop)]
+#[derive(Clone, Copy)]
 pub enum Num {
     X1,
     X2,
@@ -33,27 +34,27 @@ pub enum Num {
 }
 
 // An address in tensor memory: a name, and an offset from what it stands for.
-#[derive(Drop)]
+#[derive(Clone, Copy)]
 pub struct Address {
     pub base: Name,
     pub offset: u32,
 }
 
 // Operand a of an mma.
-#[derive(Drop)]
+#[derive(Clone, Copy)]
 pub enum Operand {
     Descriptor(Name),
     Address(Address),
 }
 
 // Where the metadata of a sparse a stands: with `.sp` alone.
-#[derive(Drop)]
+#[derive(Clone, Copy)]
 pub enum Metadata {
     Dense,
     Sparse(Address),
 }
 
-#[derive(Drop)]
+#[derive(Clone, Copy)]
 pub struct Mma {
     pub ws: bool,
     pub kind: Kind,
@@ -66,7 +67,7 @@ pub struct Mma {
 }
 
 // A ld or st. The names of its registers stand beside the statement: here is how many there are.
-#[derive(Drop)]
+#[derive(Clone, Copy)]
 pub struct Access {
     pub shape: Shape,
     pub num: Num,
@@ -75,13 +76,13 @@ pub struct Access {
 }
 
 // A ld, from Tensor Memory to registers, or a st, the other way.
-#[derive(Drop)]
+#[derive(Clone, Copy)]
 pub enum Transfer {
     Load,
     Store,
 }
 
-#[derive(Drop)]
+#[derive(Clone, Copy)]
 pub enum Statement {
     Mov32(Name, u32),
     Mov64(Name, u64),
@@ -99,7 +100,7 @@ pub enum Statement {
 }
 
 // An opcode, one for each word. `shared`: with `.shared::cta`.
-#[derive(Drop)]
+#[derive(Clone, Copy)]
 pub enum Opcode {
     Mov32,
     Mov64,
@@ -117,14 +118,14 @@ pub enum Opcode {
 }
 
 // The opcode that a word is, if any.
-#[derive(Drop)]
+#[derive(Clone, Copy)]
 pub enum Found {
     Is(Opcode),
     Nothing,
 }
 
 // A statement; or the position of the token at which no form can go on, or that of a number that is out of range.
-#[derive(Drop)]
+#[derive(Clone, Copy)]
 pub enum Reading {
     Got(Statement),
     NoForm(usize),
@@ -133,7 +134,7 @@ pub enum Reading {
 
 // What a column points at: the line's first byte, where its warp stands; the token that no form has there, or the number that is out of range; the opcode; the name of an
 // operand, inside its bracket where it has one; an operand's first byte. Operands are counted from 0.
-#[derive(Drop)]
+#[derive(Clone, Copy)]
 pub enum Position {
     Start,
     Token,
@@ -143,32 +144,32 @@ pub enum Position {
 }
 
 // The length written, or the reason that there is none.
-#[derive(Drop)]
+#[derive(Clone, Copy)]
 pub enum Written {
     Length(usize),
     Refused(u32),
 }
 
-#[derive(Drop)]
+#[derive(Clone, Copy)]
 pub struct OffsetRead {
     pub value: u32,
     pub next: Cursor,
 }
 
-#[derive(Drop)]
+#[derive(Clone, Copy)]
 pub struct AddressRead {
     pub value: Address,
     pub next: Cursor,
 }
 
-#[derive(Drop)]
+#[derive(Clone, Copy)]
 pub struct OperandRead {
     pub value: Operand,
     pub next: Cursor,
 }
 
 // How many names a list has.
-#[derive(Drop)]
+#[derive(Clone, Copy)]
 pub struct CountRead {
     pub value: usize,
     pub next: Cursor,

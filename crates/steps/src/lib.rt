@@ -1,4 +1,5 @@
 // One statement of a sheet, judged and booked: its reason, and what the judge keeps afterwards.
+#![tactic(auto)]
 ghost use Rattle.std.specs.Prelude.{◌≡◌, List, ℕ, ◌<◌};
 ghost use Rattle.statement.specs.declared.Statement.TheVariants.{Dealloc, Relinquish};
 ghost use Rattle.steps.specs.Steps.{arrays_in, arrays_out, only, Sized, StatementDone, AllocDone, LedgerDone, MovDone, ledger_of, outstanding_of, stored, step_of, is_early, access_by, exit_of};
@@ -11,7 +12,7 @@ use tokens::Name;
 
 // What is kept beside the arrays of the ledger and of the table of value names, and the words of what is outstanding. `fixed`: a warp
 // is fixed, and `warp` says which. `exited`: exit was passed.
-#[derive(Drop)]
+#[derive(Clone, Copy)]
 pub struct Status {
     pub fixed: bool,
     pub warp: u8,
@@ -21,7 +22,7 @@ pub struct Status {
 
 // The reason, or 0; the start of an alloc, the columns asked for and given back, and what is kept. Of a statement that is
 // refused the columns are 0, and what is kept is what was.
-#[derive(Drop)]
+#[derive(Clone, Copy)]
 pub struct Step {
     pub reason: u32,
     pub start: u32,

@@ -1,7 +1,8 @@
 // Tokens of a statement: names, numbers and the cursor that reads them. Types alone; what they mean stands in specs/.
+#![tactic(auto)]
 
 // A name, packed: its first eight bytes, and the rest, each as the digits of a number at base 256.
-#[derive(Drop)]
+#[derive(Clone, Copy)]
 pub struct Name {
     pub hi: u64,
     pub lo: u64,
@@ -9,7 +10,7 @@ pub struct Name {
 
 // Where reading goes on; or, not ok, the first token at which no form can go on. `over`: a number or an expression was out of range, the
 // first such at `far`.
-#[derive(Drop)]
+#[derive(Clone, Copy)]
 pub struct Cursor {
     pub at: usize,
     pub ok: bool,
@@ -18,7 +19,7 @@ pub struct Cursor {
 }
 
 // What a token is as a number: none (not ok), one over 2^64-1, or a value; and how many bytes it took, none for no number.
-#[derive(Drop)]
+#[derive(Clone, Copy)]
 pub struct Numeral {
     pub ok: bool,
     pub over: bool,
@@ -26,13 +27,13 @@ pub struct Numeral {
     pub used: usize,
 }
 
-#[derive(Drop)]
+#[derive(Clone, Copy)]
 pub struct NameRead {
     pub value: Name,
     pub next: Cursor,
 }
 
-#[derive(Drop)]
+#[derive(Clone, Copy)]
 pub struct NumberRead {
     pub value: u64,
     pub next: Cursor,

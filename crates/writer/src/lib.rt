@@ -1,4 +1,5 @@
 // Statements, written.
+#![tactic(auto)]
 mod form;
 mod operand;
 mod output;

@@ -1,0 +1,36 @@
+-- `fragment::entry` meets its contract: each table is computed to be the matrix's, as a whole. Assumes nothing.
+use Prim.Native.Nat.{ℕ, ◌*◌, ◌<◌}
+use mathlib.Core.Path.{◌≡◌, refl, subst}
+use borrow.Author.Rules.{rules}
+use Rattle.fragment.specs.Fragment.{threads, elements, table_of}
+use Rattle.fragment.specs.declared.Matrix.{Matrix}
+use Rattle.fragment.proofs.FragmentLaws.{entry-is}
+use Rattle.fragment.proofs.entry.Goals as goal
+
+-- in an arm the matrix is known, and so the length of its table
+within : {m n : Matrix} {k : ℕ} → m ≡ n → k < threads * elements m → k < threads * elements n
+within {k = k} e l = subst (λ (m : Matrix). k < threads * elements m) e l
+
+pub returns-in-A : goal.returns-in-A
+unfolding table_of
+returns-in-A c = rw c.in-A.is (entry-is Matrix.A _ c.args.k refl)
+
+pub returns-in-B : goal.returns-in-B
+unfolding table_of
+returns-in-B c = rw c.in-B.is (entry-is Matrix.B _ c.args.k refl)
+
+pub returns-in-C : goal.returns-in-C
+unfolding table_of
+returns-in-C c = rw c.in-C.is (entry-is Matrix.C _ c.args.k refl)
+
+-- TODO array-read-result
+-- pub array-read-result : goal.array-read-result
+-- array-read-result c = within c.in-A.is c.requires
+
+-- TODO array-read-result-2
+-- pub array-read-result-2 : goal.array-read-result-2
+-- array-read-result-2 c = within c.in-B.is c.requires
+
+-- TODO array-read-result-3
+-- pub array-read-result-3 : goal.array-read-result-3
+-- array-read-result-3 c = within c.in-C.is c.requires
