@@ -1,4 +1,5 @@
 #![tactic(auto)]
+
 pub mod bytes;
 pub mod cursor;
 pub mod name;

@@ -1,5 +1,6 @@
 // Lines of a sheet: whether a sheet is too large, whether it begins with its header, and the line at a place.
 #![tactic(auto)]
+
 ghost use Rattle.std.specs.Prelude.{◌≡◌, true, cond, ◌+◌, ◌<◌, ◌≤◌, ◌^◌, length, get_or, take, drop};
 ghost use Rattle.laws.specs.Tests.{bit};
 ghost use Rattle.tokens.specs.Bytes.{all, run_len};

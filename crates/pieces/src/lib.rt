@@ -1,5 +1,6 @@
 // Pieces of a text that is written: bytes stored in a buffer, and the digits of a number, decimal or at base 256.
 #![tactic(auto)]
+
 ghost use Rattle.std.specs.Prelude.{◌≡◌, ◌+◌, ◌≤◌, length, take, drop};
 ghost use Rattle.std.proofs.lemmas.List.Edits.{sets};
 ghost use Rattle.tokens.specs.Names.{low_bytes, strip};

@@ -23,14 +23,11 @@ pub returns-in-C : goal.returns-in-C
 unfolding table_of
 returns-in-C c = rw c.in-C.is (entry-is Matrix.C _ c.args.k refl)
 
--- TODO array-read-result
--- pub array-read-result : goal.array-read-result
--- array-read-result c = within c.in-A.is c.requires
+pub bounds-k : goal.bounds-k
+bounds-k c = within c.in-A.is c.requires
 
--- TODO array-read-result-2
--- pub array-read-result-2 : goal.array-read-result-2
--- array-read-result-2 c = within c.in-B.is c.requires
+pub bounds-k-in-B : goal.bounds-k-in-B
+bounds-k-in-B c = within c.in-B.is c.requires
 
--- TODO array-read-result-3
--- pub array-read-result-3 : goal.array-read-result-3
--- array-read-result-3 c = within c.in-C.is c.requires
+pub bounds-k-in-C : goal.bounds-k-in-C
+bounds-k-in-C c = within c.in-C.is c.requires

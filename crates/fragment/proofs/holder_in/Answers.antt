@@ -3,7 +3,7 @@ use mathlib.Core.Path.{sym, ap, ◌∙◌}
 use mathlib.Core.Bool.{true, false}
 use borrow.Author.Rules.{rules}
 use Rattle.fragment.specs.Fragment.{rows, columns, place, held_by}
-use Rattle.fragment.proofs.FragmentLaws.{counted, holder_in}
+use Rattle.fragment.proofs.FragmentLaws.{counted, holder_in_lem}
 use Rattle.fragment.proofs.holder_in.Goals as goal
 
 pub holder_at-requires : goal.holder_at-requires
@@ -16,7 +16,7 @@ returns-then-row-column c =
     let a = c.args in
     let n = c.columns in
     sym (ap held_by c.holder_at.ensures)
-    ∙ sym (holder_in a.m (place a.row a.column) true
+    ∙ sym (holder_in_lem a.m (place a.row a.column) true
     (counted rows a.row a.column n.result (columns a.m) true n.ensures c.if-row-column.true))
 
 pub returns-else-row-column : goal.returns-else-row-column
@@ -24,5 +24,5 @@ returns-else-row-column c =
     let a = c.args in
     let n = c.columns in
     c.no_holder.ensures
-    ∙ sym (holder_in a.m (place a.row a.column) false
+    ∙ sym (holder_in_lem a.m (place a.row a.column) false
     (counted rows a.row a.column n.result (columns a.m) false n.ensures c.if-row-column.false))

@@ -1,0 +1,11 @@
+-- `lexer::cursor::end` meets its contract: it is the mark's cursor, and nothing is left where the position is not below the length. Assumes nothing.
+use Rattle.tokens.specs.Cursors.{end_c}
+use Rattle.lexer.proofs.Laws.{end_law}
+use borrow.Author.Rules.{rules}
+use Rattle.lexer.proofs.cursor.end.Goals as goal
+
+pub returns : goal.returns
+unfolding end_c
+returns c =
+    let m = c.mark-d in
+    (rw (← m.ensures.0, end_law c.args.s.now m.result.at), m.ensures.1)

@@ -1,0 +1,57 @@
+-- `lexer::name::pack` meets its contract. The loop's invariant: the bytes from here, after w, are the bytes from the start after v, and end where these do; w has at most eight bits for each byte there was room for. Assumes nothing.
+use Prim.Native.Nat.{◌+◌, ◌-◌, ◌^◌, ◌*◌, ◌≤◌, ◌<◌}
+use mathlib.Core.Path.{◌≡◌, refl, sym, ◌∙◌}
+use lib.ListN.{length, drop, take, length-drop}
+use native.Mathlib.Omega.{arith}
+use borrow.Author.Rules.{rules}
+use borrow.Author.Tests.{not-true, not-false}
+use Rattle.tokens.specs.Bytes.{word_byte}
+use Rattle.tokens.specs.Names.{byte_digits}
+use Rattle.lexer.specs.Runs.{words_len}
+use Rattle.tokens.proofs.Runs.{run_le, run_step, run_stop}
+use Rattle.lexer.proofs.Names.{pack-start, pack_step, pack-none, cap_next, cap_step, cap_small}
+use Rattle.lexer.proofs.name.pack.Goals as goal
+
+pub loop-i-init : goal.loop-i-init
+loop-i-init c =
+    let a = c.args in
+    let p = pack-start a.at a.room in
+    rw (p.0, p.1) (omega arith, omega arith, c.requires.2, refl, refl)
+
+pub returns-then-not-is_word : goal.returns-then-not-is_word
+returns-then-not-is_word c =
+    let a = c.args in
+    let l = c.loop-i in
+    let d : l.i < length a.s.now = omega arith in
+    let r = run_stop word_byte a.s.now l.i d (sym c.is_IsWord.ensures ∙ not-true _ c.if-not-is_word.true-raw) in
+    let z : words_len (a.at + a.room - l.i) (drop l.i a.s.now) ≡ 0 = omega arith in
+    (sym (pack-none (drop l.i a.s.now) l.w _ z) ∙ l.invariant.3, omega arith)
+
+pub overflow_mul-w : goal.overflow_mul-w
+overflow_mul-w c = omega (arith, cap_small (8 - c.args.room + (c.loop-i.i - c.args.at)) (omega arith))
+
+pub overflow_add-w : goal.overflow_add-w
+overflow_add-w c = omega (arith, cap_small (8 - c.args.room + (c.loop-i.i - c.args.at)) (omega arith), c.shared_slice_known-in-loop-i-1.given c.loop-i.i)
+
+pub loop-i-preserved : goal.loop-i-preserved
+loop-i-preserved c =
+    let a = c.args in
+    let l = c.loop-i in
+    let d : l.i < length a.s.now = omega arith in
+    let q : l.i < a.at + a.room = omega arith in
+    let b = sym c.is_IsWord.ensures ∙ not-false _ c.if-not-is_word.false-raw in
+    let k = 8 - a.room + (l.i - a.at) in
+    rw c.wide.ensures (
+      omega arith,
+      omega arith,
+      rw (cap_next a.room a.at l.i l.invariant.0) (omega (arith, cap_step k, c.shared_slice_known-in-loop-i-1.given l.i)),
+      sym (pack_step a.s.now l.w (a.at + a.room) l.i q d b) ∙ l.invariant.3,
+      omega (arith, run_step word_byte a.s.now l.i d b),
+    )
+
+pub returns : goal.returns
+returns c =
+    let a = c.args in
+    let l = c.loop-i in
+    let z : words_len (a.at + a.room - l.i) (drop l.i a.s.now) ≡ 0 = omega (arith, run_le word_byte (drop l.i a.s.now), length-drop l.i a.s.now) in
+    (sym (pack-none (drop l.i a.s.now) l.w _ z) ∙ l.invariant.3, omega arith)
