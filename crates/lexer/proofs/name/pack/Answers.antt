@@ -23,7 +23,7 @@ returns-then-not-is_word c =
     let a = c.args in
     let l = c.loop-i in
     let d : l.i < length a.s.now = omega arith in
-    let r = run_stop word_byte a.s.now l.i d (sym c.is_IsWord.ensures ∙ not-true _ c.if-not-is_word.true-raw) in
+    let r = run_stop word_byte a.s.now l.i d (sym c.is_word.ensures ∙ not-true _ c.if-not-is_word.true-raw) in
     let z : words_len (a.at + a.room - l.i) (drop l.i a.s.now) ≡ 0 = omega arith in
     (sym (pack-none (drop l.i a.s.now) l.w _ z) ∙ l.invariant.3, omega arith)
 
@@ -39,7 +39,7 @@ loop-i-preserved c =
     let l = c.loop-i in
     let d : l.i < length a.s.now = omega arith in
     let q : l.i < a.at + a.room = omega arith in
-    let b = sym c.is_IsWord.ensures ∙ not-false _ c.if-not-is_word.false-raw in
+    let b = sym c.is_word.ensures ∙ not-false _ c.if-not-is_word.false-raw in
     let k = 8 - a.room + (l.i - a.at) in
     rw c.wide.ensures (
       omega arith,

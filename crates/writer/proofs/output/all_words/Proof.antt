@@ -30,7 +30,7 @@ returns : tie.Need-returns invariant-loop decreases-loop
 returns c =
     let a = c.before.before.before.before.before.args in
     let i = c.before.before.before.before.loop.i in
-    all_stop word_byte a.d.now i (omega arith) (sym c.before.is_IsWord.ensures ∙ not-true c.before.is_IsWord.result c.if1.true) ∙ c.before.before.before.before.loop.invariant
+    all_stop word_byte a.d.now i (omega arith) (sym c.before.is_word.ensures ∙ not-true c.before.is_word.result c.if1.true) ∙ c.before.before.before.before.loop.invariant
 
 add-i : tie.Need-overflow-add-i invariant-loop decreases-loop
 add-i c = omega arith
@@ -42,7 +42,7 @@ loop-again : tie.Need-loop-preserved invariant-loop decreases-loop
 loop-again c =
     let a = c.before.before.before.before.before.args in
     let i = c.before.before.before.before.loop.i in
-    all_step word_byte a.d.now i (omega arith) (sym c.before.is_IsWord.ensures ∙ not-false c.before.is_IsWord.result c.if1.false) ∙ c.before.before.before.before.loop.invariant
+    all_step word_byte a.d.now i (omega arith) (sym c.before.is_word.ensures ∙ not-false c.before.is_word.result c.if1.false) ∙ c.before.before.before.before.loop.invariant
 
 returns-2 : tie.Need-returns-2 invariant-loop decreases-loop
 returns-2 c = all_end word_byte c.before.before.args.d.now c.before.loop.i (omega arith) ∙ c.before.loop.invariant
