@@ -1,5 +1,6 @@
 // The printed report, put line by line into a lent buffer: what has no room is left out whole.
 #![tactic(auto)]
+
 ghost use Rattle.std.specs.Prelude.{◌≡◌, ◌+◌, ◌≤◌, length};
 ghost use Rattle.std.proofs.lemmas.List.Edits.{sets};
 ghost use Rattle.tokens.specs.Names.{name_bytes};

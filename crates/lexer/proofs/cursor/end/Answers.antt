@@ -8,4 +8,4 @@ pub returns : goal.returns
 unfolding end_c
 returns c =
     let m = c.mark-d in
-    (rw (← m.ensures.0, end_law c.args.s.now m.result.at), m.ensures.1)
+    (record { rest = rw (← m.ensures.rest, end_law c.args.s.now m.result.at); within = m.ensures.within })

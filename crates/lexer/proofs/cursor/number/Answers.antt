@@ -14,7 +14,7 @@ use Rattle.lexer.proofs.cursor.number.Goals as goal
 
 pub returns-then-not-k : goal.returns-then-not-k
 unfolding number_c
-returns-then-not-k c = (rw (not-true c.args.k.ok c.if-not-k.true), λ w. w)
+returns-then-not-k c = (record { rest = rw (not-true c.args.k.ok c.if-not-k.true); within = λ w. w })
 
 pub returns-then-not-n : goal.returns-then-not-n
 unfolding number_c
@@ -22,14 +22,14 @@ returns-then-not-n c =
     let a = c.args in
     let i = c.blanks_end-i in
     let n = c.numeral-n in
-    rw c.moved.ensures (
-      rw (
+    rw c.moved.ensures (record {
+      rest = rw (
         not-false a.k.ok c.if-not-k.false,
         ← blank_law a.s.now a.k.at i.result i.ensures,
         number-none a.limit c.ranges.limit.fits _ (seen a.s.now a.k) n.result n.ensures (not-true _ c.if-not-n.true),
-      ),
-      λ w. (blank-within a.s.now a.k.at i.result i.ensures w.0, w.1),
-    )
+      );
+      within = λ w. (blank-within a.s.now a.k.at i.result i.ensures w.0, w.1);
+    })
 
 pub overflow_add-e : goal.overflow_add-e
 overflow_add-e c =
@@ -45,15 +45,15 @@ returns-then-n-limit c =
     let n = c.numeral-n in
     let o = not-false _ c.if-not-n.false in
     let e = ap (λ (k : ℕ). i.result + k) (used_token (drop i.result a.s.now) n.result n.ensures o) in
-    rw c.past.ensures (
-      rw (
+    rw c.past.ensures (record {
+      rest = rw (
         far_law,
         not-false a.k.ok c.if-not-k.false,
         ← blank_law a.s.now a.k.at i.result i.ensures,
         number_big a.limit c.ranges.limit.fits _ (seen a.s.now a.k) n.result n.ensures _ (after_law a.s.now i.result _ e) o c.if-n-limit.true,
-      ),
-      λ w. (end-within a.s.now i.result _ true e (blank-within a.s.now a.k.at i.result i.ensures w.0), far_within _ a.k.over a.k.far i.result w.1 (blank-within a.s.now a.k.at i.result i.ensures w.0)),
-    )
+      );
+      within = λ w. (end-within a.s.now i.result _ true e (blank-within a.s.now a.k.at i.result i.ensures w.0), far_within _ a.k.over a.k.far i.result w.1 (blank-within a.s.now a.k.at i.result i.ensures w.0));
+    })
 
 pub returns : goal.returns
 unfolding number_c
@@ -63,11 +63,11 @@ returns c =
     let n = c.numeral-n in
     let o = not-false _ c.if-not-n.false in
     let e = ap (λ (k : ℕ). i.result + k) (used_token (drop i.result a.s.now) n.result n.ensures o) in
-    rw c.moved-2.ensures (
-      rw (
+    rw c.moved-2.ensures (record {
+      rest = rw (
         not-false a.k.ok c.if-not-k.false,
         ← blank_law a.s.now a.k.at i.result i.ensures,
         number_small a.limit c.ranges.limit.fits _ (seen a.s.now a.k) n.result n.ensures _ (after_law a.s.now i.result _ e) o c.if-n-limit.false,
-      ),
-      λ w. (end-within a.s.now i.result _ true e (blank-within a.s.now a.k.at i.result i.ensures w.0), w.1),
-    )
+      );
+      within = λ w. (end-within a.s.now i.result _ true e (blank-within a.s.now a.k.at i.result i.ensures w.0), w.1);
+    })

@@ -25,7 +25,7 @@ returns-then-not-is_word c =
     let d : l.i < length a.s.now = omega arith in
     let r = run_stop word_byte a.s.now l.i d (sym c.is_word.ensures ∙ not-true _ c.if-not-is_word.true-raw) in
     let z : words_len (a.at + a.room - l.i) (drop l.i a.s.now) ≡ 0 = omega arith in
-    (sym (pack-none (drop l.i a.s.now) l.w _ z) ∙ l.invariant.3, omega arith)
+    (record { value = sym (pack-none (drop l.i a.s.now) l.w _ z) ∙ l.invariant.3; end = omega arith })
 
 pub overflow_mul-w : goal.overflow_mul-w
 overflow_mul-w c = omega (arith, cap_small (8 - c.args.room + (c.loop-i.i - c.args.at)) (omega arith))
@@ -54,4 +54,4 @@ returns c =
     let a = c.args in
     let l = c.loop-i in
     let z : words_len (a.at + a.room - l.i) (drop l.i a.s.now) ≡ 0 = omega (arith, run_le word_byte (drop l.i a.s.now), length-drop l.i a.s.now) in
-    (sym (pack-none (drop l.i a.s.now) l.w _ z) ∙ l.invariant.3, omega arith)
+    (record { value = sym (pack-none (drop l.i a.s.now) l.w _ z) ∙ l.invariant.3; end = omega arith })

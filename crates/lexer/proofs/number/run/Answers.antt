@@ -19,13 +19,10 @@ returns-then-base-x c =
     let a = c.args in
     let l = c.loop-i in
     let h = c.loop-i-test.true in
-    let g : (notation_of a.b).base ≤ digit_of (get_or a.s.now l.i 0) = rw (c.base_of-base.ensures, c.digit_of-x.ensures) at c.if-base-x.true in (
-      λ used. fit_small used l.v _ l.invariant.0 (sym (after_stop a.b a.s.now l.v l.i h g) ∙ l.invariant.1),
-      omega (arith, run_stop (among (notation_of a.b).digits) a.s.now l.i h (digit_no a.b _ g), l.invariant.2),
-    )
+    let g : (notation_of a.b).base ≤ digit_of (get_or a.s.now l.i 0) = rw (c.base_of-base.ensures, c.digit_of-x.ensures) at c.if-base-x.true in (record { value = λ used. fit_small used l.v _ l.invariant.0 (sym (after_stop a.b a.s.now l.v l.i h g) ∙ l.invariant.1); end = omega (arith, run_stop (among (notation_of a.b).digits) a.s.now l.i h (digit_no a.b _ g), l.invariant.2) })
 
 pub has_room-requires : goal.has_room-requires
-has_room-requires c = (c.roomy-most.ensures, rw c.wide-d.ensures (rw c.base_of-base.ensures at c.if-base-x.false))
+has_room-requires c = (record { most_value = c.roomy-most.ensures; d_bound = rw c.wide-d.ensures (rw c.base_of-base.ensures at c.if-base-x.false) })
 
 pub returns-then-not-has_room : goal.returns-then-not-has_room
 returns-then-not-has_room c =
@@ -34,10 +31,7 @@ returns-then-not-has_room c =
     let b = c.base_of-base in
     let o : 2 ^ 64 ≤ l.v * (notation_of a.b).base + digit_of (get_or a.s.now l.i 0) =
     ltb-false _ _ (rw (c.wide-d.ensures, c.digit_of-x.ensures) at (sym c.has_room.ensures ∙ not-true _ c.if-not-has_room.true-raw)) in
-    let g : digit_of (get_or a.s.now l.i 0) < (notation_of a.b).base = rw (b.ensures, c.digit_of-x.ensures) at c.if-base-x.false in (
-      λ used. fit_over used _ (rw (← l.invariant.1) (after-over a.b a.s.now l.v l.i c.loop-i-test.true g o)),
-      (rw b.ensures at c.digits_end-end.ensures) ∙ (ap (λ (k : ℕ). l.i + k) (run_below a.b (drop l.i a.s.now)) ∙ l.invariant.2),
-    )
+    let g : digit_of (get_or a.s.now l.i 0) < (notation_of a.b).base = rw (b.ensures, c.digit_of-x.ensures) at c.if-base-x.false in (record { value = λ used. fit_over used _ (rw (← l.invariant.1) (after-over a.b a.s.now l.v l.i c.loop-i-test.true g o)); end = (rw b.ensures at c.digits_end-end.ensures) ∙ (ap (λ (k : ℕ). l.i + k) (run_below a.b (drop l.i a.s.now)) ∙ l.invariant.2) })
 
 pub overflow_mul-v : goal.overflow_mul-v
 overflow_mul-v c =
@@ -71,7 +65,4 @@ pub returns : goal.returns
 returns c =
     let a = c.args in
     let l = c.loop-i in
-    let h = c.loop-i-test.false in (
-      λ used. fit_small used l.v _ l.invariant.0 (sym (after-past a.b a.s.now l.v l.i h) ∙ l.invariant.1),
-      omega (arith, run_past (among (notation_of a.b).digits) a.s.now l.i h, l.invariant.2),
-    )
+    let h = c.loop-i-test.false in (record { value = λ used. fit_small used l.v _ l.invariant.0 (sym (after-past a.b a.s.now l.v l.i h) ∙ l.invariant.1); end = omega (arith, run_past (among (notation_of a.b).digits) a.s.now l.i h, l.invariant.2) })
