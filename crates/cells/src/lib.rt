@@ -1,5 +1,6 @@
 // Registers, lanes and columns of an access, from one table, and reason 5's test.
 #![tactic(auto)]
+
 ghost use Rattle.std.specs.Prelude.{◌≡◌};
 ghost use Rattle.statement.specs.Cells.{times, registers_for, lanes_for, columns_for, miscounted, counted};
 ghost use Rattle.cells.specs.Rows.{row_of};

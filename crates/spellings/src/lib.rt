@@ -1,5 +1,6 @@
 // The spellings of SHAPE, NUM and KIND, each in one place: the reader compares with them, the writer writes them.
 #![tactic(auto)]
+
 ghost use Rattle.statement.specs.Forms.{shape_text, num_text, kind_text};
 ghost use Rattle.spellings.specs.Spellings.{Spells};
 

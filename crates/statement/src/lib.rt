@@ -1,5 +1,6 @@
 // The typed statement. Types and limits alone; what they mean, how they are read and written stands in specs/.
 #![tactic(auto)]
+
 use instruction::Kind;
 use tokens::{Cursor, Name};
 
