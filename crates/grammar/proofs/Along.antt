@@ -27,8 +27,11 @@ module _ (R : List ℕ → List ℕ → Type 0) (a : Along R) where
   sum-along : OperatorHolds SumOperator
   sum-along o.Plus l r (added m) = a.mark (byte "+") refl refl refl m
   sum-along o.Minus l r (taken m) = a.mark (byte "-") refl refl refl m
+  sum-along o.Times l r z = elim z [ ]
 
   product-along : OperatorHolds ProductOperator
+  product-along o.Plus l r z = elim z [ ]
+  product-along o.Minus l r z = elim z [ ]
   product-along o.Times l r (times m) = a.mark (byte "*") refl refl refl m
 
   module _ (S : OperatorText) (F : ResultText) (s : OperatorHolds S) (f : Holds F) where

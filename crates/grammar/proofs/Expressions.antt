@@ -66,6 +66,7 @@ unfolding sum_c blank
 sum_complete o.Plus l r v g (added m) = rw (mark_complete (byte "+") l r v g refl m)
 sum_complete o.Minus l r v g (taken m) =
     rw (mark-not (byte "+") l v g (λ s k. mark_two (byte "-") (byte "+") l r s refl refl refl m k), mark_complete (byte "-") l r v g refl m)
+sum_complete o.Times l r v g z = elim z [ ]
 
 product_sound : OperatorSound product_c ProductOperator
 unfolding product_c
@@ -73,6 +74,8 @@ product_sound r h = let x = mark_sound (byte "*") r h in (x.0, times x.1)
 
 product_complete : OperatorComplete product_c ProductOperator
 unfolding product_c blank
+product_complete o.Plus l r v g z = elim z [ ]
+product_complete o.Minus l r v g z = elim z [ ]
 product_complete o.Times l r v g (times m) = rw (mark_complete (byte "*") l r v g refl m)
 
 -- ---- chains

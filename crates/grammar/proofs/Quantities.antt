@@ -69,8 +69,11 @@ ended_by r h = (no_sum, no_product)
     no_sum : Without SumOperator r
     no_sum o.Plus s (added k) = first_mark (byte "+") r s refl refl h k
     no_sum o.Minus s (taken k) = first_mark (byte "-") r s refl refl h k
+    no_sum o.Times s z = elim z [ ]
 
     no_product : Without ProductOperator r
+    no_product o.Plus s z = elim z [ ]
+    no_product o.Minus s z = elim z [ ]
     no_product o.Times s (times k) = first_mark (byte "*") r s refl refl h k
 
 -- where the first byte past the spaces is a mark, the mark stands there

@@ -213,6 +213,7 @@ more_complete (suc k) (n ∷ ns) l r o f h (comma {l₁ = l₁} {l₂ = l₂} m 
 
 pub names_complete : (v : List Name) (l r : List ℕ) (o : Bool) (f : List ℕ) → NamesText v l r → names_c (at l o f) ≡ record { value = v; next = at r o f }
 unfolding names_c blank
+names_complete [] l r o f z = elim z [ ]
 names_complete (n ∷ ns) l r o f (opens {l₁ = l₁} {l₂ = l₂} h m t i) =
     rw (mark_complete (byte "{") l l₁ o f refl m, name_complete n l₁ l₂ o f t, more_complete 127 ns l₂ r o f h i)
 

@@ -243,6 +243,7 @@ more_given [] l r (closes m) = refl
 more_given (n ∷ ns) l r (comma {l₁ = l₁} {l₂ = l₂} m t i) = rw (name-given n l₁ l₂ t) (more_given ns l₂ r i)
 
 names-given : (v : List Name) (l r : List ℕ) → NamesText v l r → slot_given names v ≡ true
+names-given [] l r z = elim z [ ]
 names-given (n ∷ ns) l r (opens {l₁ = l₁} {l₂ = l₂} h m t i) =
     let a : 0 < suc (length ns) = omega arith in
     let b : suc (length ns) ≤ 128 = omega arith in
