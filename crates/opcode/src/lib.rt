@@ -1,5 +1,6 @@
 // The opcode at the head of a text: a few bytes tell the one that it can be, and the text is compared with that one's word.
 #![tactic(auto)]
+
 mod candidate;
 mod piece;
 

@@ -1,5 +1,6 @@
 // Statements, written.
 #![tactic(auto)]
+
 mod form;
 mod operand;
 mod output;

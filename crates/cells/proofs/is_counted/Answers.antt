@@ -1,5 +1,4 @@
 -- `cells::is_counted` meets its contract: a ld and a st by their test, any other statement by one law. Assumes nothing.
-use Rattle.std.proofs.Common.{sym}
 use mathlib.Core.Logic.{⊎_elim}
 use Rattle.statement.specs.Cells.{counted}
 use Rattle.cells.proofs.Laws.{counted_other}
@@ -12,4 +11,4 @@ pub returns-in-Load : goal.returns-in-Load
 unfolding counted
 returns-in-Load c =
     let h = c.is_miscounted.ensures in
-    ⊎_elim (λ w. rw (w, ← h)) (λ w. rw (w, ← h)) c.in-Load.is
+    ⊎_elim (λ w. rw (w, h)) (λ w. rw (w, h)) c.in-Load.is

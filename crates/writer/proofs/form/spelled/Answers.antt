@@ -1,0 +1,11 @@
+-- `writer::form::spelled` meets its contract: the bytes meant are inside the eight. Assumes nothing.
+use mathlib.Core.Path.{sym}
+use native.Mathlib.Omega.{arith}
+use lib.Seq.{length-take-le}
+use borrow.Author.Rules.{rules}
+use Rattle.writer.proofs.form.spelled.Goals as goal
+
+pub slice_bounds-put-end : goal.slice_bounds-put-end
+slice_bounds-put-end c =
+    let p = c.requires in
+    sym (length-take-le _ _ (omega (arith, p.0, p.1)))

@@ -1,0 +1,15 @@
+-- `writer::operand::address` meets its contract: four additions are one. Assumes nothing.
+use lib.Dec.{leb}
+use borrow.Author.Rules.{rules}
+use Rattle.tokens.specs.Names.{name_bytes, name_given}
+use Rattle.statement.specs.Forms.{max32}
+use Rattle.statement.specs.Canonical.{address_text, offset_text}
+use Rattle.writer.specs.Outputs.{out_seen}
+use Rattle.writer.proofs.Rows.{address_law}
+use Rattle.writer.proofs.operand.address.Goals as goal
+
+pub returns : goal.returns
+unfolding address_text
+returns c =
+    let a = c.args in
+    cc (address_law (name_bytes a.x.base) (offset_text a.x.offset) (name_given a.x.base) (leb a.x.offset max32) (out_seen a.t.now a.at))

@@ -1,0 +1,16 @@
+-- `writer::operand::listed` meets its contract: what is left of the names after each turn, added to what is written, is what was left after the first. Assumes nothing.
+use Prim.Native.Nat.{◌-◌, ◌≤◌}
+use native.Mathlib.Omega.{arith}
+use mathlib.Core.Path.{refl, ◌≡◌, ◌∙◌}
+use lib.ListN.{drop}
+use borrow.Author.Rules.{rules}
+use Rattle.statement.specs.Canonical.{more_names_text, all_names}
+use Rattle.writer.specs.Outputs.{out_seen, add_c, firsts}
+use Rattle.writer.proofs.Rows.{names-start, names_step, names-end}
+use Rattle.writer.proofs.operand.listed.Given as goal
+
+abbrev pub invariant-loop-i : goal.invariant-loop-i
+invariant-loop-i l = (1 ≤ l.i) × (add_c (more_names_text (drop l.i (firsts l.initial.t l.at l.hi))) (all_names (drop l.i (firsts l.initial.t l.at l.hi))) (out_seen l.t l.k) ≡ add_c (more_names_text (drop 1 (firsts l.initial.t l.at l.hi))) (all_names (drop 1 (firsts l.initial.t l.at l.hi))) (out_seen l.fn.t l.count))
+
+abbrev pub decreases-loop-i : goal.decreases-loop-i
+decreases-loop-i l = l.hi - l.i
