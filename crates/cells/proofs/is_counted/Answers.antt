@@ -11,4 +11,4 @@ pub returns-in-Load : goal.returns-in-Load
 unfolding counted
 returns-in-Load c =
     let h = c.is_miscounted.ensures in
-    ⊎_elim (λ w. rw (w, h)) (λ w. rw (w, h)) c.in-Load.is
+    ⊎_elim (λ w. rw (w, h) ?) (λ w. rw (w, h) ?) c.in-Load.is

@@ -10,7 +10,7 @@ use Rattle.writer.proofs.Rows.{names-start, names_step, names-end}
 use Rattle.writer.proofs.operand.listed.Given as goal
 
 abbrev pub invariant-loop-i : goal.invariant-loop-i
-invariant-loop-i l = (1 ≤ l.i) × (add_c (more_names_text (drop l.i (firsts l.initial.t l.at l.hi))) (all_names (drop l.i (firsts l.initial.t l.at l.hi))) (out_seen l.t l.k) ≡ add_c (more_names_text (drop 1 (firsts l.initial.t l.at l.hi))) (all_names (drop 1 (firsts l.initial.t l.at l.hi))) (out_seen l.fn.t l.count))
+invariant-loop-i l = (1 ≤ l.i) × (add_c (more_names_text (drop l.i (firsts l.hi l.lo l.count))) (all_names (drop l.i (firsts l.hi l.lo l.count))) (out_seen l.t l.k) ≡ add_c (more_names_text (drop 1 (firsts l.hi l.lo l.count))) (all_names (drop 1 (firsts l.hi l.lo l.count))) (out_seen l.initial.t l.initial.k))
 
 abbrev pub decreases-loop-i : goal.decreases-loop-i
-decreases-loop-i l = l.hi - l.i
+decreases-loop-i l = l.count - l.i
