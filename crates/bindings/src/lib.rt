@@ -1,6 +1,7 @@
 // The names that `mov` bound, by value: a table of 128 entries, each with a name, its number and its width (32 or 64; 0 where the
 // entry is unbound).
 #![tactic(auto)]
+
 ghost use Rattle.std.specs.Prelude.{◌≡◌, ◌≤◌};
 ghost use Rattle.bindings.specs.Table.{empty, home_of, stops, entry_of, value_in};
 

@@ -2,15 +2,16 @@
 use Prim.Native.Nat.{ℕ, ◌*◌, ◌≤◌, ◌<◌, ◌^◌}
 use native.Mathlib.Nat.{mul-le-mul}
 use native.Mathlib.Omega.{arith}
-use mathlib.Core.Path.{◌≡◌, refl}
-use mathlib.Core.Bool.{true}
+use mathlib.Core.Path.{◌≡◌, refl, sym, ap}
+use mathlib.Core.Bool.{true, not}
+use mathlib.Core.Logic.{◌⊎◌, inl, inr}
 use Rattle.statement.specs.declared.Statement.{Statement}
 use Rattle.statement.specs.declared.Access.{Access}
 use Rattle.statement.specs.declared.Shape.{Shape}
 use Rattle.statement.specs.declared.Shape.TheVariants.{S32x32, S16x64, S16x128, S16x256}
 use Rattle.statement.specs.declared.Num.{Num}
 use Rattle.statement.specs.declared.Num.TheVariants.{X1, X2, X4, X8, X16, X32, X64, X128}
-use Rattle.statement.specs.Cells.{times, cells, columns_for, counted}
+use Rattle.statement.specs.Cells.{times, cells, columns_for, counted, miscounted}
 
 times-le : (num : Num) → times num ≤ 128
 times-le X1 = omega arith
@@ -59,3 +60,9 @@ counted_other Statement.FenceBefore h k = refl
 counted_other Statement.FenceAfter h k = refl
 counted_other (Statement.Multiply m) h k = refl
 counted_other Statement.Exit h k = refl
+
+-- a ld or a st is counted where its registers are
+pub counted_access : (t : Statement) (a : Access) → (t ≡ Statement.Load a) ⊎ (t ≡ Statement.Store a) → not (miscounted a) ≡ counted t
+unfolding counted
+counted_access t a (inl e) = sym (ap counted e)
+counted_access t a (inr e) = sym (ap counted e)

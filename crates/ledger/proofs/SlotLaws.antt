@@ -389,7 +389,7 @@ module _ (hi lo columns : List ℕ) (live : List Allocation) (m : Slots hi lo co
       up : (i : ℕ) → i < 16 → 0 < get_or (set columns p k) i 0 → (eqb i p ≡ true) ⊎ (eqb i p ≡ false)
           → Among (slot_at (set hi p n.hi) (set lo p n.lo) (set columns p k) i) (record { name = n; start = p * 32; columns = k } ∷ live)
       up i x y (inl w) = inl (rw (eqb-true i p w) new)
-      up i x y (inr w) = inr (rw (old i (eqb-false i p w)) (m.up i x (omega (arith, y, get_or-set_other columns p i k 0 (eqb-false i p w)))))
+      up i x y (inr w) = inr (subst (λ (a : Allocation). Among a live) (sym (old i (eqb-false i p w))) (m.up i x (omega (arith, y, get_or-set_other columns p i k 0 (eqb-false i p w)))))
 
   -- the slot of a name emptied
   pub slots_release : (n : Name) → slot_of hi lo columns n < 16 → Slots hi lo (set columns (slot_of hi lo columns n) 0) (rules.without n live)

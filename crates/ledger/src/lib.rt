@@ -2,6 +2,7 @@
 // unchanged on refusal. An allocation has at least 32 of 512 columns and starts at a multiple of 32, so that slot i of 16
 // is for the one that starts at column 32 * i.
 #![tactic(auto)]
+
 ghost use Rattle.std.specs.Prelude.{◌≡◌, not, ◌||◌, ◌+◌, ◌≤◌, ◌<◌, eqb};
 ghost use Rattle.ledger.specs.Slots.{owns, slot_of, place_of, past_of};
 ghost use Rattle.ledger.specs.Booking.{empty, unchanged, alloc_of, release_of, relinquish_of, find_in};

@@ -1,5 +1,6 @@
 // Statements, read.
 #![tactic(auto)]
+
 pub mod form;
 pub mod operand;
 

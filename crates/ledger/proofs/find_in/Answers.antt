@@ -1,0 +1,13 @@
+-- `ledger::find_in` meets its contract. The slot found or not is the definition's test. Assumes nothing.
+use borrow.Author.Tests.{lt-ltb, le-ltb}
+use borrow.Author.Rules.{rules}
+use Rattle.ledger.specs.Booking.{find_in}
+use Rattle.ledger.proofs.find_in.Goals as goal
+
+pub returns-then-at-lt16 : goal.returns-then-at-lt16
+unfolding find_in
+returns-then-at-lt16 c = simp (c.wide-columns.ensures.0, ← c.slot_of-at.ensures, lt-ltb _ 16 c.if-at-lt16.true)
+
+pub returns : goal.returns
+unfolding find_in
+returns c = simp (← c.slot_of-at.ensures, le-ltb _ 16 c.if-at-lt16.false)

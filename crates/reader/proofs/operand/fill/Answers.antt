@@ -1,0 +1,57 @@
+-- `reader::operand::fill` meets its contract. The loop's invariant: the names stored so far, with those that are left from here stored after them,
+-- are those from the start. Assumes nothing.
+use Rattle.tokens.specs.Cursors.{seen}
+use Prim.Native.Nat.{◌+◌, ◌-◌, ◌≤◌}
+use native.Mathlib.Omega.{arith}
+use mathlib.Core.Path.{◌≡◌, refl, ◌∙◌}
+use borrow.Author.Rules.{rules}
+use borrow.Author.Tests.{not-true, not-false}
+use Rattle.statement.specs.Reading.{more_c, names_c}
+use Rattle.reader.proofs.Laws.{stored, stored_more, more_took, more_done, more_full, stored-end}
+use Rattle.reader.proofs.operand.fill.Goals as goal
+
+-- `reader::operand::fill` meets its contract. The loop's invariant: the names stored so far, with those that are left from here stored after them,
+-- are those from the start. Assumes nothing.
+
+pub loop-count-init : goal.loop-count-init
+loop-count-init c = (omega arith, refl)
+
+pub returns-then-not-d : goal.returns-then-not-d
+unfolding names_c
+returns-then-not-d c =
+    let c₁ = c in
+    let c₂ = c₁ in
+    let c₃ = c₂ in
+    let c₄ = c₃ in
+    let a = c₄.args in
+    let name₁ = c₂.name-n in
+    let loop₁ = c₁.loop-count in
+    let mark2 = c.mark-d in
+    rw (← c₃.mark-a.ensures.rest, ← name₁.ensures.rest) (stored-end loop₁.hi loop₁.lo a.hi.now a.lo.now loop₁.count name₁.result.value
+    (more_c 127 (seen a.s.now name₁.result.next)).value (rw (more_done a.s.now loop₁.at mark2.result _ mark2.ensures.rest (not-true _
+    c.if-not-d.true)) at loop₁.invariant.1))
+
+pub loop-count-preserved : goal.loop-count-preserved
+loop-count-preserved c =
+    let c₁ = c in
+    let c₂ = c₁ in
+    let c₃ = c₂ in
+    let c₄ = c₃ in
+    let a = c₄.args in
+    let loop₁ = c₃.loop-count in
+    let mark2 = c₁.mark-d in
+    let name2 = c.name-m in (
+      omega arith,
+      stored_more loop₁.hi loop₁.lo loop₁.count name2.result.value (more_c (128 - (loop₁.count + 1)) (seen a.s.now
+          name2.result.next)).value ∙ (rw (more_took a.s.now loop₁.at mark2.result name2.result loop₁.count c₂.loop-count-test.true
+          mark2.ensures.rest name2.ensures.rest (not-false _ c.if-not-d.false)) at loop₁.invariant.1),
+    )
+
+pub returns : goal.returns
+unfolding names_c
+returns c =
+    let a = c.args in
+    let name₁ = c.name-n in
+    rw (← c.mark-a.ensures.rest, ← name₁.ensures.rest) (stored-end c.loop-count.hi c.loop-count.lo
+    a.hi.now a.lo.now c.loop-count.count name₁.result.value (more_c 127 (seen a.s.now name₁.result.next)).value (rw
+    (more_full (seen a.s.now c.loop-count.at) c.loop-count.count c.loop-count-test.false) at c.loop-count.invariant.1))

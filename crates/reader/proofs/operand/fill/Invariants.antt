@@ -1,0 +1,18 @@
+-- `reader::operand::fill` meets its contract. The loop's invariant: the names stored so far, with those that are left from here stored after them,
+-- are those from the start. Assumes nothing.
+use Rattle.tokens.specs.Cursors.{seen}
+use Prim.Native.Nat.{◌+◌, ◌-◌, ◌≤◌}
+use native.Mathlib.Omega.{arith}
+use mathlib.Core.Path.{◌≡◌, refl, ◌∙◌}
+use borrow.Author.Rules.{rules}
+use borrow.Author.Tests.{not-true, not-false}
+use Rattle.statement.specs.Reading.{more_c, names_c}
+use Rattle.reader.proofs.Laws.{stored, stored_more, more_took, more_done, more_full, stored-end}
+use Rattle.reader.proofs.operand.fill.Given as goal
+
+abbrev pub invariant-loop-count : goal.invariant-loop-count
+invariant-loop-count l =
+    (l.count ≤ 128) × (stored l.hi l.lo l.count (more_c (128 - l.count) (seen l.s l.at)).value ≡ stored l.initial.hi l.initial.lo l.initial.count (more_c (128 - l.initial.count) (seen l.s l.initial.at)).value)
+
+abbrev pub decreases-loop-count : goal.decreases-loop-count
+decreases-loop-count l = 128 - l.count

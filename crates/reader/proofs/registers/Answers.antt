@@ -1,0 +1,37 @@
+-- `reader::registers` meets its contract. One law for each way out: where the text does not read nothing is stored, and else the list of its opcode.
+-- Assumes nothing.
+use Rattle.statement.specs.Reading.{registers_of}
+use Rattle.statement.proofs.Readings.{unread}
+use Rattle.reader.specs.Lists.{list_c}
+use Rattle.reader.proofs.Laws.{none-stored, whole_is, whole-none, registers_none, registers_unread, registers_got}
+use borrow.Author.Rules.{rules}
+use Rattle.reader.proofs.registers.Goals as goal
+
+pub returns-in_default : goal.returns-in_default
+returns-in_default c =
+    let a = c.args in
+    let head_of = c.head_of-h in
+    none-stored a.hi.now a.lo.now (registers_of a.s.now) (registers_none a.s.now (whole-none a.s.now head_of.result
+    head_of.ensures c.in_default.is))
+
+pub returns-in_default-t : goal.returns-in_default-t
+returns-in_default-t c =
+    let c₁ = c in
+    let c₂ = c₁ in
+    let a = c₂.args in
+    let head_of = c₂.head_of-h in
+    let operands = c.operands-t in
+    none-stored a.hi.now a.lo.now (registers_of a.s.now) (registers_unread a.s.now _ operands.result (whole_is a.s.now
+    head_of.result head_of.ensures _ c₁.in-Is.is) operands.ensures (unread operands.result c.in_default-t.in_default-t-own.keys2))
+
+pub returns : goal.returns
+unfolding list_c
+returns c =
+    let c₁ = c in
+    let c₂ = c₁ in
+    let c₃ = c₂ in
+    let a = c₃.args in
+    let head_of = c₃.head_of-h in
+    let operands = c₁.operands-t in
+    rw (registers_got a.s.now _ operands.result (whole_is a.s.now head_of.result head_of.ensures _ c₂.in-Is.is) operands.ensures
+    _ c.in-Got.is) c.list_of.ensures
