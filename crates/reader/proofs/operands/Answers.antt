@@ -61,13 +61,4 @@ unfolding operands_c row_c
 returns-in-Exit c = rw c.in-Exit.is c.bare-in-Exit.ensures
 
 pub returns : goal.returns
-returns c =
-    let a = c.args in
-    let r = seen a.s.now a.k in
-    let t = c.match-o.t in
-    let h = c.pair.ensures in
-    ⊎_elim (λ w. pair_of a.s.now r _ t Paired.Mov32 a.o w.2 (ap (λ (q : Opcode). operands_c q r) w.1.given.1) h)
-    (⊎_elim (λ w. pair_of a.s.now r _ t Paired.Mov64 a.o w.2 (ap (λ (q : Opcode). operands_c q r) w.1.given.1) h)
-    (⊎_elim (λ w. pair_of a.s.now r _ t Paired.Alloc a.o w.2 (ap (λ (q : Opcode). operands_c q r) w.1.given.1 ∙ alloc-any _ r) h)
-    (λ w. pair_of a.s.now r _ t Paired.Dealloc a.o w.2 (ap (λ (q : Opcode). operands_c q r) w.1.given.1) h)))
-    c.match-o.branch
+returns c = let h = c.match-o in ?

@@ -5,24 +5,27 @@ use Rattle.statement.proofs.Readings.{unread}
 use Rattle.reader.specs.Lists.{list_c}
 use Rattle.reader.proofs.Laws.{none-stored, whole_is, whole-none, registers_none, registers_unread, registers_got}
 use borrow.Author.Rules.{rules}
+use borrow.Enum.Refused.{opened}
 use Rattle.reader.proofs.registers.Goals as goal
 
 pub returns-in_default : goal.returns-in_default
 returns-in_default c =
-    let a = c.args in
+    let both = let a = c.args in
     let head_of = c.head_of-h in
     none-stored a.hi.now a.lo.now (registers_of a.s.now) (registers_none a.s.now (whole-none a.s.now head_of.result
-    head_of.ensures c.in_default.is))
+    head_of.ensures c.in_default.is)) in
+    record { count = both.0; first = both.1.0; second = both.1.1 }
 
 pub returns-in_default-t : goal.returns-in_default-t
 returns-in_default-t c =
-    let c₁ = c in
+    let both = let c₁ = c in
     let c₂ = c₁ in
     let a = c₂.args in
     let head_of = c₂.head_of-h in
     let operands = c.operands-t in
     none-stored a.hi.now a.lo.now (registers_of a.s.now) (registers_unread a.s.now _ operands.result (whole_is a.s.now
-    head_of.result head_of.ensures _ c₁.in-Is.is) operands.ensures (unread operands.result c.in_default-t.in_default-t-own.keys2))
+    head_of.result head_of.ensures _ c₁.in-Is.is) operands.ensures (unread operands.result (opened c.in_default-t.in_default-t-own.keys2))) in
+    record { count = both.0; first = both.1.0; second = both.1.1 }
 
 pub returns : goal.returns
 unfolding list_c
@@ -34,4 +37,4 @@ returns c =
     let head_of = c₃.head_of-h in
     let operands = c₁.operands-t in
     rw (registers_got a.s.now _ operands.result (whole_is a.s.now head_of.result head_of.ensures _ c₂.in-Is.is) operands.ensures
-    _ c.in-Got.is) c.list_of.ensures
+    _ c.in-Got.is) (record { count = c.list_of.ensures.count; first = c.list_of.ensures.first; second = c.list_of.ensures.second })

@@ -19,7 +19,7 @@ loop-count-init c = (omega arith, refl)
 pub returns-then-not-d : goal.returns-then-not-d
 unfolding names_c
 returns-then-not-d c =
-    let c₁ = c in
+    let both = let c₁ = c in
     let c₂ = c₁ in
     let c₃ = c₂ in
     let c₄ = c₃ in
@@ -29,7 +29,8 @@ returns-then-not-d c =
     let mark2 = c.mark-d in
     rw (← c₃.mark-a.ensures.rest, ← name₁.ensures.rest) (stored-end loop₁.hi loop₁.lo a.hi.now a.lo.now loop₁.count name₁.result.value
     (more_c 127 (seen a.s.now name₁.result.next)).value (rw (more_done a.s.now loop₁.at mark2.result _ mark2.ensures.rest (not-true _
-    c.if-not-d.true)) at loop₁.invariant.1))
+    c.if-not-d.true)) at loop₁.invariant.1)) in
+    record { count = both.0; first = both.1.0; second = both.1.1 }
 
 pub loop-count-preserved : goal.loop-count-preserved
 loop-count-preserved c =
@@ -50,8 +51,9 @@ loop-count-preserved c =
 pub returns : goal.returns
 unfolding names_c
 returns c =
-    let a = c.args in
+    let both = let a = c.args in
     let name₁ = c.name-n in
     rw (← c.mark-a.ensures.rest, ← name₁.ensures.rest) (stored-end c.loop-count.hi c.loop-count.lo
     a.hi.now a.lo.now c.loop-count.count name₁.result.value (more_c 127 (seen a.s.now name₁.result.next)).value (rw
-    (more_full (seen a.s.now c.loop-count.at) c.loop-count.count c.loop-count-test.false) at c.loop-count.invariant.1))
+    (more_full (seen a.s.now c.loop-count.at) c.loop-count.count c.loop-count-test.false) at c.loop-count.invariant.1)) in
+    record { count = both.0; first = both.1.0; second = both.1.1 }

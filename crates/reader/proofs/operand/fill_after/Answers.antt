@@ -3,4 +3,4 @@ use borrow.Author.Rules.{rules}
 use Rattle.reader.proofs.operand.fill_after.Goals as goal
 
 pub returns : goal.returns
-returns c = rw (← c.address-a.ensures, ← c.mark-k2.ensures.rest) c.fill.ensures
+returns c = rw (← c.address-a.ensures, ← c.mark-k2.ensures.rest) (record { count = c.fill.ensures.count; first = c.fill.ensures.first; second = c.fill.ensures.second })
