@@ -14,6 +14,7 @@ use Rattle.reader.specs.declared.Paired.{Paired}
 use Rattle.reader.specs.Rows.{paired_opcode}
 use borrow.Author.Rules.{rules}
 use Rattle.reader.proofs.operands.Goals as goal
+use Rattle.reader.proofs.operands.Goals.{in-Mov32, in-Mov64, in-Alloc, in-Dealloc}
 
 -- the form that an opcode chose reads the opcode's operands
 pair_of : (s : List ℕ) (r : Rest) (x : Reading) (t p : Paired) (o : Opcode) → t ≡ p → operands_c o r ≡ operands_c (paired_opcode p) r → x ≡ told s (operands_c (paired_opcode t) r)
@@ -61,4 +62,14 @@ unfolding operands_c row_c
 returns-in-Exit c = rw c.in-Exit.is c.bare-in-Exit.ensures
 
 pub returns : goal.returns
-returns c = let h = c.match-o in ?
+returns c =
+    let a = c.args in
+    let r = seen a.s.now a.k in
+    let t = c.match-o.t in
+    let h = c.pair.ensures in
+    elim c.match-o.branch [
+      | in-Mov32 w ↦ pair_of a.s.now r _ t Paired.Mov32 a.o w.t-is (ap (λ (q : Opcode). operands_c q r) w.in-Mov32.is) h
+      | in-Mov64 w ↦ pair_of a.s.now r _ t Paired.Mov64 a.o w.t-is (ap (λ (q : Opcode). operands_c q r) w.in-Mov64.is) h
+      | in-Alloc w ↦ pair_of a.s.now r _ t Paired.Alloc a.o w.t-is (ap (λ (q : Opcode). operands_c q r) w.in-Alloc.is ∙ alloc-any _ r) h
+      | in-Dealloc w ↦ pair_of a.s.now r _ t Paired.Dealloc a.o w.t-is (ap (λ (q : Opcode). operands_c q r) w.in-Dealloc.is) h
+    ]

@@ -19,41 +19,41 @@ loop-count-init c = (omega arith, refl)
 pub returns-then-not-d : goal.returns-then-not-d
 unfolding names_c
 returns-then-not-d c =
-    let both = let c₁ = c in
-    let c₂ = c₁ in
-    let c₃ = c₂ in
-    let c₄ = c₃ in
-    let a = c₄.args in
-    let name₁ = c₂.name-n in
-    let loop₁ = c₁.loop-count in
+    let a = c.args in
+    let name₁ = c.name-n in
+    let loop₁ = c.loop-count in
     let mark2 = c.mark-d in
-    rw (← c₃.mark-a.ensures.rest, ← name₁.ensures.rest) (stored-end loop₁.hi loop₁.lo a.hi.now a.lo.now loop₁.count name₁.result.value
+    let all = stored-end loop₁.hi loop₁.lo a.hi.now a.lo.now loop₁.count name₁.result.value
     (more_c 127 (seen a.s.now name₁.result.next)).value (rw (more_done a.s.now loop₁.at mark2.result _ mark2.ensures.rest (not-true _
-    c.if-not-d.true)) at loop₁.invariant.1)) in
-    record { count = both.0; first = both.1.0; second = both.1.1 }
+    c.if-not-d.true)) at loop₁.invariant.1) in
+    record {
+      count = rw (← c.mark-a.ensures.rest, ← name₁.ensures.rest) all.0;
+      first = rw (← c.mark-a.ensures.rest, ← name₁.ensures.rest) all.1.0;
+      second = rw (← c.mark-a.ensures.rest, ← name₁.ensures.rest) all.1.1;
+    }
 
 pub loop-count-preserved : goal.loop-count-preserved
 loop-count-preserved c =
-    let c₁ = c in
-    let c₂ = c₁ in
-    let c₃ = c₂ in
-    let c₄ = c₃ in
-    let a = c₄.args in
-    let loop₁ = c₃.loop-count in
-    let mark2 = c₁.mark-d in
+    let a = c.args in
+    let loop₁ = c.loop-count in
+    let mark2 = c.mark-d in
     let name2 = c.name-m in (
       omega arith,
       stored_more loop₁.hi loop₁.lo loop₁.count name2.result.value (more_c (128 - (loop₁.count + 1)) (seen a.s.now
-          name2.result.next)).value ∙ (rw (more_took a.s.now loop₁.at mark2.result name2.result loop₁.count c₂.loop-count-test.true
+          name2.result.next)).value ∙ (rw (more_took a.s.now loop₁.at mark2.result name2.result loop₁.count c.loop-count-test.true
           mark2.ensures.rest name2.ensures.rest (not-false _ c.if-not-d.false)) at loop₁.invariant.1),
     )
 
 pub returns : goal.returns
 unfolding names_c
 returns c =
-    let both = let a = c.args in
+    let a = c.args in
     let name₁ = c.name-n in
-    rw (← c.mark-a.ensures.rest, ← name₁.ensures.rest) (stored-end c.loop-count.hi c.loop-count.lo
-    a.hi.now a.lo.now c.loop-count.count name₁.result.value (more_c 127 (seen a.s.now name₁.result.next)).value (rw
-    (more_full (seen a.s.now c.loop-count.at) c.loop-count.count c.loop-count-test.false) at c.loop-count.invariant.1)) in
-    record { count = both.0; first = both.1.0; second = both.1.1 }
+    let all = stored-end c.loop-count.hi c.loop-count.lo a.hi.now a.lo.now c.loop-count.count name₁.result.value
+    (more_c 127 (seen a.s.now name₁.result.next)).value
+    (rw (more_full (seen a.s.now c.loop-count.at) c.loop-count.count c.loop-count-test.false) at c.loop-count.invariant.1) in
+    record {
+      count = rw (← c.mark-a.ensures.rest, ← name₁.ensures.rest) all.0;
+      first = rw (← c.mark-a.ensures.rest, ← name₁.ensures.rest) all.1.0;
+      second = rw (← c.mark-a.ensures.rest, ← name₁.ensures.rest) all.1.1;
+    }
