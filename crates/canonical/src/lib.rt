@@ -1,5 +1,6 @@
 // A statement's text by itself: its reason and column, and its canonical text.
 #![tactic(auto)]
+
 ghost use Rattle.std.specs.Prelude.{◌≡◌, length};
 ghost use Rattle.statement.specs.Reading.{read_of, registers_of};
 ghost use Rattle.statement.specs.declared.Reading.{Reading};

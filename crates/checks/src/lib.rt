@@ -1,5 +1,6 @@
 // What a ld, a st or an mma is refused for, by tables that are left where they are.
 #![tactic(auto)]
+
 ghost use Rattle.std.specs.Prelude.{◌≡◌, ◌&&◌, ◌||◌, ◌+◌, ◌*◌, ◌/◌, ◌%◌, ◌^◌, eqb, leb};
 ghost use Rattle.laws.specs.Rules.{first_broken};
 ghost use Rattle.statement.specs.Canonical.{sparse};

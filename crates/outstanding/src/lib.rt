@@ -1,6 +1,7 @@
 // The loads and stores that are not waited for, by value: each line takes them and gives back the next ones. A word for the
 // loads of each warp and one for its stores; bit i of a word is for the allocation that starts at column 32 * i.
 #![tactic(auto)]
+
 ghost use Rattle.std.specs.Prelude.{◌≡◌, ◌<◌, ◌^◌};
 ghost use Rattle.std.specs.Int.Bits.{bit_or};
 ghost use Rattle.outstanding.specs.Words.{word_of, bit_at, none, begun, waited, slots_of, busy_in};

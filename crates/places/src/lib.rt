@@ -1,5 +1,6 @@
 // Where the parts of a statement stand in its text, and their columns in its line.
 #![tactic(auto)]
+
 ghost use Rattle.std.specs.Prelude.{◌≡◌, false, cond, ◌+◌, ◌-◌, length, drop};
 ghost use Rattle.statement.specs.Reading.{opcode_len, read_of};
 ghost use Rattle.statement.specs.declared.Position.TheVariants.{Token};
