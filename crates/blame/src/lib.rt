@@ -1,5 +1,6 @@
 // What the reason of a refused line points at: asked for a line that is refused, so that a sheet that passes pays nothing.
 #![tactic(auto)]
+
 ghost use Rattle.std.specs.Prelude.{◌≡◌, [], ◌∷◌};
 ghost use Rattle.statement.specs.Positions.{idesc_at};
 ghost use Rattle.rules.specs.Rows.{test};

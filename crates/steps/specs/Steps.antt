@@ -1,6 +1,6 @@
 -- What the judge keeps from line to line, beside a state of the rules; and what one statement gives. Assumes nothing.
 use Rattle.std.specs.Prelude.{ℕ, ◌^◌, ◌<◌, ◌≡◌, Bool, true, ◌&&◌, cond, List, [], ◌∷◌, eqb, length}
-use Rattle.std.specs.Borrow.{Bor}
+use Rattle.std.specs.Borrow.{MutBor}
 use denote.Triple.Both.{Both}
 use Rattle.laws.specs.Rules.{Rule, first_broken}
 use Rattle.tokens.specs.declared.Name.{Name}
@@ -38,12 +38,12 @@ arrays hi lo columns value_hi value_lo numbers widths words =
     record { hi = hi; lo = lo; columns = columns; value_hi = value_hi; value_lo = value_lo; numbers = numbers; widths = widths; words = words }
 
 -- those that a function is lent, as its contract names them, beside the words: in a `requires`; and in an `ensures` as they came in, and as they go out
-abbrev pub arrays_now : (hi lo columns value_hi value_lo numbers widths : Bor (List ℕ)) → (words : List ℕ) → Arrays
+abbrev pub arrays_now : (hi lo columns value_hi value_lo numbers widths : MutBor (List ℕ)) → (words : List ℕ) → Arrays
 arrays_now hi lo columns value_hi value_lo numbers widths words = arrays hi.now lo.now columns.now value_hi.now value_lo.now numbers.now widths.now words
 
 -- an array at both ends of a call
 abbrev pub Lent : Type 0
-Lent = Both (Bor (List ℕ)) (Bor (List ℕ))
+Lent = Both (MutBor (List ℕ)) (MutBor (List ℕ))
 
 abbrev pub arrays_in : (hi lo columns value_hi value_lo numbers widths : Lent) → (words : List ℕ) → Arrays
 arrays_in hi lo columns value_hi value_lo numbers widths words =

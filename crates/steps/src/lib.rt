@@ -1,8 +1,9 @@
 // One statement of a sheet, judged and booked: its reason, and what the judge keeps afterwards.
 #![tactic(auto)]
+
 ghost use Rattle.std.specs.Prelude.{◌≡◌, List, ℕ, ◌<◌};
 ghost use Rattle.statement.specs.declared.Statement.TheVariants.{Dealloc, Relinquish};
-ghost use Rattle.steps.specs.Steps.{arrays_in, arrays_out, only, Sized, StatementDone, AllocDone, LedgerDone, MovDone, ledger_of, outstanding_of, stored, step_of, is_early, access_by, exit_of};
+ghost use Rattle.steps.specs.Steps.{arrays, arrays_in, arrays_out, only, Sized, StatementDone, AllocDone, LedgerDone, MovDone, ledger_of, outstanding_of, stored, step_of, is_early, access_by, exit_of};
 ghost use Rattle.outstanding.specs.Words.{waited};
 
 use ledger::{Booked, Ledger};
@@ -59,8 +60,8 @@ fn mov<'a>(
     number: u64,
 ) -> Step
     requires { Sized value_hi.old value_lo.old numbers.old widths.old }
-    ensures { (words : List ℕ) → MovDone name width number (arrays_in hi lo columns value_hi value_lo numbers widths words) status result
-        (arrays_out hi lo columns value_hi value_lo numbers widths words) }
+    ensures { (words : List ℕ) → MovDone name width number (arrays hi.now lo.now columns.now value_hi.old value_lo.old numbers.old widths.old words) status result
+        (arrays hi.now lo.now columns.now value_hi.new value_lo.new numbers.new widths.new words) }
 {
     let taken = ledger::find_in(hi, lo, columns, name);
     if taken.columns != 0 {
@@ -145,8 +146,8 @@ fn alloc<'a>(
     name: Name,
     requested: u32,
 ) -> Step
-    ensures { (words : List ℕ) → AllocDone warp name requested (arrays_in hi lo columns value_hi value_lo numbers widths words) status result
-        (arrays_out hi lo columns value_hi value_lo numbers widths words) }
+    ensures { (words : List ℕ) → AllocDone warp name requested (arrays hi.old lo.old columns.old value_hi.now value_lo.now numbers.now widths.now words) status result
+        (arrays hi.new lo.new columns.new value_hi.now value_lo.now numbers.now widths.now words) }
 {
     let bound = bindings::lookup_in(value_hi, value_lo, numbers, widths, name);
     if bound.width != 0 {
