@@ -1,12 +1,13 @@
 // foot: reads a sheet from standard input and prints its report. It prints nothing where reading failed.
 #![tactic(auto)]
-ghost use Rattle.std.specs.Prelude.{◌+◌, ◌-◌, ◌≤◌, ◌≡◌, length, take};
-ghost use Rattle.libc.specs.Io.{Moved};
+
+ghost use Rattle.std.specs.Prelude.{◌+◌, ◌-◌, ◌≤◌, ◌≡◌, length, take, IfOk};
 ghost use Rattle.lines.specs.Sheet.{most_bytes};
 ghost use Rattle.report.specs.Report.{report_room};
 ghost use Rattle.foot.specs.Input.{taken_of, Over, shown_of};
 
-use libc::{STDIN_FILENO, STDOUT_FILENO};
+use std::io;
+use std::io::{Read, Stdin};
 
 // A byte more than a sheet has: enough to know one that is too large.
 const ENOUGH: usize = lines::BYTES + 1;
@@ -20,14 +21,14 @@ pub enum Input {
 }
 
 // What an answer of `read` makes of the bytes that came before it.
-fn taken(before: usize, got: isize) -> Input
-    requires { (before ≤ most_bytes + 1) × Moved (most_bytes + 1 - before) got }
+fn taken(before: usize, got: io::Result<usize>) -> Input
+    requires before { before ≤ most_bytes + 1 }
+    requires got { IfOk got (λ k. k ≤ most_bytes + 1 - before) }
     ensures { result ≡ taken_of before got }
 {
-    if got < 0 {
+    let Ok(more) = got else {
         return Input::Failed;
-    }
-    let more = got as usize;
+    };
     let length = before + more;
     if (more == 0) | (lines::BYTES < length) {
         return Input::All(length);
@@ -36,7 +37,7 @@ fn taken(before: usize, got: isize) -> Input
 }
 
 // Reads until no more is to be read.
-fn read_sheet(sheet: &mut [u8]) -> Input
+fn read_sheet(mut stdin: Stdin, sheet: &mut [u8]) -> Input
     requires { length sheet.old ≡ most_bytes + 1 }
     ensures { Over (length sheet.new) result }
 {
@@ -44,7 +45,7 @@ fn read_sheet(sheet: &mut [u8]) -> Input
     loop {
         match input {
             Input::More(n) => {
-                let got = libc::read(STDIN_FILENO, &mut sheet[n..]);
+                let got = stdin.read(&mut sheet[n..]);
                 input = taken(n, got);
             }
             Input::All(_) => return input,
@@ -69,10 +70,10 @@ fn output(input: Input, sheet: &[u8], room: &mut [u8]) -> usize
     }
 }
 
-fn main() {
+fn main(rt: HostRuntime) {
     let mut sheet = [0u8; ENOUGH];
     let mut room = [0u8; report::ROOM];
-    let input = read_sheet(&mut sheet);
+    let input = read_sheet(rt.stdin(), &mut sheet);
     let length = output(input, &sheet, &mut room);
-    io::write_all(STDOUT_FILENO, &room[..length]);
+    let _ = rt.write_all(&room[..length]);
 }
