@@ -1,5 +1,6 @@
-// What C and Rust link: the functions on plain numbers, fixed arrays and bytes. include/staplehorn.h has their C declarations.
+// The functions on plain numbers, fixed arrays and bytes. The crate `staplehorn_c` hands each to C under its own name.
 #![tactic(auto)]
+
 pub mod fragments;
 pub mod sheets;
 pub mod statements;

@@ -5,8 +5,7 @@ ghost use Rattle.printed.specs.Printed.{printed_of, room_after, RunPrinted};
 ghost use Rattle.staplehorn.specs.Sheets.{answered, answer_in};
 
 // The answer for a sheet: its reason, and its six numbers; on a pass the first places of `starts`, as many as the sixth says, are those of the allocs.
-#[unsafe(no_mangle)]
-pub extern "C" fn staplehorn_judge(sheet: &[u8], starts: &mut [u16], answer: &mut [u32; 6]) -> u32
+pub fn staplehorn_judge(sheet: &[u8], starts: &mut [u16], answer: &mut [u32; 6]) -> u32
     ensures reason { result ≡ (judged_of sheet.now (length starts.old)).reason }
     ensures answer { answer.new ≡ answered sheet.now (length starts.old) }
     ensures places { starts.new ≡ starts_after sheet.now starts.old }
@@ -24,8 +23,7 @@ pub extern "C" fn staplehorn_judge(sheet: &[u8], starts: &mut [u16], answer: &mu
 }
 
 // What `foot` prints for a sheet: the reason, the length, and the room.
-#[unsafe(no_mangle)]
-pub extern "C" fn staplehorn_report(sheet: &[u8], room: &mut [u8], size: &mut usize) -> u32
+pub fn staplehorn_report(sheet: &[u8], room: &mut [u8], size: &mut usize) -> u32
     ensures reason { result ≡ (printed_of sheet.now (length room.old)).reason }
     ensures size { size.new ≡ (printed_of sheet.now (length room.old)).length }
     ensures room { room.new ≡ room_after sheet.now room.old }

@@ -7,8 +7,7 @@ ghost use Rattle.staplehorn.specs.Statements.{written_reason, written_length};
 use statement::Written;
 
 // The reason of a statement's text: 3, 4 or 5, else 0; and the column that it is found in, from 1, or 0.
-#[unsafe(no_mangle)]
-pub extern "C" fn staplehorn_statement_reason(text: &[u8], column: &mut usize) -> u32
+pub fn staplehorn_statement_reason(text: &[u8], column: &mut usize) -> u32
     ensures reason { result ≡ alone_reason (read_of text.now) }
     ensures column { column.new ≡ alone_column (read_of text.now) }
 {
@@ -36,12 +35,7 @@ fn length_of(w: Written) -> usize
 }
 
 // The canonical text of a statement: its reason, its length, and the room.
-#[unsafe(no_mangle)]
-pub extern "C" fn staplehorn_statement_canonical(
-    text: &[u8],
-    room: &mut [u8],
-    size: &mut usize,
-) -> u32
+pub fn staplehorn_statement_canonical(text: &[u8], room: &mut [u8], size: &mut usize) -> u32
     ensures reason { result ≡ written_reason (rewritten (length room.old) (read_of text.now) (registers_of text.now)) }
     ensures size { size.new ≡ written_length (rewritten (length room.old) (read_of text.now) (registers_of text.now)) }
     ensures room { room.new ≡ left_of room.old (read_of text.now) (registers_of text.now) }

@@ -141,8 +141,7 @@ fn array_of(f: Fields) -> [u32; 13]
 }
 
 // Reads an instruction descriptor.
-#[unsafe(no_mangle)]
-pub extern "C" fn staplehorn_instruction_decode(
+pub fn staplehorn_instruction_decode(
     kind: u32,
     ws: u32,
     sp: u32,
@@ -163,8 +162,7 @@ pub extern "C" fn staplehorn_instruction_decode(
 }
 
 // Writes an instruction descriptor.
-#[unsafe(no_mangle)]
-pub extern "C" fn staplehorn_instruction_encode(
+pub fn staplehorn_instruction_encode(
     kind: u32,
     ws: u32,
     sp: u32,
@@ -192,8 +190,7 @@ fn judge_word(kind: u32, ws: u32, sp: u32, word: u32) -> u32
 }
 
 // The reason of a word: 12 with no reading; 13, 20 or 21 if M, N or the types are not listed; else 0.
-#[unsafe(no_mangle)]
-pub extern "C" fn staplehorn_instruction_judge(kind: u32, ws: u32, sp: u32, word: u32) -> u32
+pub fn staplehorn_instruction_judge(kind: u32, ws: u32, sp: u32, word: u32) -> u32
     ensures { result ≡ judged_for (opcode_of kind ws sp) word }
 {
     judge_word(kind, ws, sp, word)
@@ -211,13 +208,7 @@ fn judge_fields(kind: u32, ws: u32, sp: u32, f: Fields) -> u32
 }
 
 // The reason of a descriptor's fields: 12 if no word reads as them; 13, 20 or 21 if M, N or the types are not listed; else 0.
-#[unsafe(no_mangle)]
-pub extern "C" fn staplehorn_instruction_listed(
-    kind: u32,
-    ws: u32,
-    sp: u32,
-    fields: &[u32; 13],
-) -> u32
+pub fn staplehorn_instruction_listed(kind: u32, ws: u32, sp: u32, fields: &[u32; 13]) -> u32
     ensures { result ≡ listed_for (opcode_of kind ws sp) (I.fields_in fields.now) }
 {
     judge_fields(kind, ws, sp, fields_at(*fields))
@@ -241,8 +232,7 @@ fn k_of(kind: u32, sp: u32) -> KRead
 }
 
 // K of a kind, dense or sparse.
-#[unsafe(no_mangle)]
-pub extern "C" fn staplehorn_instruction_k(kind: u32, sp: u32, k: &mut u32) -> u32
+pub fn staplehorn_instruction_k(kind: u32, sp: u32, k: &mut u32) -> u32
     ensures reason { result ≡ (k_for (opcode_of kind 0 sp)).reason }
     ensures k { k.new ≡ (k_for (opcode_of kind 0 sp)).k }
 {
@@ -252,8 +242,7 @@ pub extern "C" fn staplehorn_instruction_k(kind: u32, sp: u32, k: &mut u32) -> u
 }
 
 // Reads a shared memory descriptor.
-#[unsafe(no_mangle)]
-pub extern "C" fn staplehorn_shared_decode(word: u64, fields: &mut [u64; 6]) -> u32
+pub fn staplehorn_shared_decode(word: u64, fields: &mut [u64; 6]) -> u32
     ensures reason { result ≡ (S.decoded word).reason }
     ensures fields { fields.new ≡ S.numbers (S.decoded word).descriptor }
 {
@@ -264,8 +253,7 @@ pub extern "C" fn staplehorn_shared_decode(word: u64, fields: &mut [u64; 6]) -> 
 }
 
 // Writes a shared memory descriptor.
-#[unsafe(no_mangle)]
-pub extern "C" fn staplehorn_shared_encode(fields: &[u64; 6], word: &mut u64) -> u32
+pub fn staplehorn_shared_encode(fields: &[u64; 6], word: &mut u64) -> u32
     ensures reason { result ≡ (S.encoded (S.shared_in fields.now)).reason }
     ensures word { word.new ≡ (S.encoded (S.shared_in fields.now)).word }
 {
@@ -282,8 +270,7 @@ pub extern "C" fn staplehorn_shared_encode(fields: &[u64; 6], word: &mut u64) ->
 }
 
 // 0 if a request for columns is legal, else 9.
-#[unsafe(no_mangle)]
-pub extern "C" fn staplehorn_request(columns: u32) -> u32
+pub fn staplehorn_request(columns: u32) -> u32
     ensures { result ≡ request_reason columns }
 {
     request::reason(columns)
