@@ -1,5 +1,6 @@
 // One line of a sheet: read, judged, booked and counted.
 #![tactic(auto)]
+
 ghost use Rattle.std.specs.Prelude.{◌≡◌, cond, ◌+◌, ◌-◌, ◌%◌, ◌≤◌, ◌<◌, max, eqb, length, set};
 ghost use Rattle.lines.specs.Sheet.{most_lines, line_at};
 ghost use Rattle.steps.specs.Steps.{arrays_now, arrays_in, arrays_out, only, Sized, LineDone};
