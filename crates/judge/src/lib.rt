@@ -1,5 +1,6 @@
 // Judges a sheet: each line is read, judged and booked in turn, up to the first that is refused.
 #![tactic(auto)]
+
 ghost use Rattle.std.specs.Prelude.{◌≡◌, true, cond, ◌≤◌, eqb, length, take};
 ghost use Rattle.std.proofs.lemmas.List.Edits.{sets};
 ghost use Rattle.lines.specs.Sheet.{most_lines, headed, line_count};
