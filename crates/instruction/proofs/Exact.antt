@@ -6,7 +6,7 @@ use native.Mathlib.Omega.{arith}
 use Rattle.laws.specs.Tests.{all}
 use Rattle.laws.specs.Layout.{pack}
 use Rattle.laws.proofs.FormatLaws.{Reading, Writing, reading, writing, read_word, word_read}
-use Rattle.instruction.specs.Instruction.{layout, fields, values, numbers, named, rules, keeps, found, made, no_descriptor, no_word, good, fields_read, decoded, encoded, encoded_numbers}
+use Rattle.instruction.specs.Instruction.{layout, values, numbers, named, rules, keeps, found, made, no_descriptor, no_word, good, fields_read, decoded, encoded, encoded_numbers}
 use Rattle.instruction.proofs.NumberLaws.{word-numbers, numbers_back}
 use Rattle.instruction.specs.Claims.{InstructionExact}
 use Rattle.instruction.specs.declared.Kind.{Kind}

@@ -1,5 +1,5 @@
 -- Laws of digits, and of a token that is a number or none, which the functions' proofs cite. Assumes nothing.
-use Prim.Native.Nat.{ℕ, zero, suc, ◌+◌, ◌*◌, ◌-◌, ◌^◌, ◌<◌, ◌≤◌}
+use Prim.Native.Nat.{ℕ, suc, ◌+◌, ◌*◌, ◌-◌, ◌^◌, ◌<◌, ◌≤◌}
 use native.Mathlib.Numerals.{add-one}
 use native.Mathlib.Nat.{le-mul_of_pos_right, add-zero}
 use native.Mathlib.Omega.{arith}

@@ -1,7 +1,6 @@
 -- `fragment::entry` meets its contract: each table is computed to be the matrix's, as a whole. Assumes nothing.
 use Prim.Native.Nat.{ℕ, ◌*◌, ◌<◌}
 use mathlib.Core.Path.{◌≡◌, refl, subst}
-use borrow.Author.Rules.{rules}
 use Rattle.fragment.specs.Fragment.{threads, elements, table_of}
 use Rattle.fragment.specs.declared.Matrix.{Matrix}
 use Rattle.fragment.proofs.FragmentLaws.{entry-is}

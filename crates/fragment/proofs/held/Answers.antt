@@ -1,6 +1,5 @@
 -- `fragment::held` meets its contract: the numbers are small, and are those of the contract. Assumes nothing.
 use mathlib.Core.Path.{refl}
-use borrow.Author.Rules.{rules}
 use Rattle.fragment.proofs.held.Goals as goal
 
 pub returns : goal.returns

@@ -2,7 +2,6 @@
 use mathlib.Core.Path.{◌≡◌, sym, ap, ◌∙◌}
 use mathlib.Core.Bool.{true}
 use mathlib.Core.Option.{some}
-use borrow.Author.Rules.{rules}
 use Rattle.fragment.specs.Fragment.{place, in_matrix, holder_of}
 use Rattle.fragment.specs.declared.Matrix.{Matrix}
 use Rattle.fragment.specs.declared.Place.{Place}

@@ -1,7 +1,6 @@
 -- `fragment::holder_in` meets its contract: the code's test is that of the definition. Assumes nothing.
 use mathlib.Core.Path.{sym, ap, ◌∙◌}
 use mathlib.Core.Bool.{true, false}
-use borrow.Author.Rules.{rules}
 use Rattle.fragment.specs.Fragment.{rows, columns, place, held_by}
 use Rattle.fragment.proofs.FragmentLaws.{counted, holder_in_lem}
 use Rattle.fragment.proofs.holder_in.Goals as goal

@@ -1,7 +1,6 @@
 -- `fragment::place_in` meets its contract: the code's test is that of the definition. Assumes nothing.
 use mathlib.Core.Path.{sym, ap, ◌∙◌}
 use mathlib.Core.Bool.{true, false}
-use borrow.Author.Rules.{rules}
 use Rattle.fragment.specs.Fragment.{threads, elements, holder, place_found}
 use Rattle.fragment.proofs.FragmentLaws.{counted, place-in}
 use Rattle.fragment.proofs.place_in.Goals as goal

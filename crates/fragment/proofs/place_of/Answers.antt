@@ -3,7 +3,6 @@ use mathlib.Core.Path.{sym, ◌∙◌, ap}
 use mathlib.Core.Option.{Option}
 use Rattle.fragment.specs.Fragment.{holder, place_in, place_read, matrix_seen}
 use Rattle.fragment.specs.declared.Matrix.{Matrix}
-use borrow.Author.Rules.{rules}
 use Rattle.fragment.proofs.place_of.Goals as goal
 
 pub returns-in_default : goal.returns-in_default

@@ -1,7 +1,6 @@
 -- `instruction::admits` meets its contract: the two answers on types and the tests on flags are the rules, by `admitted`. Assumes nothing.
 use Rattle.instruction.specs.Instruction.{values}
 use Rattle.instruction.proofs.NumberLaws.{admitted}
-use borrow.Author.Rules.{rules}
 use Rattle.instruction.proofs.admits.Goals as goal
 
 pub returns : goal.returns

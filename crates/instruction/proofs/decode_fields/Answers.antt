@@ -4,7 +4,6 @@ use borrow.Author.Tests.{not-true, not-false}
 use Rattle.laws.proofs.BoolLaws.{and-join, and_left_false, and_right_false}
 use Rattle.instruction.specs.Instruction.{fields_read}
 use Rattle.instruction.proofs.NumberLaws.{read_fields, read_refused}
-use borrow.Author.Rules.{rules}
 use Rattle.instruction.proofs.decode_fields.Goals as goal
 
 pub returns-then-not-fixed_stand : goal.returns-then-not-fixed_stand

@@ -6,7 +6,6 @@ use borrow.Author.Tests.{not-true, not-false}
 use Rattle.laws.proofs.LayoutLaws.{within}
 use Rattle.instruction.specs.Instruction.{layout, values}
 use Rattle.instruction.proofs.NumberLaws.{word-numbers, word_made}
-use borrow.Author.Rules.{rules}
 use Rattle.instruction.proofs.encode_fields.Goals as goal
 
 pub returns-then-not-in_range : goal.returns-then-not-in_range

@@ -1,5 +1,4 @@
 -- `instruction::is_i8` meets its contract: the kind's number is that of i8. Assumes nothing.
-use borrow.Author.Rules.{rules}
 use Rattle.instruction.proofs.is_i8.Goals as goal
 
 pub returns : goal.returns

@@ -4,7 +4,6 @@ use mathlib.Core.Path.{sym, ◌∙◌, ap}
 use mathlib.Core.Bool.{◌&&◌}
 use borrow.Author.Tests.{not-true, not-false}
 use Rattle.instruction.proofs.NumberLaws.{read_fields, read_refused, judged_read, judged_refused}
-use borrow.Author.Rules.{rules}
 use Rattle.instruction.proofs.judge_word.Goals as goal
 
 pub returns-then-not-reads : goal.returns-then-not-reads

@@ -4,7 +4,6 @@ use mathlib.Core.Path.{ap}
 use native.Mathlib.Omega.{arith}
 use Rattle.instruction.specs.Instruction.{dense_k}
 use Rattle.instruction.specs.declared.Kind.{Kind}
-use borrow.Author.Rules.{rules}
 use Rattle.instruction.proofs.k.Goals as goal
 
 small : (kind : Kind) → dense_k kind ≤ 32

@@ -5,7 +5,6 @@ use lib.Dec.{eqb}
 use Rattle.laws.proofs.TestLaws.{find_any}
 use Rattle.instruction.specs.Instruction.{of_kind, code, elements}
 use Rattle.instruction.specs.declared.Kind.{Kind}
-use borrow.Author.Rules.{rules}
 use Rattle.instruction.proofs.known_element.Goals as goal
 
 pub returns-in-F16 : goal.returns-in-F16

@@ -4,7 +4,6 @@ use mathlib.Core.Bool.{true, false}
 use Rattle.laws.proofs.BoolLaws.{and-join, and_left_false, and_right_false}
 use borrow.Author.Tests.{not-true, not-false}
 use Rattle.instruction.proofs.NumberLaws.{numbers_reason}
-use borrow.Author.Rules.{rules}
 use Rattle.instruction.proofs.listed_fields.Goals as goal
 
 pub returns-then-not-in_range : goal.returns-then-not-in_range

@@ -1,7 +1,6 @@
 -- `instruction::listing_reason` meets its contract: the first rule that is broken decides. Assumes nothing.
 use mathlib.Core.Path.{sym, ◌∙◌}
 use borrow.Author.Tests.{not-true, not-false}
-use borrow.Author.Rules.{rules}
 use Rattle.instruction.proofs.listing_reason.Goals as goal
 
 pub returns-then-not-m_listed : goal.returns-then-not-m_listed

@@ -3,7 +3,6 @@ use Prim.Native.Nat.{ℕ}
 use mathlib.Core.Path.{◌≡◌, refl}
 use mathlib.Core.Bool.{Bool, true, false, ◌&&◌, ◌||◌, not, or-false}
 use lib.Dec.{eqb}
-use borrow.Author.Rules.{rules}
 use Rattle.instruction.specs.Instruction.{n_listed}
 use Rattle.instruction.specs.declared.Kind.{Kind}
 use Rattle.instruction.proofs.n_listed.Goals as goal

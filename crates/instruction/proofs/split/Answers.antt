@@ -1,6 +1,5 @@
 -- `instruction::split` meets its contract: the code reads the bits that the layout names, so both sides compute to one term. Assumes nothing.
 use mathlib.Core.Path.{refl}
-use borrow.Author.Rules.{rules}
 use Rattle.instruction.proofs.split.Goals as goal
 
 pub returns : goal.returns

@@ -1,5 +1,4 @@
 -- `instruction::types_listed` meets its contract: the code makes the kind's own test. Assumes nothing.
-use borrow.Author.Rules.{rules}
 use Rattle.instruction.proofs.types_listed.Goals as goal
 
 pub returns-in-F16 : goal.returns-in-F16

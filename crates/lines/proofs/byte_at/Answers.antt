@@ -1,7 +1,6 @@
 -- `lines::byte_at` meets its contract: past the end the default stands. Assumes nothing.
 use mathlib.Core.Path.{sym}
 use lib.ListN.{get_or-eq_default}
-use borrow.Author.Rules.{rules}
 use Rattle.lines.proofs.byte_at.Goals as goal
 
 pub returns-else-at-s : goal.returns-else-at-s

@@ -1,5 +1,5 @@
 -- `lines::count_block` meets its contract: what is counted so far and the LFs from here on are those from the start on. Assumes nothing.
-use Prim.Native.Nat.{◌+◌, ◌-◌, ◌≤◌}
+use Prim.Native.Nat.{◌+◌}
 use mathlib.Core.Path.{◌≡◌}
 use lib.ListN.{get_or, drop}
 use lib.Dec.{eqb}

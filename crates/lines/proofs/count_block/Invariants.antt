@@ -1,14 +1,8 @@
 -- `lines::count_block` meets its contract: what is counted so far and the LFs from here on are those from the start on. Assumes nothing.
 use Prim.Native.Nat.{◌+◌, ◌-◌, ◌≤◌}
 use mathlib.Core.Path.{◌≡◌}
-use lib.ListN.{get_or, drop}
-use lib.Dec.{eqb}
-use native.Mathlib.Omega.{arith}
-use Rattle.laws.specs.Tests.{bit}
-use Rattle.laws.proofs.TestLaws.{bit_le}
-use Rattle.tokens.specs.Text.{lf}
+use lib.ListN.{drop}
 use Rattle.lines.specs.Sheet.{lfs}
-use Rattle.lines.proofs.LineLaws.{lfs_step}
 use Rattle.lines.proofs.count_block.Given as goal
 
 -- the place is inside, the count is at most the bytes looked at, and the count and the LFs from here on are those from the start on

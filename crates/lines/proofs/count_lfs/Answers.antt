@@ -1,10 +1,5 @@
 -- `lines::count_lfs` meets its contract: what is counted so far and the LFs from here on are together the LFs of all. Assumes nothing.
-use Prim.Native.Nat.{◌+◌, ◌-◌, ◌≤◌}
-use mathlib.Core.Path.{◌≡◌}
-use lib.ListN.{length, drop}
 use native.Mathlib.Omega.{arith}
-use borrow.Author.Rules.{rules}
-use Rattle.lines.specs.Sheet.{lfs}
 use Rattle.lines.proofs.LineLaws.{lfs-past}
 use Rattle.lines.proofs.count_lfs.Goals as goal
 

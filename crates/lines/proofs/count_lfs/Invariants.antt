@@ -2,10 +2,7 @@
 use Prim.Native.Nat.{◌+◌, ◌-◌, ◌≤◌}
 use mathlib.Core.Path.{◌≡◌}
 use lib.ListN.{length, drop}
-use native.Mathlib.Omega.{arith}
-use borrow.Author.Rules.{rules}
 use Rattle.lines.specs.Sheet.{lfs}
-use Rattle.lines.proofs.LineLaws.{lfs-past}
 use Rattle.lines.proofs.count_lfs.Given as goal
 
 -- the place is inside, the count is at most the place, and the count and the LFs from here on are those of all

@@ -1,7 +1,6 @@
 -- `lines::count_lines` meets its contract: a line begins after each LF but a last one, and at the start. Assumes nothing.
 use mathlib.Core.Path.{sym}
 use native.Mathlib.Omega.{arith}
-use borrow.Author.Rules.{rules}
 use Rattle.lines.proofs.LineLaws.{count-ended, count_open, count_none}
 use Rattle.lines.proofs.count_lines.Goals as goal
 

@@ -1,6 +1,5 @@
 -- `lines::find_line` meets its contract: the line at a place is the first line of the slice from there on. Assumes nothing.
 use native.Mathlib.Omega.{arith}
-use borrow.Author.Rules.{rules}
 use Rattle.lines.proofs.SheetLaws.{from_here, find_past, find_none, find_two, find_warp, find-some}
 use Rattle.lines.proofs.find_line.Goals as goal
 

@@ -1,11 +1,8 @@
 -- `lines::is_headed` meets its contract: the bytes from here on match exactly when all do, and no byte of the header is 0, so none matches past
 -- the end. Assumes nothing.
-use borrow.Author.Rules.{rules}
-use Prim.Native.Nat.{◌-◌, ◌≤◌}
-use mathlib.Core.Path.{◌≡◌, refl, sym, ◌∙◌}
-use lib.ListN.{drop}
+use mathlib.Core.Path.{refl, sym, ◌∙◌}
 use native.Mathlib.Omega.{arith}
-use Rattle.lines.proofs.HeaderLaws.{match_at, header_line, headed_match, match_step, match_stop, match_end}
+use Rattle.lines.proofs.HeaderLaws.{header_line, headed_match, match_step, match_stop, match_end}
 use Rattle.lines.proofs.is_headed.Goals as goal
 
 pub loop-i-init : goal.loop-i-init

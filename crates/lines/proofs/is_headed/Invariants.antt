@@ -1,11 +1,9 @@
 -- `lines::is_headed` meets its contract: the bytes from here on match exactly when all do, and no byte of the header is 0, so none matches past
 -- the end. Assumes nothing.
-use borrow.Author.Rules.{rules}
 use Prim.Native.Nat.{◌-◌, ◌≤◌}
-use mathlib.Core.Path.{◌≡◌, refl, sym, ◌∙◌}
+use mathlib.Core.Path.{◌≡◌}
 use lib.ListN.{drop}
-use native.Mathlib.Omega.{arith}
-use Rattle.lines.proofs.HeaderLaws.{match_at, header_line, headed_match, match_step, match_stop, match_end}
+use Rattle.lines.proofs.HeaderLaws.{match_at, header_line}
 use Rattle.lines.proofs.is_headed.Given as goal
 
 -- the place is inside the header, and what is left matches from here on exactly when all does from the start

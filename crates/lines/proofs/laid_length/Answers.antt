@@ -1,7 +1,6 @@
 -- `lines::laid_length` meets its contract: the run of statement bytes ends at the LF of a line that is laid out, and the tests made there are
 -- those of the layout. Assumes nothing.
 use mathlib.Core.Bool.{true, false}
-use borrow.Author.Rules.{rules}
 use Rattle.lines.proofs.LayoutLaws.{measured_as}
 use Rattle.lines.proofs.laid_length.Goals as goal
 

@@ -1,6 +1,5 @@
 -- `lines::one_if` meets its contract: one is added exactly when the test holds. Assumes nothing.
 use native.Mathlib.Omega.{arith}
-use borrow.Author.Rules.{rules}
 use Rattle.lines.proofs.one_if.Goals as goal
 
 pub returns-then-b : goal.returns-then-b

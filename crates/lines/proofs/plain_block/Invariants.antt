@@ -1,14 +1,10 @@
 -- `lines::plain_block` meets its contract: the tests made and those left are together all of them. Assumes nothing.
 use Prim.Native.Nat.{◌+◌, ◌-◌, ◌≤◌}
-use mathlib.Core.Path.{◌≡◌, sym, ◌∙◌}
+use mathlib.Core.Path.{◌≡◌}
 use mathlib.Core.Bool.{◌&&◌}
 use lib.ListN.{take, drop}
-use native.Mathlib.Omega.{arith}
-use native.Mathlib.Nat.{add-zero}
-use borrow.Author.Rules.{rules}
 use Rattle.tokens.specs.Bytes.{all}
 use Rattle.lines.specs.Sheet.{plain}
-use Rattle.lines.proofs.LayoutLaws.{all_step, all_end}
 use Rattle.lines.proofs.plain_block.Given as goal
 
 -- at most 16 tests are made, and those made and those left are together all

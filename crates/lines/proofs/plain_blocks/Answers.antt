@@ -1,10 +1,9 @@
 -- `lines::plain_blocks` meets its contract: 16 bytes of a statement are the start of the run, which goes on after them. Assumes nothing.
-use Prim.Native.Nat.{◌+◌, ◌-◌, ◌≤◌}
-use mathlib.Core.Path.{◌≡◌, refl, sym, ◌∙◌}
-use lib.ListN.{length, drop}
+use Prim.Native.Nat.{◌+◌, ◌≤◌}
+use mathlib.Core.Path.{refl, sym, ◌∙◌}
+use lib.ListN.{length}
 use native.Mathlib.Omega.{arith}
 use borrow.Author.Tests.{not-false}
-use Rattle.tokens.specs.Bytes.{run_len}
 use Rattle.lines.specs.Sheet.{plain}
 use Rattle.lines.proofs.LayoutLaws.{run_block}
 use Rattle.lines.proofs.plain_blocks.Goals as goal

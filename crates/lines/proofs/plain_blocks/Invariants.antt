@@ -1,12 +1,9 @@
 -- `lines::plain_blocks` meets its contract: 16 bytes of a statement are the start of the run, which goes on after them. Assumes nothing.
 use Prim.Native.Nat.{◌+◌, ◌-◌, ◌≤◌}
-use mathlib.Core.Path.{◌≡◌, refl, sym, ◌∙◌}
+use mathlib.Core.Path.{◌≡◌}
 use lib.ListN.{length, drop}
-use native.Mathlib.Omega.{arith}
-use borrow.Author.Tests.{not-false}
 use Rattle.tokens.specs.Bytes.{run_len}
 use Rattle.lines.specs.Sheet.{plain}
-use Rattle.lines.proofs.LayoutLaws.{run_block}
 use Rattle.lines.proofs.plain_blocks.Given as goal
 
 -- the place is inside, and the run from here on ends where the run from the start does

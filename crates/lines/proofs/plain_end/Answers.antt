@@ -1,11 +1,7 @@
 -- `lines::plain_end` meets its contract: the run from here on ends where the run from the start does. Assumes nothing.
-use Prim.Native.Nat.{◌+◌, ◌-◌}
-use mathlib.Core.Path.{◌≡◌, sym, ◌∙◌}
-use lib.ListN.{length, drop}
+use mathlib.Core.Path.{sym, ◌∙◌}
 use native.Mathlib.Omega.{arith}
-use borrow.Author.Rules.{rules}
 use borrow.Author.Tests.{not-true, not-false}
-use Rattle.tokens.specs.Bytes.{run_len}
 use Rattle.tokens.proofs.Runs.{run_step, run_stop, run_past}
 use Rattle.lines.specs.Sheet.{plain}
 use Rattle.lines.proofs.plain_end.Goals as goal

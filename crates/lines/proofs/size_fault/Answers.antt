@@ -1,7 +1,6 @@
 -- `lines::size_fault` meets its contract: with at most 65,536 bytes it is the lines alone that count. Assumes nothing.
 use mathlib.Core.Path.{ap}
 use lib.Dec.{ltb}
-use borrow.Author.Rules.{rules}
 use borrow.Author.Tests.{lt-ltb, le-ltb}
 use Rattle.lines.specs.Sheet.{oversize}
 use Rattle.lines.proofs.size_fault.Goals as goal

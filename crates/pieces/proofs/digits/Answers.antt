@@ -1,13 +1,10 @@
 -- `pieces::digits` meets its contract: each turn puts the last digit of what is left before the others, and what is left is short enough for the
 -- places before it. Assumes nothing.
-use Prim.Native.Nat.{◌<◌, ◌≤◌}
 use native.Mathlib.Omega.{arith}
-use mathlib.Core.Path.{◌≡◌, refl, sym, ◌∙◌}
-use mathlib.Core.List.{◌++◌}
-use lib.ListN.{length, take, drop, length-set}
+use mathlib.Core.Path.{refl, sym, ◌∙◌}
+use lib.ListN.{length-set}
 use lib.Seq.{take-set-le}
-use Rattle.tokens.specs.Numbers.{decimal}
-use Rattle.pieces.proofs.DigitLaws.{digits_start, power, short, q10, r10, less10, digit_step, digit_end, kept_step, power_step}
+use Rattle.pieces.proofs.DigitLaws.{digits_start, q10, r10, less10, digit_step, digit_end, kept_step, power_step}
 use Rattle.pieces.proofs.digits.Goals as goal
 
 pub loop-w-init : goal.loop-w-init

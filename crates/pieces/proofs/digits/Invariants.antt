@@ -1,13 +1,11 @@
 -- `pieces::digits` meets its contract: each turn puts the last digit of what is left before the others, and what is left is short enough for the
 -- places before it. Assumes nothing.
 use Prim.Native.Nat.{◌<◌, ◌≤◌}
-use native.Mathlib.Omega.{arith}
-use mathlib.Core.Path.{◌≡◌, refl, sym, ◌∙◌}
+use mathlib.Core.Path.{◌≡◌}
 use mathlib.Core.List.{◌++◌}
-use lib.ListN.{length, take, drop, length-set}
-use lib.Seq.{take-set-le}
+use lib.ListN.{length, take, drop}
 use Rattle.tokens.specs.Numbers.{decimal}
-use Rattle.pieces.proofs.DigitLaws.{digits_start, power, short, q10, r10, less10, digit_step, digit_end, kept_step, power_step}
+use Rattle.pieces.proofs.DigitLaws.{power, short, q10, r10}
 use Rattle.pieces.proofs.digits.Given as goal
 
 -- the digits of what is left, and those that stand from i on, are the decimal

@@ -1,7 +1,7 @@
 -- `pieces::fill` meets its contract: the bytes left, put from here on, give what all the bytes give, put from the start. Assumes nothing.
-use Prim.Native.Nat.{◌+◌, ◌-◌, ◌≤◌}
+use Prim.Native.Nat.{◌+◌}
 use mathlib.Core.Path.{◌≡◌, refl, sym, ◌∙◌}
-use lib.ListN.{length, drop, length-set, drop_of_length-le}
+use lib.ListN.{drop, length-set, drop_of_length-le}
 use lib.Seq.{sets}
 use native.Mathlib.Omega.{arith}
 use native.Mathlib.Nat.{add-zero}

@@ -1,11 +1,8 @@
 -- `pieces::fill` meets its contract: the bytes left, put from here on, give what all the bytes give, put from the start. Assumes nothing.
 use Prim.Native.Nat.{◌+◌, ◌-◌, ◌≤◌}
-use mathlib.Core.Path.{◌≡◌, refl, sym, ◌∙◌}
-use lib.ListN.{length, drop, length-set, drop_of_length-le}
+use mathlib.Core.Path.{◌≡◌}
+use lib.ListN.{length, drop}
 use lib.Seq.{sets}
-use native.Mathlib.Omega.{arith}
-use native.Mathlib.Nat.{add-zero}
-use Rattle.laws.proofs.StoreLaws.{put_step}
 use Rattle.pieces.proofs.fill.Given as goal
 
 -- the place is inside, the buffer keeps its length, and the bytes left, put from here on, give what all give, put from the start

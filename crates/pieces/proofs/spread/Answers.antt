@@ -1,11 +1,8 @@
 -- `pieces::spread` meets its contract: each turn puts the last byte of what is left before the others, and what is left is short enough for the places before it. Assumes nothing.
-use Prim.Native.Nat.{◌<◌, ◌≤◌}
 use native.Mathlib.Omega.{arith}
-use mathlib.Core.Path.{◌≡◌, refl, sym, ◌∙◌}
-use mathlib.Core.List.{◌++◌}
-use lib.ListN.{length, take, drop, length-set}
-use Rattle.tokens.specs.Names.{low_bytes, strip}
-use Rattle.pieces.proofs.DigitLaws.{bytes-start, power, short, q256, r256, less256, digit_step, digit_end, kept_step, power_step}
+use mathlib.Core.Path.{refl, sym, ◌∙◌}
+use lib.ListN.{length-set}
+use Rattle.pieces.proofs.DigitLaws.{bytes-start, q256, r256, less256, digit_step, digit_end, kept_step, power_step}
 use Rattle.pieces.proofs.spread.Goals as goal
 
 pub loop-w-init : goal.loop-w-init

@@ -1,5 +1,4 @@
 -- `report::field` meets its contract: the digits are the number in decimal, and the mark goes after them. Assumes nothing.
-use borrow.Author.Rules.{rules}
 use Rattle.report.proofs.ReportLaws.{field_put}
 use Rattle.report.proofs.field.Goals as goal
 

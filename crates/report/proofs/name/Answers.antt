@@ -1,5 +1,4 @@
 -- `report::name` meets its contract: the bytes of both words, each without the zeros that lead, are those of the name. Assumes nothing.
-use borrow.Author.Rules.{rules}
 use Rattle.report.proofs.ReportLaws.{name_put}
 use Rattle.report.proofs.name.Goals as goal
 

@@ -1,6 +1,5 @@
 -- `report::put` meets its contract: it tests that there is room for all before it writes. Assumes nothing.
 use native.Mathlib.Omega.{arith}
-use borrow.Author.Rules.{rules}
 use Rattle.report.proofs.ReportLaws.{put_no, put_yes}
 use Rattle.report.proofs.put.Goals as goal
 

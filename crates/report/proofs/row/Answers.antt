@@ -3,7 +3,6 @@
 use mathlib.Core.Path.{refl, sym}
 use lib.Seq.{length-take-le}
 use Rattle.report.proofs.ReportLaws.{row_fits, row_put}
-use borrow.Author.Rules.{rules}
 use Rattle.report.proofs.row.Goals as goal
 
 pub slice_bounds-text-end : goal.slice_bounds-text-end

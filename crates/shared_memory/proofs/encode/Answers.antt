@@ -2,7 +2,6 @@
 use mathlib.Core.Path.{refl, sym, ◌∙◌}
 use mathlib.Core.Bool.{true, false}
 use borrow.Author.Tests.{not-true, not-false}
-use borrow.Author.Rules.{rules}
 use Rattle.laws.proofs.LayoutLaws.{within}
 use Rattle.shared_memory.specs.Shared.{layout, numbers}
 use Rattle.shared_memory.proofs.SharedLaws.{writing}

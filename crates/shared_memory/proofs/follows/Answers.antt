@@ -2,7 +2,6 @@
 -- Assumes nothing.
 use mathlib.Core.Path.{sym}
 use lib.Dec.{eqb}
-use borrow.Author.Rules.{rules}
 use Rattle.shared_memory.proofs.SharedLaws.{by_bits, above_seven}
 use Rattle.shared_memory.specs.declared.Shared.{Shared}
 use Rattle.shared_memory.proofs.follows.Goals as goal

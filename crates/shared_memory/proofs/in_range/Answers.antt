@@ -1,7 +1,6 @@
 -- `shared_memory::in_range` meets its contract: the code makes the tests of the layout in another order, by `in_order`. Assumes nothing.
 use Prim.Native.Nat.{◌%◌}
 use lib.Dec.{eqb, leb}
-use borrow.Author.Rules.{rules}
 use Rattle.shared_memory.proofs.SharedLaws.{in_order}
 use Rattle.shared_memory.specs.declared.Shared.{Shared}
 use Rattle.shared_memory.proofs.in_range.Goals as goal

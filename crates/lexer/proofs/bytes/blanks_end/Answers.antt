@@ -1,10 +1,7 @@
 -- `lexer::bytes::blanks_end` meets its contract. The loop's invariant: what is left of the run from here ends where the run from the start does. Assumes nothing.
-use Prim.Native.Nat.{◌+◌, ◌-◌}
-use mathlib.Core.Path.{◌≡◌, refl}
-use lib.ListN.{length, drop}
+use mathlib.Core.Path.{refl}
 use native.Mathlib.Omega.{arith}
-use borrow.Author.Rules.{rules}
-use Rattle.tokens.specs.Bytes.{run_len, blank}
+use Rattle.tokens.specs.Bytes.{blank}
 use Rattle.tokens.proofs.Runs.{run_step, run_stop, run_past}
 use Rattle.lexer.proofs.Laws.{blank_no, blank-is}
 use Rattle.lexer.proofs.bytes.blanks_end.Goals as goal

@@ -1,6 +1,5 @@
 -- `lexer::bytes::digit_of` meets its contract: each way out is one range of bytes, in which the definition's tests are known. Assumes nothing.
 use Rattle.lexer.proofs.Laws.{digit_09, digit-AF, digit_af, digit_before, digit_after_9, digit_after-F, digit_after_f}
-use borrow.Author.Rules.{rules}
 use Rattle.lexer.proofs.bytes.digit_of.Goals as goal
 
 pub returns-then-x-lt48 : goal.returns-then-x-lt48

@@ -1,7 +1,6 @@
 -- `lexer::cursor::end` meets its contract: it is the mark's cursor, and nothing is left where the position is not below the length. Assumes nothing.
 use Rattle.tokens.specs.Cursors.{end_c}
 use Rattle.lexer.proofs.Laws.{end_law}
-use borrow.Author.Rules.{rules}
 use Rattle.lexer.proofs.cursor.end.Goals as goal
 
 pub returns : goal.returns

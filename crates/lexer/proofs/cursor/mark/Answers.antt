@@ -6,7 +6,6 @@ use lib.ListN.{drop_of_length-le}
 use lib.Seq.{drop-cons}
 use native.Mathlib.Numerals.{add-one}
 use Rattle.lexer.proofs.Laws.{blank_law, blank-within}
-use borrow.Author.Rules.{rules}
 use Rattle.lexer.proofs.cursor.mark.Goals as goal
 
 pub returns-then-not-k : goal.returns-then-not-k

@@ -4,7 +4,6 @@ use borrow.Author.Tests.{not-true, not-false}
 use Rattle.tokens.specs.Cursors.{name_c, seen}
 use Rattle.lexer.proofs.Laws.{blank_law, blank-within, end-within}
 use Rattle.lexer.proofs.Names.{here_law}
-use borrow.Author.Rules.{rules}
 use Rattle.lexer.proofs.cursor.name.Goals as goal
 
 pub returns-then-not-k : goal.returns-then-not-k

@@ -9,7 +9,6 @@ use Rattle.tokens.specs.Cursors.{number_c, seen}
 use Rattle.tokens.proofs.Lengths.{token_le}
 use Rattle.lexer.proofs.Laws.{blank_law, blank-within, end-within, after_law, far_law, far_within}
 use Rattle.lexer.proofs.Numbers.{used_token, number-none, number_big, number_small}
-use borrow.Author.Rules.{rules}
 use Rattle.lexer.proofs.cursor.number.Goals as goal
 
 pub returns-then-not-k : goal.returns-then-not-k

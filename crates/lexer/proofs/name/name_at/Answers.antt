@@ -7,7 +7,6 @@ use borrow.Author.Tests.{not-true, not-false}
 use Rattle.tokens.specs.Bytes.{word_byte}
 use Rattle.tokens.proofs.Runs.{run_le}
 use Rattle.lexer.proofs.Names.{name-past, name-not, short_none, short_end, short_name, long_none, long_end, long_name}
-use borrow.Author.Rules.{rules}
 use Rattle.lexer.proofs.name.name_at.Goals as goal
 
 pub returns-then-s-at : goal.returns-then-s-at

@@ -1,12 +1,10 @@
 -- `lexer::name::pack` meets its contract. The loop's invariant: the bytes from here, after w, are the bytes from the start after v, and end where these do; w has at most eight bits for each byte there was room for. Assumes nothing.
-use Prim.Native.Nat.{◌+◌, ◌-◌, ◌^◌, ◌*◌, ◌≤◌, ◌<◌}
+use Prim.Native.Nat.{◌+◌, ◌-◌, ◌<◌}
 use mathlib.Core.Path.{◌≡◌, refl, sym, ◌∙◌}
-use lib.ListN.{length, drop, take, length-drop}
+use lib.ListN.{length, drop, length-drop}
 use native.Mathlib.Omega.{arith}
-use borrow.Author.Rules.{rules}
 use borrow.Author.Tests.{not-true, not-false}
 use Rattle.tokens.specs.Bytes.{word_byte}
-use Rattle.tokens.specs.Names.{byte_digits}
 use Rattle.lexer.specs.Runs.{words_len}
 use Rattle.tokens.proofs.Runs.{run_le, run_step, run_stop}
 use Rattle.lexer.proofs.Names.{pack-start, pack_step, pack-none, cap_next, cap_step, cap_small}

@@ -1,5 +1,4 @@
 -- `lexer::name::shaped` meets its contract: the tests are those of the callees. Assumes nothing.
-use borrow.Author.Rules.{rules}
 use Rattle.lexer.proofs.name.shaped.Goals as goal
 
 pub returns : goal.returns

@@ -1,5 +1,4 @@
 -- `lexer::name::starts` meets its contract: both tests are those of the callees. Assumes nothing.
-use borrow.Author.Rules.{rules}
 use Rattle.lexer.proofs.name.starts.Goals as goal
 
 pub returns : goal.returns

@@ -1,12 +1,8 @@
 -- `lexer::number::digits_end` meets its contract. The loop's invariant: what is left of the run from here ends where the run from the start does. Assumes nothing.
 use Prim.Native.Nat.{◌-◌, ◌+◌}
-use mathlib.Core.Path.{◌≡◌, refl}
+use mathlib.Core.Path.{◌≡◌}
 use lib.ListN.{length, drop}
-use native.Mathlib.Omega.{arith}
-use borrow.Author.Rules.{rules}
-use borrow.Author.Tests.{lt-ltb, le-ltb}
 use Rattle.tokens.specs.Bytes.{run_len}
-use Rattle.tokens.proofs.Runs.{run_step, run_stop, run_past}
 use Rattle.lexer.specs.Runs.{digit_below}
 use Rattle.lexer.proofs.number.digits_end.Given as goal
 

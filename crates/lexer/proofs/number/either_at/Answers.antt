@@ -3,7 +3,6 @@ use mathlib.Core.Bool.{or-false, and-true}
 use lib.ListN.{get_or, drop_of_length-le}
 use lib.Seq.{drop-cons}
 use lib.Dec.{eqb}
-use borrow.Author.Rules.{rules}
 use Rattle.lexer.proofs.number.either_at.Goals as goal
 
 pub returns-then-s-at : goal.returns-then-s-at

@@ -1,5 +1,4 @@
 -- `lexer::number::has_room` meets its contract: up to the notation's largest value each digit has room, and past it few or none have. Assumes nothing.
-use borrow.Author.Rules.{rules}
 use Rattle.lexer.proofs.Numbers.{room_below, room_past}
 use Rattle.lexer.proofs.number.has_room.Goals as goal
 

@@ -1,6 +1,5 @@
 -- `lexer::number::numeral` meets its contract: a token goes by the row of the table that its first two bytes tell, and 0 alone is 0. Assumes nothing.
 use mathlib.Core.Path.{sym, ◌∙◌}
-use borrow.Author.Rules.{rules}
 use borrow.Author.Tests.{not-true}
 use Rattle.lexer.proofs.Numbers.{numeral_past, numeral_decimal, numeral_hexadecimal, numeral_zero, numeral_binary, numeral_octal}
 use Rattle.lexer.proofs.number.numeral.Goals as goal

@@ -1,14 +1,10 @@
 -- `lexer::number::run` meets its contract. The loop's invariant: the digits from here, after v, are the digits from the start, and end where these do; v is below 2^64. Assumes nothing.
-use Prim.Native.Nat.{ℕ, ◌-◌, ◌*◌, ◌+◌, ◌^◌, ◌<◌, ◌≤◌}
-use mathlib.Core.Path.{◌≡◌, refl, sym, ap, ◌∙◌}
-use lib.ListN.{length, drop, get_or}
-use native.Mathlib.Omega.{arith}
-use borrow.Author.Rules.{rules}
-use borrow.Author.Tests.{not-true, not-false, ltb-true, ltb-false}
-use Rattle.tokens.specs.Numbers.{digit_of, among, digits_len, worth}
+use Prim.Native.Nat.{◌-◌, ◌+◌, ◌^◌, ◌<◌}
+use mathlib.Core.Path.{◌≡◌}
+use lib.ListN.{length, drop}
+use Rattle.tokens.specs.Numbers.{digits_len, worth}
 use Rattle.lexer.specs.Runs.{notation_of}
-use Rattle.tokens.proofs.Runs.{run_step, run_stop, run_past}
-use Rattle.lexer.proofs.Numbers.{digit_no, digit_is, run_below, fit_small, fit_over, digits_after, after_0, after_step, after_stop, after-past, after-over}
+use Rattle.lexer.proofs.Numbers.{digits_after}
 use Rattle.lexer.proofs.number.run.Given as goal
 
 abbrev pub invariant-loop-i : goal.invariant-loop-i

@@ -3,7 +3,6 @@ use native.Mathlib.Nat.{add-zero}
 use lib.ListN.{drop_of_length-le}
 use lib.Seq.{get_or-drop}
 use borrow.Author.Tests.{eq-eqb, ne_eqb}
-use borrow.Author.Rules.{rules}
 use Rattle.lexer.proofs.number.suffix_of.Goals as goal
 
 pub returns-then-s-at : goal.returns-then-s-at
