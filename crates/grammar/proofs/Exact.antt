@@ -11,7 +11,6 @@ use borrow.Author.Tests.{le-leb, lt-leb, leb-true}
 use Rattle.tokens.specs.declared.Name.{Name}
 use Rattle.tokens.specs.Bytes.{opcode_byte, run_len}
 use Rattle.tokens.specs.Cursors.{Rest, Took}
-use Rattle.statement.specs.declared.Address.{Address}
 use Rattle.statement.specs.declared.Operand.TheVariants as operand
 use Rattle.statement.specs.declared.Statement.{Statement}
 use Rattle.statement.specs.declared.Opcode.{Opcode}

@@ -12,7 +12,6 @@ use Rattle.statement.specs.Reading.{opcode_len}
 use Rattle.grammar.specs.Spells.{Spells}
 use Rattle.grammar.specs.Claims.{After, here, past, Stops, Over, One}
 use Rattle.grammar.proofs.Lexing.{token_parts}
-use Rattle.grammar.proofs.Readers.{ends}
 use Rattle.grammar.proofs.Stops.{lights, token_ends, token_replay}
 use mathlib.Core.Logic.{◌⊎◌, inl, inr}
 

@@ -20,7 +20,7 @@ use Rattle.grammar.specs.Claims.{Stops, Place}
 use Rattle.statement.proofs.Words.{recognised, recognises}
 use Rattle.grammar.proofs.Rows.{row_sound}
 use Rattle.grammar.proofs.Exact.{whole-at, Met, spells_met, read_spells, stopped_three}
-use Rattle.grammar.proofs.Readers.{ends, row_plan, row_runs}
+use Rattle.grammar.proofs.Readers.{row_plan, row_runs}
 use Rattle.grammar.proofs.Stops.{Stand, bad, Row, reads, takes, Stop, stop, head_none, run_stops, same_head, heads, lights}
 use Rattle.grammar.proofs.QuantityRow.{stand}
 use Rattle.grammar.proofs.PlanTokens.{row_of, plan_row, row-good}

@@ -1,6 +1,6 @@
 -- Where a number stands, a number alone or an expression is read exactly where a text spells one, and a text spells one value at most. Assumes nothing.
 use Rattle.tokens.specs.Text.{byte}
-use Prim.Native.Nat.{ℕ, suc, ◌+◌}
+use Prim.Native.Nat.{ℕ, suc}
 use native.Mathlib.Omega.{arith}
 use mathlib.Core.Path.{◌≡◌, refl, sym, ap, subst, ◌∙◌}
 use mathlib.Core.List.{List, [], ◌∷◌}

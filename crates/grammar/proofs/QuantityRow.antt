@@ -14,7 +14,7 @@ use Rattle.tokens.specs.Bytes.{letter, word_byte, run_len, after_blanks, token_l
 use Rattle.tokens.specs.Numbers.{is_number, value_of}
 use Rattle.tokens.specs.Cursors.{Rest, Took, on, off, large, mark_here, mark_c, number_is, number_here, number_c}
 use Rattle.laws.proofs.BoolLaws.{never, clash, or_left, or_right}
-use Rattle.grammar.proofs.Lexing.{at, starts, number_sound}
+use Rattle.grammar.proofs.Lexing.{starts, number_sound}
 use Rattle.expression.specs.declared.Amount.{Amount}
 use Rattle.expression.specs.declared.Operator.{Operator}
 use Rattle.expression.specs.declared.Operator.TheVariants as o

@@ -1,6 +1,6 @@
 -- A row of tokens, expressions among them, stops at the first token at which it cannot go on: one induction over the bytes that are left and over the row, for every
 -- row whose branches begin with different tokens. Assumes nothing.
-use Prim.Native.Nat.{ℕ, zero, suc, ◌-◌, ◌≤◌, ◌<◌}
+use Prim.Native.Nat.{ℕ, zero, suc, ◌≤◌, ◌<◌}
 use native.Mathlib.Nat.{add-zero}
 use native.Mathlib.Omega.{arith}
 use mathlib.Core.Path.{◌≡◌, refl, sym, ap, ◌∙◌}

@@ -4,20 +4,17 @@ use native.Mathlib.Numerals.{add-one}
 use native.Mathlib.Omega.{arith}
 use mathlib.Core.Path.{◌≡◌, refl, sym, ◌∙◌}
 use mathlib.Core.List.{List, []}
-use mathlib.Core.Bool.{Bool, true, false, not, ◌&&◌, cond}
+use mathlib.Core.Bool.{Bool, true, false, not, ◌&&◌}
 use lib.ListN.{length, get_or, drop, drop_of_length-le, length-drop}
 use lib.Seq.{drop-cons}
-use lib.Dec.{leb, eqb}
-use borrow.Author.Tests.{eq-eqb, ne_eqb, leb-false}
+use lib.Dec.{eqb}
+use borrow.Author.Tests.{eq-eqb, ne_eqb}
 use Rattle.tokens.specs.Text.{byte}
 use Rattle.tokens.specs.Bytes.{blank, run_len}
-use Rattle.tokens.specs.Cursors.{Rest}
 use Rattle.lexer.proofs.Laws.{blank_law}
-use Rattle.statement.specs.declared.Statement.{Statement}
 use Rattle.statement.specs.declared.Reading.{Reading}
-use Rattle.statement.specs.declared.Reading.TheVariants.{NoForm}
 use Rattle.statement.specs.declared.Position.TheVariants.{Token, Name, Operand}
-use Rattle.statement.specs.Reading.{opcode_len, whole_c, answer_of, longest_text, read_of}
+use Rattle.statement.specs.Reading.{opcode_len, read_of}
 use Rattle.statement.proofs.Stops.{stop_le}
 use Rattle.statement.specs.Positions.{within, after_comma, after_commas, operand_from, after_bracket, name_from, operand_place, name_place, stop_in, statement_column, byte_column}
 

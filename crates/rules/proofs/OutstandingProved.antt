@@ -21,7 +21,7 @@ use Rattle.statement.specs.Views as act
 use Rattle.statement.specs.Views.{Act, Ask, Turn, act_of, request_in, release_in, release_of, for, of, same_transfer}
 use Rattle.statement.proofs.Each.{same_transfer_lem, transfer_same, each_act}
 use Rattle.rules.specs.State.{State, Allocation, Placer, Mark, is_live, without, is_by, is_marked, is_busy, after_wait, after_release}
-use Rattle.rules.specs.Sheet.{Line, turn_of, act_in, Placing, line_rules, line_effect, effect, added, Sheet, held_after, state_by, rules_by, stop_by}
+use Rattle.rules.specs.Sheet.{Line, turn_of, act_in, Placing, line_effect, effect, added, Sheet, held_after, state_by, rules_by, stop_by}
 use Rattle.rules.specs.Rows.{kept as all-kept, whole, asked}
 use Rattle.rules.specs.Reasons.{waited}
 use Rattle.rules.specs.Claims.{AllKept, Unique, Orderly, accepted_lines}

@@ -11,7 +11,6 @@ use Rattle.statement.specs.declared.Statement.{Statement}
 use Rattle.statement.specs.Views as act
 use Rattle.statement.specs.Views.{Act, act_of}
 use Rattle.statement.specs.Canonical.{sparse}
-use Rattle.statement.specs.Cells as cells
 use Rattle.statement.specs.Positions.{idesc_at}
 use Rattle.rules.specs.State.{State, Placer}
 use Rattle.rules.specs.Rows.{Row, row}

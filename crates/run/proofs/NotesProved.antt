@@ -1,17 +1,17 @@
 -- Of any statements under any starts: what the run notes of loads and stores is what the lines before leave outstanding. A note is set and ended by the
 -- lines that set and end what is outstanding, and while the run goes on each access is on a live holding, whose name no other has. Assumes nothing.
-use Prim.Native.Nat.{ℕ, zero, suc, ◌+◌, ◌≤◌, ◌<◌}
+use Prim.Native.Nat.{ℕ, zero, suc, ◌+◌, ◌<◌}
 use mathlib.Core.Path.{◌≡◌, refl, sym, ap, ◌∙◌, subst}
-use mathlib.Core.Bool.{Bool, true, false, not, ◌&&◌, ◌||◌, cond, and-false}
+use mathlib.Core.Bool.{Bool, true, false, not, ◌&&◌, ◌||◌, cond}
 use mathlib.Core.List.{List, [], ◌∷◌}
 use mathlib.Core.Logic.{◌⊎◌, inl, inr, ◌↔◌}
 use native.Mathlib.Omega.{arith}
 use lib.Dec.{leb, eqb}
 use borrow.Author.Tests.{not-true, leb-true, leb-false}
-use Rattle.laws.proofs.BoolLaws.{bool, never, clash, and_l, and_r, or_cases, or_left, or_right}
+use Rattle.laws.proofs.BoolLaws.{bool, never, clash, and_l, or_cases, or_left, or_right}
 use Rattle.tokens.specs.declared.Name.{Name}
 use Rattle.tokens.specs.Names.{same_name}
-use Rattle.tokens.proofs.Names.{same_true, same_name_lem}
+use Rattle.tokens.proofs.Names.{same_true}
 use Rattle.statement.specs.declared.Transfer.{Transfer}
 use Rattle.statement.specs.declared.Access.{Access}
 use Rattle.statement.specs.Views as act
@@ -20,7 +20,7 @@ use Rattle.statement.specs.Cells.{lanes_for, columns_for}
 use Rattle.statement.proofs.Each.{each_act}
 use Rattle.rules.specs.Outstanding.{Outstanding}
 use Rattle.rules.proofs.OutstandingProved.{not_is, asks, gives, to_lines, from_lines, starts as sets, stops as ends}
-use Rattle.run.specs.Run.{Holding, Region, Run, Phase, going, stopped_at, exited, ended, has, has_name, has_both, without, may_use, start_at, region, lies, all_lie, booked_by, known, able, done, in_phase, go, after}
+use Rattle.run.specs.Run.{Holding, Region, Run, Phase, going, stopped_at, exited, ended, has, has_name, has_both, without, may_use, start_at, region, lies, all_lie, booked_by, known, able, done, go, after}
 use Rattle.run.specs.Demand3.{NotesExact}
 use Rattle.run.proofs.Agree.{pending_next}
 use Rattle.run.proofs.AnyStarts.{go_by}

@@ -2,7 +2,6 @@
 use mathlib.Core.Path.{ap}
 use Rattle.cells.specs.declared.Row.{Row}
 use Rattle.statement.specs.Cells.{miscounted}
-use borrow.Author.Rules.{rules}
 use Rattle.cells.proofs.is_miscounted.Goals as goal
 
 pub returns : goal.returns

@@ -3,7 +3,6 @@ use mathlib.Core.Path.{ap}
 use Rattle.cells.specs.declared.Row.{Row}
 use Rattle.statement.specs.Cells.{cells, registers_for}
 use Rattle.cells.proofs.Laws.{registers_le, product}
-use borrow.Author.Rules.{rules}
 use Rattle.cells.proofs.registers.Goals as goal
 
 pub overflow_mul-result : goal.overflow_mul-result

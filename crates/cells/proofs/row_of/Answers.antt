@@ -1,5 +1,4 @@
 -- `cells::row_of` meets its contract. In each arm the shape is known, and the arm's row is the table's. Assumes nothing.
-use borrow.Author.Rules.{rules}
 use Rattle.cells.proofs.row_of.Goals as goal
 
 pub returns-in-S32x32 : goal.returns-in-S32x32

@@ -1,13 +1,12 @@
 -- Expressions, terms and factors meet their contracts: one cycle of calls. Each return of a factor is a law of the levels, and each turn of
 -- a chain is a law of links. Assumes nothing.
-use mathlib.Core.Path.{◌≡◌, refl, sym, ap, ◌∙◌}
+use mathlib.Core.Path.{refl, sym, ap, ◌∙◌}
 use native.Mathlib.Omega.{arith}
-use borrow.Author.Rules.{rules}
 use borrow.Author.Tests.{not-true, not-false}
 use lib.ListN.{length, drop}
 use Rattle.tokens.specs.Cursors.{Took}
 use Rattle.expression.specs.declared.Amount.{Amount}
-use Rattle.expression.specs.Expressions.{sum_c, product_c, links_c, chain_c, term_by, factor_c, reached, amount_seen}
+use Rattle.expression.specs.Expressions.{sum_c, product_c, links_c, chain_c, term_by, factor_c, reached}
 use Rattle.expression.proofs.ShrinkLaws.{sum_takes, product_takes, term_shrinks, factor_shrinks}
 use Rattle.expression.proofs.Laws.{more_done, more_less, more_took, level_none, group, minus, number}
 use Rattle.expression.proofs.+expr_factor_term.Goals as goal

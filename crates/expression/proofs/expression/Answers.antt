@@ -5,7 +5,6 @@ use Prim.Native.Nat.{ℕ}
 use Rattle.tokens.specs.Cursors.{seen}
 use Rattle.lexer.proofs.Laws.{blank_law}
 use Rattle.expression.specs.Expressions.{settled, expression_c, amount_seen}
-use borrow.Author.Rules.{rules}
 use Rattle.expression.proofs.expression.Goals as goal
 
 pub returns : goal.returns

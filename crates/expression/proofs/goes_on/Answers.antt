@@ -3,7 +3,6 @@ use lib.ListN.{drop_of_length-le}
 use lib.Seq.{drop-cons}
 use Rattle.lexer.proofs.Laws.{blank_law}
 use Rattle.expression.specs.Expressions.{goes_on}
-use borrow.Author.Rules.{rules}
 use Rattle.expression.proofs.goes_on.Goals as goal
 
 pub returns-then-s-i : goal.returns-then-s-i

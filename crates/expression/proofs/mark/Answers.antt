@@ -3,7 +3,6 @@ use mathlib.Core.Path.{◌∙◌, ap}
 use Rattle.tokens.specs.Cursors.{Rest, mark_c}
 use Rattle.expression.specs.Expressions.{clean, reached}
 use Rattle.expression.proofs.Laws.{mark-clean}
-use borrow.Author.Rules.{rules}
 use Rattle.expression.proofs.mark.Goals as goal
 
 pub returns : goal.returns

@@ -1,6 +1,5 @@
 -- `expression::plain` meets its contract: a number up to 2^63 - 1, where no number was too large yet. Assumes nothing.
 use Rattle.expression.specs.Expressions.{plain_c}
-use borrow.Author.Rules.{rules}
 use Rattle.expression.proofs.plain.Goals as goal
 
 pub returns : goal.returns

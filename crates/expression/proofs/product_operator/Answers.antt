@@ -1,6 +1,5 @@
 -- `expression::product_operator` meets its contract. Assumes nothing.
 use Rattle.expression.specs.Expressions.{product_c}
-use borrow.Author.Rules.{rules}
 use Rattle.expression.proofs.product_operator.Goals as goal
 
 pub returns : goal.returns

@@ -2,7 +2,6 @@
 use mathlib.Core.Path.{◌∙◌}
 use Rattle.tokens.specs.Cursors.{seen}
 use Rattle.expression.proofs.QuantityLaws.{alone, not-alone}
-use borrow.Author.Rules.{rules}
 use Rattle.expression.proofs.quantity.Goals as goal
 
 pub returns-then-e-goes_on : goal.returns-then-e-goes_on

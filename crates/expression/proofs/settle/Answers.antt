@@ -4,7 +4,6 @@ use borrow.Author.Tests.{not-true, not-false}
 use Rattle.tokens.specs.Cursors.{seen}
 use Rattle.expression.specs.Expressions.{amount_seen}
 use Rattle.expression.proofs.QuantityLaws.{settled-off, settled-fits, settled-over, far_first, far_here}
-use borrow.Author.Rules.{rules}
 use Rattle.expression.proofs.settle.Goals as goal
 
 pub returns-then-not-e : goal.returns-then-not-e

@@ -1,6 +1,5 @@
 -- `expression::sum_operator` meets its contract: a + is tried first, as in the definition. Assumes nothing.
 use Rattle.expression.specs.Expressions.{sum_c}
-use borrow.Author.Rules.{rules}
 use Rattle.expression.proofs.sum_operator.Goals as goal
 
 pub returns-then-p : goal.returns-then-p

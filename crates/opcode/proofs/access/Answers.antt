@@ -3,7 +3,6 @@ use Rattle.tokens.specs.Text.{bytes}
 use Rattle.statement.specs.Forms.{shape_text, num_text}
 use Rattle.opcode.proofs.Laws.{piece_three}
 use Rattle.opcode.specs.Pieces.{left_seen}
-use borrow.Author.Rules.{rules}
 use Rattle.opcode.proofs.access.Goals as goal
 
 pub returns : goal.returns

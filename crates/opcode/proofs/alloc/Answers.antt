@@ -4,7 +4,6 @@ use Rattle.statement.specs.Forms.{word, option}
 use mathlib.Core.Path.{◌∙◌}
 use Rattle.opcode.proofs.Laws.{piece_three}
 use Rattle.opcode.specs.Pieces.{whole}
-use borrow.Author.Rules.{rules}
 use Rattle.opcode.proofs.alloc.Goals as goal
 
 pub returns : goal.returns

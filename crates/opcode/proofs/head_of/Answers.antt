@@ -1,7 +1,6 @@
 -- `opcode::head_of` meets its contract. It finds the head by the candidate, which is the head by the table. Assumes nothing.
 use Rattle.opcode.specs.Candidates.{head_in}
 use Rattle.opcode.proofs.Heads.{candidate_head}
-use borrow.Author.Rules.{rules}
 use Rattle.opcode.proofs.head_of.Goals as goal
 
 pub returns-then-k-stops_at : goal.returns-then-k-stops_at

@@ -3,7 +3,6 @@ use Rattle.tokens.specs.Text.{bytes}
 use Rattle.statement.specs.Forms.{word, option, kind_text}
 use Rattle.opcode.proofs.Laws.{piece_five}
 use Rattle.opcode.specs.Pieces.{whole}
-use borrow.Author.Rules.{rules}
 use Rattle.opcode.proofs.multiply.Goals as goal
 
 pub returns : goal.returns

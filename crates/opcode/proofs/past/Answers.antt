@@ -1,6 +1,5 @@
 -- `opcode::past` meets its contract. In each arm the opcode is known, and the word of the arm is its word. Assumes nothing.
 use Rattle.statement.specs.Forms.{word}
-use borrow.Author.Rules.{rules}
 use Rattle.opcode.proofs.past.Goals as goal
 
 pub returns-in-Mov32 : goal.returns-in-Mov32

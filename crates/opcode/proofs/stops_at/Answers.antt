@@ -1,7 +1,6 @@
 -- `opcode::stops_at` meets its contract. Inside the text the next byte's class decides it, and past the end nothing is next. Assumes nothing.
 use lib.ListN.{drop_of_length-le}
 use lib.Seq.{drop-cons}
-use borrow.Author.Rules.{rules}
 use Rattle.opcode.proofs.stops_at.Goals as goal
 
 pub returns-then-at-w : goal.returns-then-at-w

@@ -5,7 +5,6 @@ use Rattle.statement.specs.Forms.{word, shape_text, num_text}
 use mathlib.Core.Path.{◌∙◌}
 use Rattle.opcode.proofs.Laws.{piece_both}
 use Rattle.opcode.specs.Pieces.{whole}
-use borrow.Author.Rules.{rules}
 use Rattle.opcode.proofs.store.Goals as goal
 
 pub returns : goal.returns

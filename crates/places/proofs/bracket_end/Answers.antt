@@ -1,5 +1,4 @@
 -- `places::bracket_end` meets its contract: a bracket opens there, another byte stands there, or none. Assumes nothing.
-use borrow.Author.Rules.{rules}
 use Rattle.places.proofs.Laws.{bracket_open, bracket_none, bracket_past}
 use Rattle.places.proofs.bracket_end.Goals as goal
 

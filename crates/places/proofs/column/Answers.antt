@@ -1,5 +1,4 @@
 -- `places::column` meets its contract. One law for each position that has a place in the text. Assumes nothing.
-use borrow.Author.Rules.{rules}
 use Rattle.statement.specs.Positions.{byte_column}
 use Rattle.places.proofs.Laws.{name_column, operand_column}
 use Rattle.places.proofs.column.Goals as goal

@@ -1,7 +1,6 @@
 -- `places::column_at` meets its contract: what is dropped has the length less the position, or none. Assumes nothing.
 use lib.ListN.{length-drop}
 use native.Mathlib.Omega.{arith}
-use borrow.Author.Rules.{rules}
 use Rattle.places.proofs.column_at.Goals as goal
 
 pub returns-then-at-s : goal.returns-then-at-s

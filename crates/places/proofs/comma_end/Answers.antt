@@ -1,12 +1,6 @@
 -- `places::comma_end` meets its contract. The loop's invariant: what is left after the first comma from here on is what is left after the first from the
 -- start. Assumes nothing.
-use Prim.Native.Nat.{◌-◌}
-use mathlib.Core.Path.{◌≡◌, refl, ◌∙◌}
-use mathlib.Core.Bool.{false}
-use lib.ListN.{length, drop}
-use native.Mathlib.Omega.{arith}
-use borrow.Author.Rules.{rules}
-use Rattle.statement.specs.Positions.{after_comma}
+use mathlib.Core.Path.{refl, ◌∙◌}
 use Rattle.places.proofs.Laws.{comma-here, comma-next, comma-past}
 use Rattle.places.proofs.comma_end.Goals as goal
 

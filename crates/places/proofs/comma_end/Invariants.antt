@@ -1,13 +1,10 @@
 -- `places::comma_end` meets its contract. The loop's invariant: what is left after the first comma from here on is what is left after the first from the
 -- start. Assumes nothing.
 use Prim.Native.Nat.{◌-◌}
-use mathlib.Core.Path.{◌≡◌, refl, ◌∙◌}
+use mathlib.Core.Path.{◌≡◌}
 use mathlib.Core.Bool.{false}
 use lib.ListN.{length, drop}
-use native.Mathlib.Omega.{arith}
-use borrow.Author.Rules.{rules}
 use Rattle.statement.specs.Positions.{after_comma}
-use Rattle.places.proofs.Laws.{comma-here, comma-next, comma-past}
 use Rattle.places.proofs.comma_end.Given as goal
 
 abbrev pub invariant-loop-i : goal.invariant-loop-i

@@ -1,10 +1,6 @@
 -- `places::commas_end` meets its contract. The loop's invariant: what is left after the commas that are left to find from here on is what is left after all
 -- of them from the start. Assumes nothing.
-use mathlib.Core.Path.{◌≡◌, refl, ◌∙◌}
-use lib.ListN.{drop}
-use native.Mathlib.Omega.{arith}
-use borrow.Author.Rules.{rules}
-use Rattle.statement.specs.Positions.{after_commas}
+use mathlib.Core.Path.{refl, ◌∙◌}
 use Rattle.places.proofs.Laws.{commas_next, commas_past, commas_done}
 use Rattle.places.proofs.commas_end.Goals as goal
 

@@ -1,5 +1,4 @@
 -- `places::name` meets its contract: a place is the length less what is left from there on. Assumes nothing.
-use borrow.Author.Rules.{rules}
 use Rattle.places.proofs.Laws.{name-place}
 use Rattle.places.proofs.name.Goals as goal
 

@@ -1,11 +1,8 @@
 -- `places::opcode_end` meets its contract. The loop's invariant: what is left of the run from here ends where the run from the start does. Assumes nothing.
-use Prim.Native.Nat.{◌+◌, ◌-◌}
-use mathlib.Core.Path.{◌≡◌, sym, ◌∙◌}
-use lib.ListN.{length, drop}
+use mathlib.Core.Path.{sym, ◌∙◌}
 use native.Mathlib.Omega.{arith}
-use borrow.Author.Rules.{rules}
 use borrow.Author.Tests.{not-true, not-false}
-use Rattle.tokens.specs.Bytes.{run_len, opcode_byte}
+use Rattle.tokens.specs.Bytes.{opcode_byte}
 use Rattle.tokens.proofs.Runs.{run_step, run_stop, run_past}
 use Rattle.places.proofs.opcode_end.Goals as goal
 

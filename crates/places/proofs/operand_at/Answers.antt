@@ -1,5 +1,4 @@
 -- `places::operand_at` meets its contract: past the opcode, the commas and the blanks stands the operand. Assumes nothing.
-use borrow.Author.Rules.{rules}
 use Rattle.places.proofs.Laws.{operand_law}
 use Rattle.places.proofs.operand_at.Goals as goal
 

@@ -1,5 +1,4 @@
 -- `places::part_at` meets its contract: the name stands inside the operand's bracket. Assumes nothing.
-use borrow.Author.Rules.{rules}
 use Rattle.places.proofs.Laws.{name_law}
 use Rattle.places.proofs.part_at.Goals as goal
 

@@ -1,5 +1,4 @@
 -- `places::stopped` meets its contract: the place is that of the reading. Assumes nothing.
-use borrow.Author.Rules.{rules}
 use Rattle.places.proofs.Laws.{token_column}
 use Rattle.places.proofs.stopped.Goals as goal
 

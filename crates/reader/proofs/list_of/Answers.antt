@@ -1,5 +1,4 @@
 -- `reader::list_of` meets its contract. A ld or st has its list, and any other opcode has no registers, by one law. Assumes nothing.
-use borrow.Author.Rules.{rules}
 use Rattle.tokens.specs.Cursors.{seen}
 use Rattle.statement.specs.Reading.{operands_c, row_c, more_row_c}
 use Rattle.reader.specs.Lists.{list_c}

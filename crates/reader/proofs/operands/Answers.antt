@@ -3,7 +3,6 @@ use Prim.Native.Nat.{ℕ}
 use mathlib.Core.Path.{◌≡◌, refl, sym, ap, ◌∙◌}
 use mathlib.Core.List.{List}
 use mathlib.Core.Bool.{Bool, false}
-use mathlib.Core.Logic.{⊎_elim}
 use Rattle.tokens.specs.Cursors.{Rest, seen, Took}
 use Rattle.statement.specs.declared.Opcode.{Opcode}
 use Rattle.statement.specs.declared.Opcode.TheVariants.{Alloc}
@@ -12,7 +11,6 @@ use Rattle.statement.specs.Forms.{Whole}
 use Rattle.statement.specs.Reading.{operands_c, row_c, told}
 use Rattle.reader.specs.declared.Paired.{Paired}
 use Rattle.reader.specs.Rows.{paired_opcode}
-use borrow.Author.Rules.{rules}
 use Rattle.reader.proofs.operands.Goals as goal
 use Rattle.reader.proofs.operands.Goals.{in-Mov32, in-Mov64, in-Alloc, in-Dealloc}
 

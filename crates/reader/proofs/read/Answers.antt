@@ -1,7 +1,6 @@
 -- `reader::read` meets its contract. One law for each way out: no opcode, and the operands' answer. Assumes nothing.
 use mathlib.Core.Path.{◌∙◌}
 use Rattle.reader.proofs.Laws.{read_none, read_told, whole_is, whole-none}
-use borrow.Author.Rules.{rules}
 use Rattle.reader.proofs.read.Goals as goal
 
 pub returns-in_default : goal.returns-in_default

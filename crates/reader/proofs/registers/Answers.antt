@@ -4,7 +4,6 @@ use Rattle.statement.specs.Reading.{registers_of}
 use Rattle.statement.proofs.Readings.{unread}
 use Rattle.reader.specs.Lists.{list_c}
 use Rattle.reader.proofs.Laws.{none-stored, whole_is, whole-none, registers_none, registers_unread, registers_got}
-use borrow.Author.Rules.{rules}
 use borrow.Enum.Refused.{opened}
 use Rattle.reader.proofs.registers.Goals as goal
 

@@ -1,7 +1,6 @@
 -- `spellings::kind` meets its contract: in each arm the enum is known, and its bytes are its text. Assumes nothing.
 use mathlib.Core.Path.{refl}
 use native.Mathlib.Omega.{arith}
-use borrow.Author.Rules.{rules}
 use Rattle.spellings.proofs.kind.Goals as goal
 
 pub returns-in-F16 : goal.returns-in-F16

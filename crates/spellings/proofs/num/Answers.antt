@@ -1,7 +1,6 @@
 -- `spellings::num` meets its contract: in each arm the enum is known, and its bytes are its text. Assumes nothing.
 use mathlib.Core.Path.{refl}
 use native.Mathlib.Omega.{arith}
-use borrow.Author.Rules.{rules}
 use Rattle.spellings.proofs.num.Goals as goal
 
 pub returns-in-X1 : goal.returns-in-X1

@@ -1,7 +1,6 @@
 -- `spellings::shape` meets its contract: in each arm the enum is known, and its bytes are its text. Assumes nothing.
 use mathlib.Core.Path.{refl}
 use native.Mathlib.Omega.{arith}
-use borrow.Author.Rules.{rules}
 use Rattle.spellings.proofs.shape.Goals as goal
 
 pub returns-in-S32x32 : goal.returns-in-S32x32

@@ -1,5 +1,4 @@
 -- `writer::compose` meets its contract: each statement is added by the function of its form. Assumes nothing.
-use borrow.Author.Rules.{rules}
 use Rattle.statement.specs.Forms.{word}
 use Rattle.statement.specs.Canonical.{row_text, more_row_text, row_given, text_of, given}
 use Rattle.writer.proofs.compose.Goals as goal

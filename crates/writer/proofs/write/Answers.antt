@@ -4,7 +4,6 @@ use native.Mathlib.Omega.{arith}
 use mathlib.Core.Path.{sym}
 use lib.ListN.{take, replicate, length-replicate}
 use lib.Seq.{length-take-le}
-use borrow.Author.Rules.{rules}
 use Rattle.statement.specs.Canonical.{count_of}
 use Rattle.statement.specs.Reading.{paired}
 use Rattle.writer.specs.Outputs.{capacity}

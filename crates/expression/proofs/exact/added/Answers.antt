@@ -4,7 +4,6 @@ use native.Mathlib.Omega.{arith}
 use borrow.Author.Tests.{le-leb, lt-leb}
 use Rattle.expression.specs.Amounts.{plus}
 use Rattle.expression.proofs.AmountLaws.{ranged-out}
-use borrow.Author.Rules.{rules}
 use Rattle.expression.proofs.exact.added.Goals as goal
 
 pub returns-then-a-b : goal.returns-then-a-b

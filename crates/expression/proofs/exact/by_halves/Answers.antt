@@ -1,7 +1,6 @@
 -- `expression::exact::by_halves` meets its contract: two high halves are over; else the factor without one comes second. Assumes nothing.
 use mathlib.Core.Path.{◌∙◌}
 use Rattle.expression.proofs.ProductLaws.{both_high, is-over, product_comm}
-use borrow.Author.Rules.{rules}
 use Rattle.expression.proofs.exact.by_halves.Goals as goal
 
 pub returns-then-x-ge-HALF : goal.returns-then-x-ge-HALF

@@ -1,5 +1,4 @@
 -- `expression::exact::joined` meets its contract, operator by operator. Assumes nothing.
-use borrow.Author.Rules.{rules}
 use Rattle.expression.proofs.exact.joined.Goals as goal
 
 pub returns-in-Plus : goal.returns-in-Plus

@@ -3,7 +3,6 @@ use mathlib.Core.Path.{◌∙◌, ap}
 use native.Mathlib.Omega.{arith}
 use Rattle.expression.specs.Amounts.{times, ranged}
 use Rattle.expression.proofs.AmountLaws.{ranged-out, product-over, product_value}
-use borrow.Author.Rules.{rules}
 use Rattle.expression.proofs.exact.multiplied.Goals as goal
 
 pub returns-then-a-b : goal.returns-then-a-b

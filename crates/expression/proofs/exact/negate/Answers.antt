@@ -1,6 +1,5 @@
 -- `expression::exact::negate` meets its contract. Assumes nothing.
 use Rattle.expression.specs.Amounts.{negated}
-use borrow.Author.Rules.{rules}
 use Rattle.expression.proofs.exact.negate.Goals as goal
 
 pub returns-then-a : goal.returns-then-a

@@ -1,7 +1,6 @@
 -- `expression::exact::signed` meets its contract. Assumes nothing.
 use borrow.Author.Tests.{le-leb, lt-leb}
 use Rattle.expression.specs.Amounts.{ranged}
-use borrow.Author.Rules.{rules}
 use Rattle.expression.proofs.exact.signed.Goals as goal
 
 pub returns-then-limit-size : goal.returns-then-limit-size

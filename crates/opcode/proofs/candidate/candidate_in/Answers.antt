@@ -2,7 +2,6 @@
 -- Assumes nothing.
 use borrow.Author.Tests.{eq-eqb, ne_eqb}
 use Rattle.opcode.specs.Candidates.{candidate_in}
-use borrow.Author.Rules.{rules}
 use Rattle.opcode.proofs.candidate.candidate_in.Goals as goal
 
 pub returns-then-x-eq109 : goal.returns-then-x-eq109

@@ -1,7 +1,6 @@
 -- `opcode::candidate::mma_in` meets its contract. The test on the byte at 12 picks the case, as in the definition. Assumes nothing.
 use borrow.Author.Tests.{eq-eqb, ne_eqb}
 use Rattle.opcode.specs.Candidates.{mma_in}
-use borrow.Author.Rules.{rules}
 use Rattle.opcode.proofs.candidate.mma_in.Goals as goal
 
 pub returns-then-x-eq119 : goal.returns-then-x-eq119

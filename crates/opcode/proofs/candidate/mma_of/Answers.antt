@@ -2,7 +2,6 @@
 use native.Mathlib.Omega.{arith}
 use Rattle.opcode.proofs.Laws.{kind_place-le}
 use Rattle.opcode.specs.Candidates.{mma_of}
-use borrow.Author.Rules.{rules}
 use Rattle.opcode.proofs.candidate.mma_of.Goals as goal
 
 pub overflow_add-p : goal.overflow_add-p

@@ -2,7 +2,6 @@
 use native.Mathlib.Omega.{arith}
 use Rattle.opcode.proofs.Laws.{num_place-le}
 use Rattle.opcode.specs.Candidates.{num_in}
-use borrow.Author.Rules.{rules}
 use Rattle.opcode.proofs.candidate.num_in.Goals as goal
 
 pub overflow_add-p : goal.overflow_add-p

@@ -1,6 +1,5 @@
 -- `opcode::candidate::shape_of` meets its contract. Its callees' contracts, one after the other, are the definition. Assumes nothing.
 use Rattle.opcode.specs.Candidates.{shape_of}
-use borrow.Author.Rules.{rules}
 use Rattle.opcode.proofs.candidate.shape_of.Goals as goal
 
 pub returns : goal.returns

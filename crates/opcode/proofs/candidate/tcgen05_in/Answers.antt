@@ -2,7 +2,6 @@
 -- Assumes nothing.
 use borrow.Author.Tests.{eq-eqb, ne_eqb}
 use Rattle.opcode.specs.Candidates.{tcgen05_in}
-use borrow.Author.Rules.{rules}
 use Rattle.opcode.proofs.candidate.tcgen05_in.Goals as goal
 
 pub returns-then-x-eq108 : goal.returns-then-x-eq108

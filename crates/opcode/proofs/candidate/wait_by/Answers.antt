@@ -1,6 +1,5 @@
 -- `opcode::candidate::wait_by` meets its contract. The byte at 14 decides it, as in the definition. Assumes nothing.
 use borrow.Author.Tests.{eq-eqb, ne_eqb}
-use borrow.Author.Rules.{rules}
 use Rattle.opcode.proofs.candidate.wait_by.Goals as goal
 
 pub returns-then-byte-eq108 : goal.returns-then-byte-eq108

@@ -1,12 +1,8 @@
 -- `opcode::piece::has` meets its contract. The loop's invariant: what was compared so far, with what is left of p and of w, is the comparison from
 -- the start. Assumes nothing.
 use Prim.Native.Nat.{◌+◌, ◌-◌, ◌≤◌}
-use mathlib.Core.Path.{◌≡◌, ◌∙◌}
+use mathlib.Core.Path.{◌≡◌}
 use lib.ListN.{length, drop}
-use mathlib.Core.Bool.{and_assoc}
-use Rattle.opcode.proofs.Laws.{starts_step, starts-end}
-use native.Mathlib.Nat.{add-zero}
-use native.Mathlib.Omega.{arith}
 use mathlib.Core.Bool.{◌&&◌}
 use Rattle.opcode.specs.Pieces.{starts_with}
 use Rattle.opcode.proofs.piece.has.Given as goal

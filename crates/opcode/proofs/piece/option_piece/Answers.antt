@@ -1,7 +1,6 @@
 -- `opcode::piece::option_piece` meets its contract. A piece that is left out is the empty piece. Assumes nothing.
 use Rattle.opcode.specs.Pieces.{piece_c}
 use mathlib.Core.Bool.{and-true}
-use borrow.Author.Rules.{rules}
 use Rattle.opcode.proofs.piece.option_piece.Goals as goal
 
 pub returns-then-b : goal.returns-then-b

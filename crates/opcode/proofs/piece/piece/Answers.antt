@@ -1,6 +1,5 @@
 -- `opcode::piece::piece` meets its contract. One law for each way out: past the end, too few bytes left, and the comparison. Assumes nothing.
 use Rattle.opcode.proofs.Laws.{piece_past, piece_short, piece_fits}
-use borrow.Author.Rules.{rules}
 use Rattle.opcode.proofs.piece.piece.Goals as goal
 
 pub returns-then-w-at : goal.returns-then-w-at

@@ -2,7 +2,6 @@
 use lib.ListN.{length}
 use borrow.Author.Tests.{le-leb, lt-leb, not-true, not-false}
 use Rattle.statement.specs.Reading.{answer_of}
-use borrow.Author.Rules.{rules}
 use Rattle.reader.proofs.form.answer.Goals as goal
 
 pub returns-then-not-k : goal.returns-then-not-k

@@ -1,5 +1,4 @@
 -- `reader::form::bare` meets its contract. The end's contract and the answer's are the definition. Assumes nothing.
-use borrow.Author.Rules.{rules}
 use Rattle.reader.proofs.form.bare.Goals as goal
 
 pub returns : goal.returns

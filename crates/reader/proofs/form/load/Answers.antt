@@ -4,7 +4,6 @@ use Prim.Native.Nat.{ℕ}
 use mathlib.Core.Path.{ap}
 use Rattle.tokens.specs.Cursors.{Took}
 use Rattle.statement.specs.Reading.{operands_c, row_c, more_row_c}
-use borrow.Author.Rules.{rules}
 use Rattle.reader.proofs.form.load.Goals as goal
 
 pub returns : goal.returns

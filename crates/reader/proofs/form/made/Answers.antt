@@ -4,7 +4,6 @@ use native.Mathlib.Omega.{arith}
 use mathlib.Core.Path.{subst}
 use Rattle.reader.specs.declared.Paired.{Paired}
 use Rattle.reader.specs.Rows.{limit_of}
-use borrow.Author.Rules.{rules}
 use Rattle.reader.proofs.form.made.Goals as goal
 
 pub overflow_cast-result : goal.overflow_cast-result

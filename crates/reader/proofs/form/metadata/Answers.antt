@@ -1,5 +1,4 @@
 -- `reader::form::metadata` meets its contract: the test on `.sp` picks the case. Assumes nothing.
-use borrow.Author.Rules.{rules}
 use Rattle.reader.specs.Rows.{metadata_c}
 use Rattle.reader.proofs.form.metadata.Goals as goal
 

@@ -1,5 +1,4 @@
 -- `reader::form::multiply` meets its contract. Each operand's contract, from the first on, and the answer's are the row of both kinds of mma. Assumes nothing.
-use borrow.Author.Rules.{rules}
 use Rattle.tokens.specs.Cursors.{seen}
 use Rattle.reader.proofs.Laws.{mma_c, mma-row}
 use Rattle.reader.proofs.form.multiply.Goals as goal

@@ -5,7 +5,6 @@ use native.Mathlib.Omega.{arith}
 use mathlib.Core.Path.{ap}
 use Rattle.tokens.specs.Cursors.{seen, Took}
 use Rattle.reader.proofs.Laws.{quantity_under, number-ended, pair_row}
-use borrow.Author.Rules.{rules}
 use Rattle.reader.proofs.form.name_number.Goals as goal
 
 pub returns-then-done : goal.returns-then-done

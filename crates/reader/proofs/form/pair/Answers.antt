@@ -1,7 +1,6 @@
 -- `reader::form::pair` meets its contract: what was read is the row of the form, and its statement is the form's. Assumes nothing.
 use Rattle.tokens.specs.Cursors.{seen}
 use Rattle.reader.proofs.Laws.{pair_told}
-use borrow.Author.Rules.{rules}
 use Rattle.reader.proofs.form.pair.Goals as goal
 
 pub returns : goal.returns

@@ -1,6 +1,5 @@
 -- `reader::operand::address` meets its contract. The bracket's contract, and that of what stands inside. Assumes nothing.
 use Rattle.statement.specs.Reading.{address_c}
-use borrow.Author.Rules.{rules}
 use Rattle.reader.proofs.operand.address.Goals as goal
 
 pub returns : goal.returns

@@ -1,5 +1,4 @@
 -- `reader::operand::fill_after` meets its contract. The contracts of the address and the comma lead to the list. Assumes nothing.
-use borrow.Author.Rules.{rules}
 use Rattle.reader.proofs.operand.fill_after.Goals as goal
 
 pub returns : goal.returns

@@ -1,6 +1,5 @@
 -- `reader::operand::in_brackets` meets its contract. The contracts of the bracket, the name and the bracket are the definition. Assumes nothing.
 use Rattle.statement.specs.Reading.{in_brackets_c}
-use borrow.Author.Rules.{rules}
 use Rattle.reader.proofs.operand.in_brackets.Goals as goal
 
 pub returns : goal.returns

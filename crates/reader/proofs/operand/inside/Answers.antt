@@ -3,7 +3,6 @@
 use Rattle.tokens.specs.Cursors.{seen}
 use Rattle.statement.specs.Reading.{inside_c}
 use Rattle.reader.proofs.Laws.{offset_ended}
-use borrow.Author.Rules.{rules}
 use Rattle.reader.proofs.operand.inside.Goals as goal
 
 pub returns-then-done : goal.returns-then-done

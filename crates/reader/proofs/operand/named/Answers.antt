@@ -1,5 +1,4 @@
 -- `reader::operand::named` meets its contract: the test picks the reader. Assumes nothing.
-use borrow.Author.Rules.{rules}
 use Rattle.reader.proofs.operand.named.Goals as goal
 
 pub returns-then-bracketed : goal.returns-then-bracketed

@@ -1,14 +1,13 @@
 -- `reader::operand::names` meets its contract. The loop's invariant: the names counted so far, with those that are left from here, are those from the
 -- start. Assumes nothing.
-use Prim.Native.Nat.{◌+◌, ◌-◌, ◌≤◌}
+use Prim.Native.Nat.{◌+◌, ◌-◌}
 use native.Mathlib.Omega.{arith}
-use mathlib.Core.Path.{◌≡◌, refl, ◌∙◌}
-use borrow.Author.Rules.{rules}
+use mathlib.Core.Path.{refl, ◌∙◌}
 use borrow.Author.Tests.{not-true, not-false}
 use Rattle.tokens.specs.Text.{byte}
 use Rattle.tokens.specs.Cursors.{seen, mark_c}
 use Rattle.statement.specs.Reading.{more_c, names_c}
-use Rattle.reader.proofs.Laws.{after, after_more, more_took, more_done, more_full, names-end}
+use Rattle.reader.proofs.Laws.{after_more, more_took, more_done, more_full, names-end}
 use Rattle.reader.proofs.operand.names.Goals as goal
 
 pub loop-count-init : goal.loop-count-init

@@ -1,14 +1,10 @@
 -- `reader::operand::names` meets its contract. The loop's invariant: the names counted so far, with those that are left from here, are those from the
 -- start. Assumes nothing.
-use Prim.Native.Nat.{◌+◌, ◌-◌, ◌≤◌}
-use native.Mathlib.Omega.{arith}
-use mathlib.Core.Path.{◌≡◌, refl, ◌∙◌}
-use borrow.Author.Rules.{rules}
-use borrow.Author.Tests.{not-true, not-false}
-use Rattle.tokens.specs.Text.{byte}
-use Rattle.tokens.specs.Cursors.{seen, mark_c}
-use Rattle.statement.specs.Reading.{more_c, names_c}
-use Rattle.reader.proofs.Laws.{after, after_more, more_took, more_done, more_full, names-end}
+use Prim.Native.Nat.{◌-◌, ◌≤◌}
+use mathlib.Core.Path.{◌≡◌}
+use Rattle.tokens.specs.Cursors.{seen}
+use Rattle.statement.specs.Reading.{more_c}
+use Rattle.reader.proofs.Laws.{after}
 use Rattle.reader.proofs.operand.names.Given as goal
 
 abbrev pub invariant-loop-count : goal.invariant-loop-count

@@ -5,7 +5,6 @@ use mathlib.Core.Path.{ap}
 use Rattle.tokens.specs.Cursors.{seen, Took}
 use Rattle.statement.specs.Forms.{max32}
 use Rattle.reader.proofs.Laws.{quantity_under}
-use borrow.Author.Rules.{rules}
 use Rattle.reader.proofs.operand.number32.Goals as goal
 
 pub overflow_cast-result : goal.overflow_cast-result

@@ -1,6 +1,5 @@
 -- `reader::operand::offset` meets its contract. Whether a plus stands there picks the case, as in the definition. Assumes nothing.
 use Rattle.statement.specs.Reading.{offset_c}
-use borrow.Author.Rules.{rules}
 use Rattle.reader.proofs.operand.offset.Goals as goal
 
 pub returns-then-d : goal.returns-then-d

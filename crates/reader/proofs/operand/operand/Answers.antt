@@ -1,6 +1,5 @@
 -- `reader::operand::operand` meets its contract. Whether a bracket opens picks the case, as in the definition. Assumes nothing.
 use Rattle.statement.specs.Reading.{operand_c}
-use borrow.Author.Rules.{rules}
 use Rattle.reader.proofs.operand.operand.Goals as goal
 
 pub returns-then-d : goal.returns-then-d

@@ -1,6 +1,5 @@
 -- `reader::operand::plain_offset` meets its contract. Whether a plus stands there picks the case, as in the definition. Assumes nothing.
 use Rattle.reader.specs.Rows.{plain_offset_c}
-use borrow.Author.Rules.{rules}
 use Rattle.reader.proofs.operand.plain_offset.Goals as goal
 
 pub returns-then-d : goal.returns-then-d

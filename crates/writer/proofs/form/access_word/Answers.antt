@@ -1,5 +1,4 @@
 -- `writer::form::access_word` meets its contract: four additions are one. Assumes nothing.
-use borrow.Author.Rules.{rules}
 use Rattle.statement.specs.Forms.{shape_text, num_text}
 use Rattle.writer.specs.Outputs.{out_seen}
 use Rattle.writer.proofs.Rows.{access_law}

@@ -1,5 +1,4 @@
 -- `writer::form::mma_front` meets its contract: one addition after another. Assumes nothing.
-use borrow.Author.Rules.{rules}
 use Rattle.writer.proofs.form.mma_front.Goals as goal
 
 pub returns : goal.returns

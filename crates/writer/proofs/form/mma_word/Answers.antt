@@ -1,5 +1,4 @@
 -- `writer::form::mma_word` meets its contract: six additions are one. Assumes nothing.
-use borrow.Author.Rules.{rules}
 use Rattle.tokens.specs.Text.{bytes}
 use Rattle.statement.specs.Forms.{word, option, kind_text}
 use Rattle.writer.specs.Outputs.{out_seen}

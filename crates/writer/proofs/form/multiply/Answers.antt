@@ -1,7 +1,6 @@
 -- `writer::form::multiply` meets its contract: the additions follow the row that the metadata decides. Assumes nothing.
 use mathlib.Core.List.{[], ◌∷◌}
 use mathlib.Core.Bool.{true, false}
-use borrow.Author.Rules.{rules}
 use Rattle.statement.specs.declared.Opcode.TheVariants.{Multiply}
 use Rattle.statement.specs.Forms.{word, name, address, operand}
 use Rattle.writer.specs.Outputs.{out_seen}

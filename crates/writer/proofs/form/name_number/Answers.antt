@@ -1,6 +1,5 @@
 -- `writer::form::name_number` meets its contract: the additions follow the pair of operands. Assumes nothing.
 use lib.Dec.{leb}
-use borrow.Author.Rules.{rules}
 use Rattle.tokens.specs.Names.{name_given}
 use Rattle.tokens.specs.Numbers.{decimal}
 use Rattle.writer.specs.Outputs.{out_seen, named_text}

@@ -1,5 +1,4 @@
 -- `writer::form::option_text` meets its contract: the text, or no bytes. Assumes nothing.
-use borrow.Author.Rules.{rules}
 use Rattle.writer.proofs.form.option_text.Goals as goal
 
 pub returns-then-b : goal.returns-then-b

@@ -2,7 +2,6 @@
 use mathlib.Core.Path.{sym}
 use native.Mathlib.Omega.{arith}
 use lib.Seq.{length-take-le}
-use borrow.Author.Rules.{rules}
 use Rattle.writer.proofs.form.spelled.Goals as goal
 
 pub slice_bounds-put-end : goal.slice_bounds-put-end

@@ -1,7 +1,6 @@
 -- `writer::form::store` meets its contract: the additions follow the row of its opcode, and the count goes with the names. Assumes nothing.
 use lib.ListN.{length}
 use lib.Dec.{eqb}
-use borrow.Author.Rules.{rules}
 use Rattle.statement.specs.declared.Opcode.TheVariants.{Store}
 use Rattle.statement.specs.Forms.{word, names}
 use Rattle.statement.specs.Canonical.{row_text, more_row_text, row_given, slot_given, names_text, address_text, address_given}

@@ -1,6 +1,5 @@
 -- `writer::operand::address` meets its contract: four additions are one. Assumes nothing.
 use lib.Dec.{leb}
-use borrow.Author.Rules.{rules}
 use Rattle.tokens.specs.Names.{name_bytes, name_given}
 use Rattle.statement.specs.Forms.{max32}
 use Rattle.statement.specs.Canonical.{address_text, offset_text}

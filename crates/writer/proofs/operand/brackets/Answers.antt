@@ -1,5 +1,4 @@
 -- `writer::operand::brackets` meets its contract: three additions are one. Assumes nothing.
-use borrow.Author.Rules.{rules}
 use Rattle.tokens.specs.Names.{name_bytes, name_given}
 use Rattle.writer.specs.Outputs.{out_seen}
 use Rattle.writer.proofs.Rows.{brackets_law}

@@ -1,11 +1,7 @@
 -- `writer::operand::listed` meets its contract: what is left of the names after each turn, added to what is written, is what was left after the first. Assumes nothing.
-use Prim.Native.Nat.{◌-◌, ◌≤◌}
 use native.Mathlib.Omega.{arith}
-use mathlib.Core.Path.{refl, ◌≡◌, ◌∙◌}
-use lib.ListN.{drop}
-use borrow.Author.Rules.{rules}
-use Rattle.statement.specs.Canonical.{more_names_text, all_names}
-use Rattle.writer.specs.Outputs.{out_seen, add_c, firsts}
+use mathlib.Core.Path.{refl, ◌∙◌}
+use Rattle.writer.specs.Outputs.{out_seen}
 use Rattle.writer.proofs.Rows.{names-start, names_step, names-end}
 use Rattle.writer.proofs.operand.listed.Goals as goal
 

@@ -1,12 +1,9 @@
 -- `writer::operand::listed` meets its contract: what is left of the names after each turn, added to what is written, is what was left after the first. Assumes nothing.
 use Prim.Native.Nat.{◌-◌, ◌≤◌}
-use native.Mathlib.Omega.{arith}
-use mathlib.Core.Path.{refl, ◌≡◌, ◌∙◌}
+use mathlib.Core.Path.{◌≡◌}
 use lib.ListN.{drop}
-use borrow.Author.Rules.{rules}
 use Rattle.statement.specs.Canonical.{more_names_text, all_names}
 use Rattle.writer.specs.Outputs.{out_seen, add_c, firsts}
-use Rattle.writer.proofs.Rows.{names-start, names_step, names-end}
 use Rattle.writer.proofs.operand.listed.Given as goal
 
 abbrev pub invariant-loop-i : goal.invariant-loop-i

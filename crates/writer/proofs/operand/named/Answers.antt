@@ -1,5 +1,4 @@
 -- `writer::operand::named` meets its contract: the test picks the text. Assumes nothing.
-use borrow.Author.Rules.{rules}
 use Rattle.writer.proofs.operand.named.Goals as goal
 
 pub returns-then-bracketed : goal.returns-then-bracketed

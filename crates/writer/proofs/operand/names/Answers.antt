@@ -1,7 +1,6 @@
 -- `writer::operand::names` meets its contract: each test that fails refuses what is not given, and after all of them the names alone decide. Assumes nothing.
 use Prim.Native.Nat.{◌<◌}
 use native.Mathlib.Omega.{arith}
-use borrow.Author.Rules.{rules}
 use Rattle.statement.specs.Canonical.{names_text}
 use Rattle.writer.specs.Outputs.{firsts}
 use Rattle.writer.proofs.Laws.{refused}

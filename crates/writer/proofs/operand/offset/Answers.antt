@@ -1,5 +1,4 @@
 -- `writer::operand::offset` meets its contract: for 0 nothing is added, else a plus and the digits. Assumes nothing.
-use borrow.Author.Rules.{rules}
 use Rattle.writer.specs.Outputs.{out_seen}
 use Rattle.writer.proofs.Rows.{offset_none, offset_some}
 use Rattle.writer.proofs.operand.offset.Goals as goal

@@ -1,5 +1,4 @@
 -- `writer::operand::operand` meets its contract: each variant is added by its own function. Assumes nothing.
-use borrow.Author.Rules.{rules}
 use Rattle.statement.specs.Canonical.{operand_text}
 use Rattle.writer.proofs.operand.operand.Goals as goal
 

@@ -1,11 +1,8 @@
 -- `writer::output::all_words` meets its contract: the bytes from here pass the test exactly where those from the start do. Assumes nothing.
 use Prim.Native.Nat.{◌-◌}
-use native.Mathlib.Omega.{arith}
-use mathlib.Core.Path.{◌≡◌, refl, sym, ◌∙◌}
+use mathlib.Core.Path.{◌≡◌}
 use lib.ListN.{drop}
-use borrow.Author.Tests.{not-true, not-false}
 use Rattle.tokens.specs.Bytes.{word_byte, all}
-use Rattle.writer.proofs.Laws.{all_step, all_stop, all_end}
 use Rattle.writer.proofs.output.all_words.Given as goal
 
 -- the bytes from here pass exactly where those from the start do

@@ -1,7 +1,6 @@
 -- `writer::output::halves` meets its contract: a first half with a byte is tested by its first byte, its length and the other bytes. Assumes nothing.
 use native.Mathlib.Omega.{arith}
 use lib.ListN.{drop}
-use borrow.Author.Rules.{rules}
 use Rattle.writer.proofs.Halves.{halves_none, halves_some}
 use Rattle.writer.proofs.output.halves.Goals as goal
 

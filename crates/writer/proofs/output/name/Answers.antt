@@ -1,7 +1,6 @@
 -- `writer::output::name` meets its contract: the halves without the zeros that lead are the bytes of the name, and they decide whether it is given. Assumes nothing.
 use native.Mathlib.Omega.{arith}
 use borrow.Author.Tests.{not-true, not-false}
-use borrow.Author.Rules.{rules}
 use Rattle.writer.specs.Outputs.{out_seen}
 use Rattle.writer.proofs.Halves.{name-none, name-some, name_short}
 use Rattle.writer.proofs.output.name.Goals as goal

@@ -3,7 +3,6 @@ use Prim.Native.Nat.{◌-◌}
 use mathlib.Core.Path.{◌≡◌, ◌∙◌}
 use lib.ListN.{take, drop}
 use borrow.Author.Tests.{lt-leb, le-leb}
-use borrow.Author.Rules.{rules}
 use Rattle.laws.proofs.StoreLaws.{tail_is}
 use Rattle.tokens.specs.Numbers.{decimal}
 use Rattle.writer.proofs.Laws.{refused}

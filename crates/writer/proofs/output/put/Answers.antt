@@ -1,6 +1,5 @@
 -- `writer::output::put` meets its contract: it tests that there is room for all before it stores. Assumes nothing.
 use native.Mathlib.Omega.{arith}
-use borrow.Author.Rules.{rules}
 use Rattle.writer.proofs.Laws.{put_none, put_all}
 use Rattle.writer.proofs.output.put.Goals as goal
 
