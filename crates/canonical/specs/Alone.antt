@@ -1,7 +1,6 @@
 -- What is answered of a statement's text by itself. Assumes nothing.
 use Rattle.std.specs.Prelude.{ℕ, ◌+◌, cond, List}
 use Rattle.tokens.specs.declared.Name.{Name}
-use Rattle.statement.specs.declared.Statement.{Statement}
 use Rattle.statement.specs.declared.Reading.{Reading}
 use Rattle.statement.specs.declared.Reading.TheVariants as reading
 use Rattle.statement.specs.declared.Written.{Written}

@@ -6,11 +6,11 @@ use mathlib.Core.Path.{◌≡◌, refl, sym, ap, ◌∙◌}
 use mathlib.Core.List.{List, ◌∷◌}
 use lib.ListN.{length, drop, get_or}
 use Rattle.tokens.specs.Text.{tab}
-use Rattle.lines.specs.Sheet.{text_of, after, Content, fault, laid, content_after, warp_of}
+use Rattle.lines.specs.Sheet.{after, Content, fault, laid, content_after, warp_of}
 use Rattle.lines.specs.Written.{Written}
 use Rattle.lines.proofs.SheetTheorems.{read_written}
 use Rattle.statement.specs.declared.Statement.{Statement}
-use Rattle.statement.specs.declared.Reading.TheVariants.{Got, NoForm, TooLarge}
+use Rattle.statement.specs.declared.Reading.TheVariants.{Got, NoForm}
 use Rattle.statement.specs.declared.Position.{Position}
 use Rattle.statement.specs.declared.Position.TheVariants as position
 use Rattle.statement.specs.Forms.{row, Whole}

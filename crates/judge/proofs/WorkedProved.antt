@@ -1,7 +1,6 @@
 -- The worked sheets hold, by computation. Assumes nothing.
 use mathlib.Core.Path.{◌≡◌, refl}
 use mathlib.Core.List.{[], ◌∷◌, ◌++◌}
-use lib.Seq.{sets}
 use Rattle.laws.specs.Worked.{Gives}
 use lib.Count.{ones, ones_in}
 use Rattle.instruction.specs.Instruction as instruction

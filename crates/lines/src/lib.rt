@@ -239,8 +239,7 @@ fn find_line(s: &[u8], at: usize) -> Line
     }
 }
 
-// A sheet and a place in it: it gives out a line at a time. Few functions are over it, each proved by a walk; the work is in
-// `find_line`.
+// A sheet and a place in it: it gives out a line at a time. Few functions are over it; the work is in `find_line`.
 #[derive(Clone, Copy)]
 pub struct LineReader<'a> {
     pub src: &'a [u8],
@@ -267,7 +266,7 @@ pub fn advance<'a>(r: LineReader<'a>, at: usize) -> LineReader<'a>
     LineReader { src: r.src, at }
 }
 
-// The line that starts at a place, and where the reader stands after it. Who calls this needs no walk.
+// The line that starts at a place, and where the reader stands after it.
 pub fn line_at(sheet: &[u8], at: usize) -> Line
     ensures { result ≡ line_at sheet.now at }
 {

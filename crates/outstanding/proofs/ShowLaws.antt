@@ -2,21 +2,19 @@
 -- warp, and a slot on which something is outstanding is not booked. Assumes nothing.
 use Prim.Native.Nat.{ℕ, ◌/◌, ◌<◌}
 use mathlib.Core.Path.{◌≡◌, refl, sym, ap, ◌∙◌, subst}
-use mathlib.Core.Bool.{Bool, true, false, ◌&&◌, ◌||◌, cond}
+use mathlib.Core.Bool.{Bool, true, false, cond}
 use mathlib.Core.List.{List, [], ◌∷◌}
 use mathlib.Core.Logic.{◌⊎◌, inl, inr}
 use native.Mathlib.Omega.{arith}
 use lib.Dec.{eqb}
-use lib.ListN.{get_or, length, length-set, replicate, get_or-replicate}
+use lib.ListN.{get_or, length-set, get_or-replicate}
 use borrow.Author.Tests.{eqb-true, eq-eqb}
 use Rattle.laws.specs.Lists.{Among}
-use Rattle.laws.proofs.BoolLaws.{bool, never, clash, same_test, and_l, and_r, or_cases, or_left, or_right, or_neither}
+use Rattle.laws.proofs.BoolLaws.{never, clash, same_test, or_cases, or_left, or_right, or_neither}
 use Rattle.tokens.specs.declared.Name.{Name}
 use Rattle.tokens.specs.Names.{same_name}
 use Rattle.tokens.proofs.Names.{same_true, same_name_lem}
 use Rattle.statement.specs.declared.Transfer.{Transfer}
-use Rattle.statement.specs.Views.{same_transfer}
-use Rattle.statement.proofs.Each.{same_transfer_lem}
 use Rattle.rules.specs.State.{Allocation, Mark, is_live, is_by, is_busy, after_wait, after_release}
 use Rattle.rules.proofs.OutstandingProved.{not_is, by_is, is_by_lem}
 use Rattle.ledger.specs.Booking.{find_in}

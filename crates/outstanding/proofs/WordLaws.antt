@@ -11,7 +11,7 @@ use lib.Dec.{ltb, eqb}
 use lib.ListN.{get_or, set, length}
 use lib.Seq.{get_or-set_same, get_or-set_other}
 use borrow.Author.Tests.{ltb-true, ltb-false, eqb-true, eqb-false, eq-eqb, ne_eqb}
-use Rattle.laws.proofs.BoolLaws.{bool, never, clash, or_cases, or_left, or_right}
+use Rattle.laws.proofs.BoolLaws.{bool, or_cases, or_left, or_right}
 use Rattle.tokens.specs.declared.Name.{Name}
 use Rattle.statement.specs.declared.Transfer.{Transfer}
 use Rattle.statement.specs.declared.Transfer.TheVariants.{Load, Store}

@@ -18,7 +18,7 @@ use Rattle.statement.specs.declared.Transfer.TheVariants as transfer
 use Rattle.statement.specs.declared.Access.{Access}
 use Rattle.statement.specs.declared.Mma.{Mma}
 use Rattle.statement.specs.declared.Statement.{Statement}
-use Rattle.statement.specs.declared.Statement.TheVariants.{Mov32, Mov64, Alloc, Dealloc, Relinquish, Load, Store, Multiply, Exit}
+use Rattle.statement.specs.declared.Statement.TheVariants.{Mov32, Mov64, Alloc, Dealloc, Relinquish, Multiply, Exit}
 use Rattle.statement.specs.Views as act
 use Rattle.statement.specs.Views.{act_of, nothing}
 use Rattle.statement.specs.contracts.Statement.{enum, the_type}

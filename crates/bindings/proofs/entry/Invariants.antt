@@ -1,10 +1,7 @@
 -- `bindings::entry` meets its contract: none of the entries passed so far ends the search (EntryLaws.antt). The measure is what is left of the 128.
 -- Assumes nothing.
-use mathlib.Core.Path.{refl}
 use Prim.Native.Nat.{◌-◌}
-use native.Mathlib.Omega.{arith}
-use borrow.Author.Rules.{rules}
-use Rattle.bindings.proofs.EntryLaws.{Passed, entry-start, entry_here, entry_more, entry-end}
+use Rattle.bindings.proofs.EntryLaws.{Passed}
 use Rattle.bindings.proofs.entry.Given as goal
 
 abbrev pub invariant-loop-i : goal.invariant-loop-i

@@ -1,7 +1,6 @@
 -- `bindings::home` meets its contract. Each remainder is at most 122, so that the sum fits. Assumes nothing.
 use mathlib.Core.Path.{refl}
 use native.Mathlib.Omega.{arith}
-use borrow.Author.Rules.{rules}
 use Rattle.bindings.specs.Table.{home_of}
 use Rattle.bindings.proofs.home.Goals as goal
 

@@ -1,6 +1,5 @@
 -- `bindings::lookup_in` meets its contract. The entry found or not is the definition's test. Assumes nothing.
 use borrow.Author.Tests.{lt-ltb, le-ltb}
-use borrow.Author.Rules.{rules}
 use Rattle.bindings.specs.Table.{value_in}
 use Rattle.bindings.proofs.lookup_in.Goals as goal
 

@@ -1,6 +1,5 @@
 -- `blame::mma` meets its contract: what was tested of the operands is what the state has. Assumes nothing.
 use Rattle.blame.proofs.BlameLaws.{n_is, mma-blamed}
-use borrow.Author.Rules.{rules}
 use Rattle.blame.proofs.mma.Goals as goal
 
 pub returns : goal.returns

@@ -2,7 +2,6 @@
 use mathlib.Core.Path.{ap}
 use borrow.Author.Tests.{eq-eqb, ne_eqb}
 use Rattle.statement.specs.declared.Position.TheVariants.{Name, Operand}
-use borrow.Author.Rules.{rules}
 use Rattle.blame.proofs.pointed.Goals as goal
 
 pub returns-then-reason-eq-NAME : goal.returns-then-reason-eq-NAME

@@ -2,7 +2,6 @@
 use mathlib.Core.Path.{sym, ◌∙◌}
 use borrow.Author.Tests.{eq-eqb, ne_eqb}
 use Rattle.blame.proofs.BlameLaws.{points, at_mov, at_booking, at_load, at_store, at-mma, at_rest}
-use borrow.Author.Rules.{rules}
 use Rattle.blame.proofs.position.Goals as goal
 
 pub returns-then-reason-eq-EXIT : goal.returns-then-reason-eq-EXIT

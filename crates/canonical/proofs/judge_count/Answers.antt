@@ -1,5 +1,4 @@
 -- `canonical::judge_count` meets its contract: reason 5's test decides. Assumes nothing.
-use borrow.Author.Rules.{rules}
 use Rattle.canonical.proofs.judge_count.Goals as goal
 
 pub returns-then-is_counted : goal.returns-then-is_counted

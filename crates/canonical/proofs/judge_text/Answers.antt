@@ -3,7 +3,6 @@ use mathlib.Core.Path.{sym, ◌∙◌, ap}
 use native.Mathlib.Omega.{arith}
 use Rattle.canonical.specs.Alone.{alone_of}
 use Rattle.canonical.proofs.Refusals.{stopped}
-use borrow.Author.Rules.{rules}
 use Rattle.canonical.proofs.judge_text.Goals as goal
 
 pub overflow_add-column : goal.overflow_add-column

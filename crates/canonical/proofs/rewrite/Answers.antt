@@ -7,7 +7,6 @@ use Rattle.statement.specs.declared.Written.TheVariants.{Refused}
 use Rattle.statement.proofs.Readings.{unread}
 use Rattle.canonical.specs.Alone.{rewritten, left_of}
 use Rattle.canonical.proofs.Refusals.{rewrite_unread}
-use borrow.Author.Rules.{rules}
 use borrow.Enum.Refused.{opened}
 use Rattle.canonical.proofs.rewrite.Goals as goal
 

@@ -3,7 +3,6 @@ use mathlib.Core.Path.{◌∙◌, ap}
 use lib.ListN.{length}
 use Rattle.writer.specs.Outputs.{written_of, left_by}
 use Rattle.canonical.proofs.Names.{found}
-use borrow.Author.Rules.{rules}
 use Rattle.canonical.proofs.rewrite_in.Goals as goal
 
 pub returns : goal.returns

@@ -5,7 +5,6 @@ use borrow.Author.Tests.{not-true, not-false, eq-eqb, ne_eqb}
 use Rattle.ledger.specs.declared.Span.{Span}
 use Rattle.checks.specs.Checks.{start_if}
 use Rattle.checks.proofs.AccessLaws.{access_5, access_6, access_8, access-end}
-use borrow.Author.Rules.{rules}
 use Rattle.checks.proofs.access_judged.Goals as goal
 
 pub returns-then-is_miscounted : goal.returns-then-is_miscounted

@@ -1,6 +1,5 @@
 -- `checks::address_tested` meets its contract: the allocation found tells of its name. Assumes nothing.
 use Rattle.checks.proofs.MmaLaws.{address-tested}
-use borrow.Author.Rules.{rules}
 use Rattle.checks.proofs.address_tested.Goals as goal
 
 pub returns : goal.returns

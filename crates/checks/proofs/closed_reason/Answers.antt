@@ -1,6 +1,5 @@
 -- `checks::closed_reason` meets its contract: reason 5's test decides. Assumes nothing.
 use Rattle.rules.specs.Reasons.{closed_rows, closed_rules}
-use borrow.Author.Rules.{rules}
 use Rattle.checks.proofs.closed_reason.Goals as goal
 
 pub returns-then-is_counted : goal.returns-then-is_counted

@@ -1,7 +1,6 @@
 -- `checks::columns_needed` meets its contract: the columns of an access fit. Assumes nothing.
 use native.Mathlib.Omega.{arith}
 use Rattle.cells.proofs.Laws.{columns_few}
-use borrow.Author.Rules.{rules}
 use Rattle.checks.proofs.columns_needed.Goals as goal
 
 pub overflow_cast-result : goal.overflow_cast-result

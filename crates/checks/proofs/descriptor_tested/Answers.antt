@@ -1,6 +1,5 @@
 -- `checks::descriptor_tested` meets its contract: the value looked up is that of the state. Assumes nothing.
 use Rattle.checks.proofs.MmaLaws.{descriptor-tested}
-use borrow.Author.Rules.{rules}
 use Rattle.checks.proofs.descriptor_tested.Goals as goal
 
 pub returns : goal.returns

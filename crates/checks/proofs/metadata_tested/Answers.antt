@@ -1,5 +1,4 @@
 -- `checks::metadata_tested` meets its contract: with or without metadata. Assumes nothing.
-use borrow.Author.Rules.{rules}
 use Rattle.checks.proofs.metadata_tested.Goals as goal
 
 pub returns-in-Dense : goal.returns-in-Dense

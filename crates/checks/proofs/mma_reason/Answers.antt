@@ -1,6 +1,5 @@
 -- `checks::mma_reason` meets its contract: what is found in the tables is what the state has. Assumes nothing.
 use Rattle.checks.proofs.MmaLaws.{operands}
-use borrow.Author.Rules.{rules}
 use Rattle.checks.proofs.mma_reason.Goals as goal
 
 pub returns : goal.returns

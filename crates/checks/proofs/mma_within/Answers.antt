@@ -1,5 +1,4 @@
 -- `checks::mma_within` meets its contract: its tests are those of the contract. Assumes nothing.
-use borrow.Author.Rules.{rules}
 use Rattle.checks.proofs.mma_within.Goals as goal
 
 pub returns : goal.returns

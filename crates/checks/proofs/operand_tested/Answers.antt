@@ -1,5 +1,4 @@
 -- `checks::operand_tested` meets its contract: a descriptor or an address. Assumes nothing.
-use borrow.Author.Rules.{rules}
 use Rattle.checks.proofs.operand_tested.Goals as goal
 
 pub returns-in-Descriptor : goal.returns-in-Descriptor

@@ -2,7 +2,6 @@
 use mathlib.Core.Bool.{true, false}
 use borrow.Author.Tests.{not-true, not-false, eq-eqb, ne_eqb}
 use Rattle.checks.proofs.MmaLaws.{mma_6, mma_12, mma-listing, mma-end}
-use borrow.Author.Rules.{rules}
 use Rattle.checks.proofs.operands_reason.Goals as goal
 
 pub returns-then-not-columns-a : goal.returns-then-not-columns-a

@@ -4,7 +4,6 @@ use mathlib.Core.Path.{◌≡◌, refl, sym, ap, ◌∙◌}
 use lib.ListN.{length, take}
 use lib.Seq.{length-take-le}
 use native.Mathlib.Omega.{arith}
-use borrow.Author.Rules.{rules}
 use borrow.Author.Tests.{not-true, not-false}
 use Rattle.judge.proofs.Whole.{few_lines, too_large, headless, refused_whole, passed_room, passed_whole}
 use Rattle.judge.proofs.judge.Goals as goal

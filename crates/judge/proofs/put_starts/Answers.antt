@@ -1,8 +1,7 @@
 -- `judge::put_starts` meets its contract: after i places the list is that with the first i of w, and what is left of w is still to come. The measure
 -- is what is left of w. Assumes nothing.
-use Prim.Native.Nat.{◌-◌, ◌≤◌}
-use mathlib.Core.Path.{◌≡◌, refl, sym, ap, ◌∙◌}
-use lib.ListN.{length, drop, length-set, drop_of_length-le}
+use mathlib.Core.Path.{refl, sym, ap, ◌∙◌}
+use lib.ListN.{length-set, drop_of_length-le}
 use lib.Seq.{sets, drop-cons}
 use native.Mathlib.Numerals.{add-one}
 use native.Mathlib.Omega.{arith}

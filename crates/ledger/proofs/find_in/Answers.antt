@@ -1,6 +1,5 @@
 -- `ledger::find_in` meets its contract. The slot found or not is the definition's test. Assumes nothing.
 use borrow.Author.Tests.{lt-ltb, le-ltb}
-use borrow.Author.Rules.{rules}
 use Rattle.ledger.specs.Booking.{find_in}
 use Rattle.ledger.proofs.find_in.Goals as goal
 

@@ -1,7 +1,6 @@
 -- `ledger::past` meets its contract: the larger of two starts is the definition's. Each way out makes the definition's test. Assumes nothing.
 use borrow.Author.Tests.{eq-eqb, ne_eqb}
 use native.Mathlib.Omega.{arith}
-use borrow.Author.Rules.{rules}
 use Rattle.ledger.specs.Slots.{past_of}
 use Rattle.ledger.proofs.past.Goals as goal
 

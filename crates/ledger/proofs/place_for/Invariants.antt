@@ -1,11 +1,7 @@
 -- `ledger::place_for` meets its contract: the invariant says that nothing fits below the start so far, and that the empty slots from it on are not enough
 -- yet (PlaceLaws.antt). The measure is what is left of the 16 slots. Assumes nothing.
-use mathlib.Core.Path.{sym, ap, ◌∙◌}
 use Prim.Native.Nat.{◌-◌}
-use native.Mathlib.Omega.{arith}
-use borrow.Author.Rules.{rules}
-use Rattle.ledger.specs.Slots.{past_of}
-use Rattle.ledger.proofs.PlaceLaws.{past_room, Scanned, scan_start, scan_found, scan_more, scan_end}
+use Rattle.ledger.proofs.PlaceLaws.{Scanned}
 use Rattle.ledger.proofs.place_for.Given as goal
 
 abbrev pub invariant-loop-i : goal.invariant-loop-i

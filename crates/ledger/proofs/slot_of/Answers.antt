@@ -1,8 +1,6 @@
 -- `ledger::slot_of` meets its contract: no slot passed so far has the name. The measure is what is left of the 16 slots. Assumes nothing.
-use mathlib.Core.Path.{◌≡◌, refl, sym}
-use Prim.Native.Nat.{◌≤◌, ◌-◌}
+use mathlib.Core.Path.{refl, sym}
 use native.Mathlib.Omega.{arith}
-use borrow.Author.Rules.{rules}
 use Rattle.rules.specs.Counting.{least}
 use Rattle.search.proofs.SearchLaws.{least_more, least-here, least-end}
 use Rattle.ledger.specs.Slots.{owns_at, slot_of}

@@ -1,11 +1,8 @@
 -- `ledger::slot_of` meets its contract: no slot passed so far has the name. The measure is what is left of the 16 slots. Assumes nothing.
-use mathlib.Core.Path.{◌≡◌, refl, sym}
+use mathlib.Core.Path.{◌≡◌}
 use Prim.Native.Nat.{◌≤◌, ◌-◌}
-use native.Mathlib.Omega.{arith}
-use borrow.Author.Rules.{rules}
 use Rattle.rules.specs.Counting.{least}
-use Rattle.search.proofs.SearchLaws.{least_more, least-here, least-end}
-use Rattle.ledger.specs.Slots.{owns_at, slot_of}
+use Rattle.ledger.specs.Slots.{owns_at}
 use Rattle.ledger.proofs.slot_of.Given as goal
 
 abbrev pub invariant-loop-i : goal.invariant-loop-i

@@ -2,7 +2,6 @@
 use mathlib.Core.Path.{ap}
 use lib.Bits.{bit_or}
 use Rattle.outstanding.proofs.WordLaws.{power_fits}
-use borrow.Author.Rules.{rules}
 use Rattle.outstanding.proofs.with_slot.Goals as goal
 
 pub returns : goal.returns

@@ -1,6 +1,5 @@
 -- `outstanding::word_of` meets its contract, by the transfer. Assumes nothing.
 use native.Mathlib.Omega.{arith}
-use borrow.Author.Rules.{rules}
 use Rattle.outstanding.proofs.word_of.Goals as goal
 
 pub returns-in-Store : goal.returns-in-Store

@@ -3,7 +3,6 @@ use mathlib.Core.Path.{sym, ap, ◌∙◌}
 use Rattle.statement.proofs.Readings.{unread}
 use Rattle.printed.specs.Allocs.{alloc_in}
 use Rattle.printed.proofs.RowLaws.{alloc_unread}
-use borrow.Author.Rules.{rules}
 use borrow.Enum.Refused.{opened}
 use Rattle.printed.proofs.alloc_in.Goals as goal
 

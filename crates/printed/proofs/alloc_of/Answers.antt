@@ -1,6 +1,5 @@
 -- `printed::alloc_of` meets its contract: an alloc by its name and columns, any other statement by one law. Assumes nothing.
 use mathlib.Core.Path.{◌∙◌}
-use borrow.Author.Rules.{rules}
 use Rattle.printed.specs.Allocs.{alloc_of}
 use Rattle.printed.proofs.RowLaws.{alloc_other}
 use borrow.Enum.Refused.{opened}

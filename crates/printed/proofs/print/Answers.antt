@@ -1,7 +1,6 @@
 -- `printed::print` meets its contract: the first line is put, and on a pass the rows after it, which are the whole report. Assumes nothing.
 use mathlib.Core.Path.{refl}
 use Rattle.printed.proofs.PrintLaws.{none_19, too_short, refused_printed, rows_ready, passed_printed}
-use borrow.Author.Rules.{rules}
 use Rattle.printed.proofs.print.Goals as goal
 
 pub returns-then-room-lt-ROOM : goal.returns-then-room-lt-ROOM

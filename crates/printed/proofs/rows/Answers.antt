@@ -4,11 +4,10 @@ use Rattle.report.specs.Report.{rows_text}
 use Rattle.lines.specs.Sheet.{line_at}
 use Rattle.judge.specs.Judged.{lines_of, judged_of}
 use Rattle.printed.specs.Printed.{rows_up_to}
-use Prim.Native.Nat.{ℕ, suc, ◌-◌, ◌<◌}
+use Prim.Native.Nat.{ℕ, suc, ◌<◌}
 use mathlib.Core.List.{List}
 use mathlib.Core.Path.{◌≡◌, refl, ap, ◌∙◌}
 use native.Mathlib.Omega.{arith}
-use borrow.Author.Rules.{rules}
 use borrow.Author.Tests.{not-true, not-false}
 use lib.ListN.{length}
 use lib.Seq.{length-sets}

@@ -1,5 +1,4 @@
 -- `progress::counted` meets its contract: each count is the definition's. Assumes nothing.
-use borrow.Author.Rules.{rules}
 use Rattle.progress.proofs.counted.Goals as goal
 
 pub returns : goal.returns

@@ -1,5 +1,4 @@
 -- `progress::more` meets its contract: the test of the columns decides. Assumes nothing.
-use borrow.Author.Rules.{rules}
 use borrow.Author.Tests.{eq-eqb, ne_eqb}
 use Rattle.progress.proofs.more.Goals as goal
 

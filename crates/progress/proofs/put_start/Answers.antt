@@ -1,5 +1,4 @@
 -- `progress::put_start` meets its contract: the test of the columns decides. Assumes nothing.
-use borrow.Author.Rules.{rules}
 use borrow.Author.Tests.{eq-eqb, ne_eqb}
 use Rattle.progress.proofs.put_start.Goals as goal
 

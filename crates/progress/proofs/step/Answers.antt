@@ -1,7 +1,6 @@
 -- `progress::step` meets its contract: one law for each way out, a layout fault, a statement that did not read, and what the statement gives. Assumes
 -- nothing.
 use mathlib.Core.Path.{refl, ◌∙◌}
-use borrow.Author.Rules.{rules}
 use borrow.Author.Tests.{not-true, not-false}
 use Rattle.statement.proofs.Readings.{unread}
 use Rattle.progress.proofs.StepLaws.{next-is, fault-done, fault_points, part, warp_small, not_read, unread_points, was_read, read_points}

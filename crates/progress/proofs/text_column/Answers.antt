@@ -1,7 +1,6 @@
 -- `progress::text_column` meets its contract: one law for a text that did not read and one for a statement. Assumes nothing.
 use mathlib.Core.Path.{refl}
 use native.Mathlib.Omega.{arith}
-use borrow.Author.Rules.{rules}
 use Rattle.statement.proofs.Readings.{unread}
 use Rattle.progress.proofs.StepLaws.{unread_column, read_column}
 use borrow.Enum.Refused.{opened}

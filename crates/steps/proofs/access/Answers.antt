@@ -1,11 +1,6 @@
 -- `steps::access` meets its contract: it is judged, and outstanding from there on if it is accepted (StepLaws.antt). Assumes nothing.
 use Rattle.steps.specs.Steps.{arrays}
 use Rattle.steps.proofs.StepLaws.{access_no, access-done, start-inside}
-use borrow.Author.Rules.{rules}
-use Rattle.checks.proofs.access_judged.Reads as access-judged-reads
-use Rattle.outstanding.proofs.Outstanding.begin.Reads as begin-reads
-use Rattle.steps.proofs.mark.Reads as mark-reads
-use Rattle.steps.proofs.quiet.Reads as quiet-reads
 use Rattle.steps.proofs.access.Goals as goal
 
 pub returns-then-judged-ne-PASSED : goal.returns-then-judged-ne-PASSED

@@ -1,6 +1,5 @@
 -- `steps::alloc` meets its contract: a bound name is refused, and otherwise the booking is the ledger's (StepLaws.antt). Assumes nothing.
 use Rattle.steps.proofs.StepLaws.{alloc_6, alloc-done}
-use borrow.Author.Rules.{rules}
 use Rattle.steps.proofs.alloc.Goals as goal
 
 pub returns-then-bound-ne0 : goal.returns-then-bound-ne0

@@ -1,6 +1,5 @@
 -- `steps::book` meets its contract: the booking's reason decides it (StepLaws.antt). Assumes nothing.
 use Rattle.steps.proofs.StepLaws.{book_refused, book_made}
-use borrow.Author.Rules.{rules}
 use Rattle.steps.proofs.book.Goals as goal
 
 pub returns-then-booked-ne-PASSED : goal.returns-then-booked-ne-PASSED

@@ -1,7 +1,5 @@
 -- `steps::is_early` meets its contract: it asks only where the ledger accepts (StepLaws.antt). Assumes nothing.
 use Rattle.steps.proofs.StepLaws.{early_no, early_is}
-use borrow.Author.Rules.{rules}
-use Rattle.outstanding.proofs.Outstanding.is_busy.Reads as is-busy-reads
 use Rattle.steps.proofs.is_early.Goals as goal
 
 pub returns-then-reason-ne-PASSED : goal.returns-then-reason-ne-PASSED

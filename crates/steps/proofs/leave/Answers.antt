@@ -1,6 +1,5 @@
 -- `steps::leave` meets its contract. The columns held decide it. Assumes nothing.
 use Rattle.steps.proofs.StepLaws.{exit_15, exit_0}
-use borrow.Author.Rules.{rules}
 use Rattle.steps.proofs.leave.Goals as goal
 
 pub returns-then-held-ne0 : goal.returns-then-held-ne0

@@ -1,6 +1,5 @@
 -- `steps::mov` meets its contract. Whether the name is live and where its entry is decide the rules' reason (StepLaws.antt). Assumes nothing.
 use Rattle.steps.proofs.StepLaws.{mov_6, mov_7, mov_0}
-use borrow.Author.Rules.{rules}
 use Rattle.steps.proofs.mov.Goals as goal
 
 pub returns-then-taken-ne0 : goal.returns-then-taken-ne0

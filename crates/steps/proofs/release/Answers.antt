@@ -2,12 +2,6 @@
 use mathlib.Core.Path.{sym, ◌∙◌}
 use Rattle.steps.specs.Steps.{arrays}
 use Rattle.steps.proofs.StepLaws.{release_done, release_18}
-use borrow.Author.Rules.{rules}
-use Rattle.ledger.proofs.Ledger.release.Reads as release-reads
-use Rattle.steps.proofs.book.Reads as book-reads
-use Rattle.steps.proofs.is_early.Reads as is-early-reads
-use Rattle.steps.proofs.lent.Reads as Lent-reads
-use Rattle.steps.proofs.quiet.Reads as quiet-reads
 use Rattle.steps.proofs.release.Goals as goal
 
 pub returns-then-is_early : goal.returns-then-is_early

@@ -1,7 +1,6 @@
 -- `steps::relinquish` meets its contract: the booking is the ledger's (StepLaws.antt). Assumes nothing.
 use Rattle.steps.specs.Steps.{arrays}
 use Rattle.steps.proofs.StepLaws.{relinquish_done}
-use borrow.Author.Rules.{rules}
 use Rattle.steps.proofs.relinquish.Goals as goal
 
 pub returns : goal.returns

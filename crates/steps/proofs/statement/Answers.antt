@@ -2,16 +2,6 @@
 use mathlib.Core.Path.{refl}
 use Rattle.steps.proofs.StepLaws.{open_done, closed_done, multiply_done, nothing-done, idle, wait_done, exit-done}
 use borrow.Author.Rules.{rules}
-use Rattle.checks.proofs.closed_reason.Reads as closed-reason-reads
-use Rattle.checks.proofs.mma_reason.Reads as mma-reason-reads
-use Rattle.steps.proofs.access.Reads as access-reads
-use Rattle.steps.proofs.alloc.Reads as alloc-reads
-use Rattle.steps.proofs.leave.Reads as leave-reads
-use Rattle.steps.proofs.mov.Reads as mov-reads
-use Rattle.steps.proofs.quiet.Reads as quiet-reads
-use Rattle.steps.proofs.release.Reads as release-reads
-use Rattle.steps.proofs.relinquish.Reads as relinquish-reads
-use Rattle.steps.proofs.wait.Reads as wait-reads
 use Rattle.steps.proofs.statement.Goals as goal
 
 pub returns-then-status : goal.returns-then-status

@@ -2,7 +2,6 @@
 -- Assumes nothing.
 use mathlib.Core.Path.{◌∙◌}
 use native.Mathlib.Omega.{arith}
-use borrow.Author.Rules.{rules}
 use Rattle.ledger.proofs.BookingLaws.{request_range, alloc_6, alloc_8, alloc_9, alloc_10, alloc_11, alloc_0}
 use Rattle.ledger.proofs.Ledger.alloc.Goals as goal
 

@@ -1,6 +1,5 @@
 -- `Ledger::release` meets its contract. Each way out has made the tests that decide the definition (BookingLaws.antt). Assumes nothing.
 use mathlib.Core.Path.{◌∙◌}
-use borrow.Author.Rules.{rules}
 use Rattle.ledger.proofs.BookingLaws.{release_6, release_8, release_9, release_0}
 use Rattle.ledger.proofs.Ledger.release.Goals as goal
 

@@ -1,6 +1,5 @@
 -- `Ledger::relinquish` meets its contract. Each way out has made the test that decides the definition (BookingLaws.antt). Assumes nothing.
 use mathlib.Core.Path.{◌∙◌}
-use borrow.Author.Rules.{rules}
 use Rattle.ledger.proofs.BookingLaws.{relinquish_8, relinquish_0}
 use Rattle.ledger.proofs.Ledger.relinquish.Goals as goal
 

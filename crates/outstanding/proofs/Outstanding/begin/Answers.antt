@@ -1,8 +1,5 @@
 -- `outstanding::Outstanding::begin` meets its contract: one word has one bit more (WordLaws.antt). Assumes nothing.
 use Rattle.outstanding.proofs.WordLaws.{begun-is}
-use borrow.Author.Rules.{rules}
-use Rattle.outstanding.proofs.with_slot.Reads as with-slot-reads
-use Rattle.outstanding.proofs.word_of.Reads as word-of-reads
 use Rattle.outstanding.proofs.Outstanding.begin.Goals as goal
 
 pub returns : goal.returns

@@ -1,9 +1,5 @@
 -- `outstanding::Outstanding::is_busy` meets its contract: no word has a bit, or the slot of the name is looked up (WordLaws.antt). Assumes nothing.
 use Rattle.outstanding.proofs.WordLaws.{none_busy, found_inside, found_busy}
-use borrow.Author.Rules.{rules}
-use Rattle.ledger.proofs.find_in.Reads as find-in-reads
-use Rattle.outstanding.proofs.Outstanding.slots.Reads as slots-reads
-use Rattle.outstanding.proofs.has_slot.Reads as has-slot-reads
 use Rattle.outstanding.proofs.Outstanding.is_busy.Goals as goal
 
 pub returns-then-slots-eq0 : goal.returns-then-slots-eq0

@@ -1,7 +1,5 @@
 -- `outstanding::Outstanding::wait` meets its contract: one word is cleared (WordLaws.antt). Assumes nothing.
 use Rattle.outstanding.proofs.WordLaws.{waited-is}
-use borrow.Author.Rules.{rules}
-use Rattle.outstanding.proofs.word_of.Reads as word-of-reads
 use Rattle.outstanding.proofs.Outstanding.wait.Goals as goal
 
 pub returns : goal.returns
