@@ -1,6 +1,6 @@
 """One function of the library and of the reference, measured by the program `bench` of difftest/.
 
-Needs valgrind (Debian's package) and the static library (rt staticlib staplehorn). Both sides have the same inputs and must
+Needs valgrind (Debian's package) and the static library (bin/library). Both sides have the same inputs and must
 give the same sum over their answers; only the measured loop counts.
 """
 import os, re, subprocess, sys
