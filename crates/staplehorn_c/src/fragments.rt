@@ -18,7 +18,12 @@ pub extern "C" fn staplehorn_fragment_place(
 
 // Who holds a row and column: the reason, and the thread and element.
 #[unsafe(no_mangle)]
-pub extern "C" fn staplehorn_fragment_holder(matrix: u32, row: u32, column: u32, holder: &mut [u32; 2]) -> u32
+pub extern "C" fn staplehorn_fragment_holder(
+    matrix: u32,
+    row: u32,
+    column: u32,
+    holder: &mut [u32; 2],
+) -> u32
     ensures reason { result ≡ (F.holder_read matrix row column).reason }
     ensures holder { holder.new ≡ F.holder_numbers (F.holder_read matrix row column).holder }
 {

@@ -15,7 +15,11 @@ pub extern "C" fn staplehorn_statement_reason(text: &[u8], column: &mut usize) -
 
 // The canonical text of a statement: its reason, its length, and the room.
 #[unsafe(no_mangle)]
-pub extern "C" fn staplehorn_statement_canonical(text: &[u8], room: &mut [u8], size: &mut usize) -> u32
+pub extern "C" fn staplehorn_statement_canonical(
+    text: &[u8],
+    room: &mut [u8],
+    size: &mut usize,
+) -> u32
     ensures reason { result ≡ written_reason (rewritten (length room.old) (read_of text.now) (registers_of text.now)) }
     ensures size { size.new ≡ written_length (rewritten (length room.old) (read_of text.now) (registers_of text.now)) }
     ensures room { room.new ≡ left_of room.old (read_of text.now) (registers_of text.now) }

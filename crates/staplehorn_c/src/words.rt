@@ -45,7 +45,12 @@ pub extern "C" fn staplehorn_instruction_judge(kind: u32, ws: u32, sp: u32, word
 
 // The reason of a descriptor's fields: 12 if no word reads as them; 13, 20 or 21 if M, N or the types are not listed; else 0.
 #[unsafe(no_mangle)]
-pub extern "C" fn staplehorn_instruction_listed(kind: u32, ws: u32, sp: u32, fields: &[u32; 13]) -> u32
+pub extern "C" fn staplehorn_instruction_listed(
+    kind: u32,
+    ws: u32,
+    sp: u32,
+    fields: &[u32; 13],
+) -> u32
     ensures { result ≡ listed_for (opcode_of kind ws sp) (I.fields_in fields.now) }
 {
     staplehorn::words::staplehorn_instruction_listed(kind, ws, sp, fields)
