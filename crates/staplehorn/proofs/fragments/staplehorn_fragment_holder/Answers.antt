@@ -2,7 +2,6 @@
 use mathlib.Core.Path.{ap}
 use Rattle.fragment.specs.Fragment.{holder_numbers}
 use Rattle.fragment.specs.declared.HolderRead.{HolderRead}
-use borrow.Author.Rules.{rules}
 use Rattle.staplehorn.proofs.fragments.staplehorn_fragment_holder.Goals as goal
 
 pub returns : goal.returns

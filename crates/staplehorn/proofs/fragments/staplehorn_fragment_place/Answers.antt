@@ -2,7 +2,6 @@
 use mathlib.Core.Path.{ap}
 use Rattle.fragment.specs.Fragment.{place_numbers}
 use Rattle.fragment.specs.declared.PlaceRead.{PlaceRead}
-use borrow.Author.Rules.{rules}
 use Rattle.staplehorn.proofs.fragments.staplehorn_fragment_place.Goals as goal
 
 pub returns : goal.returns

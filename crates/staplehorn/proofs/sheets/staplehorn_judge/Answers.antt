@@ -2,7 +2,6 @@
 use native.Mathlib.Omega.{arith}
 use mathlib.Core.Path.{ap}
 use lib.ListN.{length}
-use borrow.Author.Rules.{rules}
 use Rattle.rules.specs.declared.Answer.{Answer}
 use Rattle.staplehorn.specs.Sheets.{numbers}
 use Rattle.staplehorn.proofs.SheetLaws.{answer_small, count_most}

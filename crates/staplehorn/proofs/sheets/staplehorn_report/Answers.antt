@@ -1,6 +1,5 @@
 -- `staplehorn::sheets::staplehorn_report` meets its contract: the answer is taken apart. Assumes nothing.
 use mathlib.Core.Path.{ap}
-use borrow.Author.Rules.{rules}
 use Rattle.printed.specs.declared.Printed.{Printed}
 use Rattle.staplehorn.proofs.sheets.staplehorn_report.Goals as goal
 

@@ -1,7 +1,6 @@
 -- `staplehorn::statements::staplehorn_statement_canonical` meets its contract: the answer is taken apart. Assumes nothing.
 use mathlib.Core.Path.{◌∙◌, ap}
 use Rattle.staplehorn.specs.Statements.{written_reason, written_length}
-use borrow.Author.Rules.{rules}
 use Rattle.staplehorn.proofs.statements.staplehorn_statement_canonical.Goals as goal
 
 pub returns : goal.returns

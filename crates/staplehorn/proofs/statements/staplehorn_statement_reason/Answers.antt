@@ -1,7 +1,6 @@
 -- `staplehorn::statements::staplehorn_statement_reason` meets its contract: the answer is taken apart. Assumes nothing.
 use mathlib.Core.Path.{ap}
 use Rattle.canonical.specs.declared.Alone.{Alone}
-use borrow.Author.Rules.{rules}
 use Rattle.staplehorn.proofs.statements.staplehorn_statement_reason.Goals as goal
 
 pub returns : goal.returns

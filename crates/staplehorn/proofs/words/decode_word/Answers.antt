@@ -4,7 +4,6 @@ use mathlib.Core.Option.{Option}
 use Rattle.staplehorn.specs.declared.words.Opcode.{Opcode}
 use Rattle.instruction.specs.Instruction.{fields_read}
 use Rattle.staplehorn.specs.Words.{decoded_for, opcode_seen}
-use borrow.Author.Rules.{rules}
 use Rattle.staplehorn.proofs.words.decode_word.Goals as goal
 
 pub returns-in_default : goal.returns-in_default

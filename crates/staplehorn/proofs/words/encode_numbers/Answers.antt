@@ -3,7 +3,6 @@ use mathlib.Core.Path.{sym, ◌∙◌, ap}
 use mathlib.Core.Option.{Option}
 use Rattle.staplehorn.specs.declared.words.Opcode.{Opcode}
 use Rattle.staplehorn.specs.Words.{encoded_for, opcode_seen}
-use borrow.Author.Rules.{rules}
 use Rattle.staplehorn.proofs.words.encode_numbers.Goals as goal
 
 pub returns-in_default : goal.returns-in_default

@@ -4,7 +4,6 @@ use mathlib.Core.Option.{Option}
 use Rattle.instruction.specs.declared.Judged.{Judged}
 use Rattle.staplehorn.specs.declared.words.Opcode.{Opcode}
 use Rattle.staplehorn.specs.Words.{judged_for, opcode_seen}
-use borrow.Author.Rules.{rules}
 use Rattle.staplehorn.proofs.words.judge_word.Goals as goal
 
 pub returns-in_default : goal.returns-in_default

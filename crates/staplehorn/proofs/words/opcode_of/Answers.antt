@@ -1,7 +1,6 @@
 -- `staplehorn::words::opcode_of` meets its contract: a kind or none, and then the flags. Assumes nothing.
 use mathlib.Core.Path.{sym, ◌∙◌, ap}
 use Rattle.staplehorn.specs.Words.{opcode_of, with_flags, kind_seen}
-use borrow.Author.Rules.{rules}
 use Rattle.staplehorn.proofs.words.opcode_of.Goals as goal
 
 pub returns-in_default : goal.returns-in_default

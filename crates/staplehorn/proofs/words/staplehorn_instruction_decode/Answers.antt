@@ -9,7 +9,6 @@ use Rattle.instruction.specs.declared.FieldsRead.{FieldsRead}
 use Rattle.instruction.specs.Descriptor.{InstructionRead}
 use Rattle.staplehorn.specs.declared.words.Opcode.{Opcode}
 use Rattle.staplehorn.specs.Words.{decoded_for, opcode_of}
-use borrow.Author.Rules.{rules}
 use Rattle.staplehorn.proofs.words.staplehorn_instruction_decode.Goals as goal
 
 -- a refused answer has no descriptor

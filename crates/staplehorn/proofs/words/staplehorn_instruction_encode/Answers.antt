@@ -2,7 +2,6 @@
 use mathlib.Core.Path.{◌∙◌, ap}
 use Rattle.instruction.specs.declared.InstructionWord.{InstructionWord}
 use Rattle.staplehorn.specs.Words.{opcode_of, encoded_for}
-use borrow.Author.Rules.{rules}
 use Rattle.staplehorn.proofs.words.staplehorn_instruction_encode.Goals as goal
 
 pub returns : goal.returns

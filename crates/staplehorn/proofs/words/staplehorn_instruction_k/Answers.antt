@@ -1,7 +1,6 @@
 -- `staplehorn::words::staplehorn_instruction_k` meets its contract: the answer is taken apart. Assumes nothing.
 use mathlib.Core.Path.{ap}
 use Rattle.staplehorn.specs.declared.words.KRead.{KRead}
-use borrow.Author.Rules.{rules}
 use Rattle.staplehorn.proofs.words.staplehorn_instruction_k.Goals as goal
 
 pub returns : goal.returns

@@ -1,7 +1,6 @@
 -- `staplehorn::words::staplehorn_instruction_listed` meets its contract: the fields are those in the array. Assumes nothing.
 use mathlib.Core.Path.{◌∙◌, ap}
 use Rattle.staplehorn.specs.Words.{opcode_of, listed_for}
-use borrow.Author.Rules.{rules}
 use Rattle.staplehorn.proofs.words.staplehorn_instruction_listed.Goals as goal
 
 pub returns : goal.returns

@@ -2,7 +2,6 @@
 use mathlib.Core.Path.{ap}
 use Rattle.shared_memory.specs.Shared.{numbers}
 use Rattle.shared_memory.specs.declared.SharedRead.{SharedRead}
-use borrow.Author.Rules.{rules}
 use Rattle.staplehorn.proofs.words.staplehorn_shared_decode.Goals as goal
 
 pub returns : goal.returns

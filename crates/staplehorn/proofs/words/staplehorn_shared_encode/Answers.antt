@@ -1,7 +1,6 @@
 -- `staplehorn::words::staplehorn_shared_encode` meets its contract: the answer is taken apart. Assumes nothing.
 use mathlib.Core.Path.{ap}
 use Rattle.shared_memory.specs.declared.SharedWord.{SharedWord}
-use borrow.Author.Rules.{rules}
 use Rattle.staplehorn.proofs.words.staplehorn_shared_encode.Goals as goal
 
 pub returns : goal.returns
