@@ -310,22 +310,22 @@ pub record Worked : Type 0 where
   pub k : Right (λ sp kind. I.k_of kind sp) ks
   pub code : Right I.element_of codes
   pub dtype : Gives I.dtype_of dtypes
-  pub types-fields : Right (λ kind t. of_fields kind false false (coded false t.0 t.1 t.2 128 64)) types
-  pub types-word : Right (λ kind t. of_word kind false false (coded false t.0 t.1 t.2 128 64)) types
+  pub types_fields : Right (λ kind t. of_fields kind false false (coded false t.0 t.1 t.2 128 64)) types
+  pub types_word : Right (λ kind t. of_word kind false false (coded false t.0 t.1 t.2 128 64)) types
   pub m_fields : Right (with_m of_fields) ms
   pub m_word : Right (with_m of_word) ms
   pub n_fields : Right (with_n of_fields) ns
   pub n_word : Right (with_n of_word) ns
-  pub several-fields : Gives (λ p. of_fields Kind.F16 false false (coded false p.0 0 0 p.1 p.2)) several
-  pub several-word : Gives (λ p. of_word Kind.F16 false false (coded false p.0 0 0 p.1 p.2)) several
-  pub flags-fields : Right (λ o x. of_fields o.0 o.1 o.2 (flagged o.0 x)) flags
-  pub flags-word : Right (λ o x. of_word o.0 o.1 o.2 (flagged o.0 x)) flags
+  pub several_fields : Gives (λ p. of_fields Kind.F16 false false (coded false p.0 0 0 p.1 p.2)) several
+  pub several_word : Gives (λ p. of_word Kind.F16 false false (coded false p.0 0 0 p.1 p.2)) several
+  pub flags_fields : Right (λ o x. of_fields o.0 o.1 o.2 (flagged o.0 x)) flags
+  pub flags_word : Right (λ o x. of_word o.0 o.1 o.2 (flagged o.0 x)) flags
   pub reads : Gives (λ w. I.values (I.fields_read (I.decoded w.0 w.1 w.2 w.3)).fields) words
   pub fixed : Gives (I.word_reason Kind.F16 false false) fixed_bits
   pub range : Gives (λ p. (I.encoded_numbers Kind.F16 false false (I.values (coded false 1 0 0 p.0 p.1))).reason) ranges
   pub swizzle_fields : Right (λ base swizzle. shared_reason (swizzled base swizzle)) swizzles
   pub swizzle_word : Right (λ base swizzle. shared_read (swizzled base swizzle)) swizzles
-  pub shared-reads : Gives (λ w. S.numbers (S.decoded w).descriptor) shared_words
-  pub shared-fixed : Gives (λ w. (S.decoded w).reason) shared_bits
+  pub shared_reads : Gives (λ w. S.numbers (S.decoded w).descriptor) shared_words
+  pub shared_fixed : Gives (λ w. (S.decoded w).reason) shared_bits
   pub shared_range : Gives shared_reason shared_ranges
   pub request : Gives request_reason requests

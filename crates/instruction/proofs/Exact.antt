@@ -56,9 +56,9 @@ module _ (kind : Kind) (ws sp : Bool) where
       ∙ sym (writes d e).1
 
   -- a word that reads as some numbers is the word of those numbers
-  fields-word : (w : ℕ) (f : Fields) → w < 2 ^ 32 → fields_read (decoded kind ws sp w) ≡ good f → encoded_numbers kind ws sp (values f) ≡ made w
+  fields_word : (w : ℕ) (f : Fields) → w < 2 ^ 32 → fields_read (decoded kind ws sp w) ≡ good f → encoded_numbers kind ws sp (values f) ≡ made w
   unfolding decoded
-  fields-word w f b e =
+  fields_word w f b e =
       let r : (x : Instruction) × Reading layout (named kind) rule w x × (decoded kind ws sp w ≡ found x) =
       reading layout (named kind) rule found no_descriptor (λ a. a.reason ≡ 0) (λ z. omega arith) w (ap (λ (a : FieldsRead). a.reason) e) in
       let u : encoded kind ws sp r.0 ≡ made w = word w r.0 b r.2 in
@@ -74,5 +74,5 @@ instruction_exact kind ws sp = record {
   sole = sole kind ws sp;
   as_numbers = as_numbers kind ws sp;
   fields_back = numbers_back kind ws sp;
-  fields-word = fields-word kind ws sp;
+  fields_word = fields_word kind ws sp;
 }

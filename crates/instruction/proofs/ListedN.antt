@@ -58,7 +58,7 @@ fields_fit kind ws sp f h =
 
 word_fits : (kind : Kind) (ws sp : Bool) (w : ℕ) (d : Instruction) → w < 2 ^ 32 → decoded kind ws sp w ≡ found d → n_fits d.n ≡ true
 word_fits kind ws sp w d b e =
-    fields_fit kind ws sp (fields d) (ap (λ (a : InstructionWord). a.reason) ((instruction_exact kind ws sp).fields-word w (fields d) b (ap fields_read e)))
+    fields_fit kind ws sp (fields d) (ap (λ (a : InstructionWord). a.reason) ((instruction_exact kind ws sp).fields_word w (fields d) b (ap fields_read e)))
 
 -- THE RULE OF N AND ITS TABLE AGREE
 pub n_exact : NExact

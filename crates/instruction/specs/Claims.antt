@@ -20,7 +20,7 @@ pub record InstructionExact (kind : Kind) (ws sp : Bool) : Type 0 where
   -- the same of fields as numbers: the word of some numbers reads as those numbers, and no other word does
   pub fields_back : (f : Fields)
       → (encoded_numbers kind ws sp (values f)).reason ≡ 0 → fields_read (decoded kind ws sp (encoded_numbers kind ws sp (values f)).word) ≡ good f
-  pub fields-word : (w : ℕ) (f : Fields) → w < 2 ^ 32 → fields_read (decoded kind ws sp w) ≡ good f → encoded_numbers kind ws sp (values f) ≡ made w
+  pub fields_word : (w : ℕ) (f : Fields) → w < 2 ^ 32 → fields_read (decoded kind ws sp w) ≡ good f → encoded_numbers kind ws sp (values f) ≡ made w
 
 -- The rule of N and the lists of its numbers agree under every opcode.
 pub record NExact : Type 0 where

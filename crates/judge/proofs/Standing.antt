@@ -119,8 +119,8 @@ module _ (s first given : List ℕ) (a : Arrays) (p : Progress) (at : ℕ) (g : 
       places = places e;
     }
 
-    module _ (r : Advanced) (nextGiven : List ℕ) (next : Arrays) (w : Went (line_seen s at) (column_seen s at) given a p r nextGiven next) where
-      gives : Next (lines_of s) k (column_seen s at) first given a p r nextGiven next
+    module _ (r : Advanced) (next_given : List ℕ) (next : Arrays) (w : Went (line_seen s at) (column_seen s at) given a p r next_given next) where
+      gives : Next (lines_of s) k (column_seen s at) first given a p r next_given next
       gives = w (lines_of s) k first g.going line_now
 
       -- refused: the sheet stops here
@@ -140,14 +140,14 @@ module _ (s first given : List ℕ) (a : Arrays) (p : Progress) (at : ℕ) (g : 
         refuses room h =
             let e = (gives.stops z).0 in
             let n : r.progress.line ≡ k + 2 = omega (arith, ap (λ (x : Progress). x.line) e, g.going.line_is) in
-            let held = ap (λ (x : Progress). x.held) e ∙ g.going.held-is in
+            let held = ap (λ (x : Progress). x.held) e ∙ g.going.held_is in
             let peak = ap (λ (x : Progress). x.peak) e ∙ g.going.peak_is in
             let b : stop_by ours (lines_of s) (line_count s - 1) < line_count s - 1 = omega (arith, stops, inside) in
             let column = gives.points z ∙ column_now (position_by ours (lines_of s) k) in
             (λ i. answer (gives.reasons i) (n i) (column i) (held i) (peak i))
             ∙ sym (at_stop ours (sheet_of s) room h b ∙ ap (λ (j : ℕ). answer (reason_by ours (lines_of s) j) (j + 2) (byte_columns s (suc j) (position_by ours (lines_of s) j)) (held_after (lines_of s) j) (peak_up_to (lines_of s) j)) stops)
 
-        pub same_places : length first ≡ 4096 → length nextGiven ≡ 4096
+        pub same_places : length first ≡ 4096 → length next_given ≡ 4096
         same_places e = ap length (gives.stops z).1.0 ∙ places e
 
       -- accepted
@@ -162,7 +162,7 @@ module _ (s first given : List ℕ) (a : Arrays) (p : Progress) (at : ℕ) (g : 
         pub goes : (n : ℕ) → n ≡ (line_at s at).next → at < n
         goes n e = omega (arith, e, step_more s p.line at g.here (line_at s at) refl ok)
 
-        pub goes_on : (n : ℕ) → n ≡ (line_at s at).next → Standing s first nextGiven next r.progress n
+        pub goes_on : (n : ℕ) → n ≡ (line_at s at).next → Standing s first next_given next r.progress n
         goes_on n e =
             let more = gives.goes_on z in
             let l : p.line + 1 ≡ r.progress.line = omega (arith, g.going.line_is, more.line_is) in
@@ -178,7 +178,7 @@ module _ (s first given : List ℕ) (a : Arrays) (p : Progress) (at : ℕ) (g : 
     done_all = omega (arith, all_done s p.line at g.here (line_at s at) refl t, g.going.line_is)
 
     pub ends-count : p.requests ≡ length (starts_of (sheet_of s))
-    ends-count = g.going.requests-is ∙ ap (λ (j : ℕ). length (starts_up_to (lines_of s) j)) done_all
+    ends-count = g.going.requests_is ∙ ap (λ (j : ℕ). length (starts_up_to (lines_of s) j)) done_all
 
     pub ends_few : line_count s ≤ 4096 → p.requests ≤ 4096
     ends_few c = omega (arith, going.few (lines_of s) k first given a p g.going, done_all, c)
@@ -187,7 +187,7 @@ module _ (s first given : List ℕ) (a : Arrays) (p : Progress) (at : ℕ) (g : 
     ends-starts c e =
         let w = starts_up_to (lines_of s) k in
         let room : 0 + length w ≤ length first = omega (arith, starts_few (lines_of s) k, done_all, c, e) in
-        ap (λ (n : ℕ). take n given) g.going.requests-is
+        ap (λ (n : ℕ). take n given) g.going.requests_is
         ∙ ap (take (length w)) (g.going.starts_are ∙ sets-eq w first 0 room)
         ∙ take-append_seam w (drop (0 + length w) first)
         ∙ ap (starts_up_to (lines_of s)) done_all
@@ -198,7 +198,7 @@ module _ (s first given : List ℕ) (a : Arrays) (p : Progress) (at : ℕ) (g : 
         let zeros : (j : ℕ) → j < line_count s - 1 → reason_by ours (lines_of s) j ≡ 0 = λ j q. g.going.accepted j (omega (arith, q, done_all)) in
         let l : p.line ≡ line_count s - 1 + 1 = omega (arith, g.going.line_is, done_all) in
         let x = g.going.kept.exited ∙ ap (λ (j : ℕ). (state_after (lines_of s) j).exited) done_all in
-        let y = g.going.held-is ∙ ap (held_after (lines_of s)) done_all in
+        let y = g.going.held_is ∙ ap (held_after (lines_of s)) done_all in
         let q = g.going.peak_is ∙ ap (peak_up_to (lines_of s)) done_all in
         let c = sym (start_of s (line_count s - 1)) in
         (λ i. closing (x i) (ends-count i) room (l i) (c i) (y i) (q i)) ∙ sym (at-end ours (sheet_of s) room h (stop_none ours (lines_of s) (line_count s - 1) zeros))

@@ -22,9 +22,9 @@ use Rattle.rules.specs.State as s
 use Rattle.rules.specs.Reasons as reasons
 use Rattle.rules.specs.Sheet.{answer_at, answer_by, closing, stop_by, reason_by, position_by, state_by, starts_by, given, effect, requested, released, sum, held_after, peak_up_to, places_after}
 use Rattle.judge.specs.Judged.{lines_of, byte_columns, judged_of, starts_after}
-use Rattle.judge.specs.Worked.{sheet_of, upper, lower, wholes as wholeSheets, Worked}
+use Rattle.judge.specs.Worked.{sheet_of, upper, lower, wholes as whole_sheets, Worked}
 
-wholes : Gives (λ lines. judged_of (sheet_of lines) 3) wholeSheets
+wholes : Gives (λ lines. judged_of (sheet_of lines) 3) whole_sheets
 unfolding judged_of starts_after places_after lines_of byte_columns byte_column lines.upto lines.text_of lines.ended_of lines.rest lines.after lines.count_from lines.line_count lines.headed lines.warp_byte
     lines.warp_of lines.plain lines.laid_out lines.content_of lines.oversize
     reading.read_of reading.whole_c reading.answer_of reading.operands_c reading.row_c reading.more_row_c name_c number_c quantity_c expression_c goes_on factor_c chain_c links_c sum_c product_c plain_c ranged negated times plus reading.in_brackets_c reading.offset_c

@@ -12,6 +12,6 @@ pub limits : (s : List ℕ) → Limits s
 unfolding oversize
 limits s = record {
   within = λ p q. rw (le-ltb 65536 (length s) p, le-ltb 4096 (line_count s) q);
-  bytes-over = λ p. rw (lt-ltb 65536 (length s) p);
+  bytes_over = λ p. rw (lt-ltb 65536 (length s) p);
   lines_over = λ q. rw (lt-ltb 4096 (line_count s) q) (or-true (ltb 65536 (length s)));
 }

@@ -6,5 +6,5 @@ pub record Limits (s : List ℕ) : Type 0 where
   -- up to 65,536 bytes in up to 4,096 lines are not reason 1
   pub within : length s ≤ 65536 → line_count s ≤ 4096 → oversize s ≡ false
   -- more bytes, or more lines, are
-  pub bytes-over : 65536 < length s → oversize s ≡ true
+  pub bytes_over : 65536 < length s → oversize s ≡ true
   pub lines_over : 4096 < line_count s → oversize s ≡ true

@@ -81,8 +81,8 @@ module _ (s : List ℕ) (room : ℕ) (h : (judged_of s room).reason ≡ 0) where
   pub column_is : (judged_of s room).column ≡ 0
   column_is = ap (λ (a : Answer). a.column) judged-is ∙ ((rules_exact ours (sheet_of s) room).last passes).1
 
-  pub held-is : (judged_of s room).held ≡ 0
-  held-is = ap (λ (a : Answer). a.held) judged-is ∙ (passed_figures ours (sheet_of s) room clear).1
+  pub held_is : (judged_of s room).held ≡ 0
+  held_is = ap (λ (a : Answer). a.held) judged-is ∙ (passed_figures ours (sheet_of s) room clear).1
 
   pub starts_fit : length (starts_of (sheet_of s)) ≤ room
   starts_fit = (figures_exact ours (sheet_of s) room).roomy passes
@@ -262,7 +262,7 @@ rows_most s h =
 fits_by : (b : Bool) (s : List ℕ) → eqb (answered s).reason 0 ≡ b → length (report_of s) ≤ report_room
 fits_by true s e =
     let z = eqb-true (answered s).reason 0 e in
-    omega (arith, ap length (report_passed s z), length-append (head_of s) (rows_text (rows_of s)), head_passed (answered s).reason (answered s).line (answered s).column (answered s).held (answered s).peak z (omega (arith, line_is s 4096 z, lines_most s 4096 z)) (column_is s 4096 z) (held-is s 4096 z), rows_most s z)
+    omega (arith, ap length (report_passed s z), length-append (head_of s) (rows_text (rows_of s)), head_passed (answered s).reason (answered s).line (answered s).column (answered s).held (answered s).peak z (omega (arith, line_is s 4096 z, lines_most s 4096 z)) (column_is s 4096 z) (held_is s 4096 z), rows_most s z)
 fits_by false s e =
     omega (arith, ap length (report_refused s (eqb-false (answered s).reason 0 e)), head_any (answered s).reason (answered s).line (answered s).column (answered s).held (answered s).peak)
 

@@ -58,9 +58,9 @@ opening-going lines first = record {
   line_is = refl;
   accepted = λ j p. absurd (omega (arith, p));
   kept = empty-kept;
-  held-is = refl;
+  held_is = refl;
   peak_is = refl;
-  requests-is = refl;
+  requests_is = refl;
   starts_are = refl;
 }
 
@@ -104,10 +104,10 @@ module _ (lines : ℕ → Line) (k : ℕ) (first given₀ : List ℕ) (a : Array
 
   -- fewer requests than lines, and few columns
   pub few : p.requests ≤ k
-  few = omega (arith, g.requests-is, starts_few lines k)
+  few = omega (arith, g.requests_is, starts_few lines k)
 
   held_small : p.held ≤ 512 * k
-  held_small = omega (arith, g.held-is, held_most lines k (λ j q. zero-kept ours lines j (g.accepted j q)))
+  held_small = omega (arith, g.held_is, held_most lines k (λ j q. zero-kept ours lines j (g.accepted j q)))
 
   -- ---- the next line
   module _ (x : Line) (e : lines k ≡ x) (next : Arrays) (r : Step) (d : LineDone p.held x a p.status r next) where
@@ -118,7 +118,7 @@ module _ (lines : ℕ → Line) (k : ℕ) (first given₀ : List ℕ) (a : Array
     GivesAs n y = Gives (first_broken (line_rules lowest state n y)) (line_effect lowest state y) (given lowest state y) (requested y) (released y) a p.status r next
 
     gives : GivesAs (held_after lines k) (lines k)
-    gives = subst (λ (n : ℕ). GivesAs n (lines k)) g.held-is (subst (GivesAs p.held) (sym e) (d state g.kept))
+    gives = subst (λ (n : ℕ). GivesAs n (lines k)) g.held_is (subst (GivesAs p.held) (sym e) (d state g.kept))
 
     pub reason_is : r.reason ≡ reason_by ours lines k
     unfolding reason_by
@@ -146,7 +146,7 @@ module _ (lines : ℕ → Line) (k : ℕ) (first given₀ : List ℕ) (a : Array
       asked_small = omega (arith, gives.asks z, asked_most state (held_after lines k) (lines k) (kept-all k (omega arith)))
 
       balance : held_after lines (suc k) + r.returned ≡ p.held + r.asked
-      balance = omega (arith, held_next ours lines k kept-all, gives.asks z, gives.returns z, g.held-is)
+      balance = omega (arith, held_next ours lines k kept-all, gives.asks z, gives.returns z, g.held_is)
 
       -- nothing overflows
       pub small : suc k < most_lines → Small p r
@@ -160,10 +160,10 @@ module _ (lines : ℕ → Line) (k : ℕ) (first given₀ : List ℕ) (a : Array
       start_small : r.start < 512
       start_small = below_by (eqb r.asked 0) state (lines k) r.start (gives.starting z) (λ b. gives.no_start z (eqb-true r.asked 0 b))
 
-      pub goes_on : (nextGiven : List ℕ) → nextGiven ≡ cond (eqb r.asked 0) given₀ (set given₀ p.requests (r.start % 65536))
-          → Going lines (suc k) first nextGiven next (counted_of p r)
+      pub goes_on : (next_given : List ℕ) → next_given ≡ cond (eqb r.asked 0) given₀ (set given₀ p.requests (r.start % 65536))
+          → Going lines (suc k) first next_given next (counted_of p r)
       unfolding state_by starts_by peak_up_to
-      goes_on nextGiven n =
+      goes_on next_given n =
           let held_then : p.held + r.asked - r.returned ≡ held_after lines (suc k) = omega (arith, balance) in
           let w = starts_up_to lines k in
           let m = given lowest state (lines k) in
@@ -171,10 +171,10 @@ module _ (lines : ℕ → Line) (k : ℕ) (first given₀ : List ℕ) (a : Array
             line_is = omega (arith, g.line_is);
             accepted = accepted_next;
             kept = gives.keeps z;
-            held-is = held_then;
+            held_is = held_then;
             peak_is = ap (λ (y : ℕ). max y (p.held + r.asked - r.returned)) g.peak_is ∙ ap (max (peak_up_to lines k)) held_then;
-            requests-is = count_by (eqb r.asked 0) w m p.requests r.start g.requests-is (gives.starting z);
-            starts_are = starts_by_lem (eqb r.asked 0) first w m given₀ nextGiven p.requests r.start g.starts_are g.requests-is (gives.starting z) start_small n;
+            requests_is = count_by (eqb r.asked 0) w m p.requests r.start g.requests_is (gives.starting z);
+            starts_are = starts_by_lem (eqb r.asked 0) first w m given₀ next_given p.requests r.start g.starts_are g.requests_is (gives.starting z) start_small n;
           }
 
 -- ---- what `advance` gives
@@ -190,18 +190,18 @@ module _ (x : Line) (column : Position → ℕ) (given₀ : List ℕ) (a : Array
     points = λ y.
         b (state_after lines k) g.kept
         ∙ ap (λ (v : Bool). cond v 0 (column (first_position (line_rows lowest (state_after lines k) p.held x)))) (ne_eqb r.reason 0 z)
-        ∙ ap (λ (m : ℕ). column (first_position (line_rows lowest (state_after lines k) m x))) g.held-is
+        ∙ ap (λ (m : ℕ). column (first_position (line_rows lowest (state_after lines k) m x))) g.held_is
         ∙ sym (ap (λ (y : Line). column (first_position (line_rows lowest (state_after lines k) (held_after lines k) y))) h);
     stops = λ y. (e, (refl, unchanged lines k first given₀ a p g x h next r d z));
   }
 
   -- at one that is accepted
-  pub goes : r.reason ≡ 0 → (nextGiven : List ℕ) → nextGiven ≡ cond (eqb r.asked 0) given₀ (set given₀ p.requests (r.start % 65536))
-      → (q : Progress) → q ≡ counted_of p r → (n : ℕ) → Went x column given₀ a p (record { progress = q; reason = 0; column = 0; next = n }) nextGiven next
-  goes z nextGiven f q e n lines k first g h = record {
+  pub goes : r.reason ≡ 0 → (next_given : List ℕ) → next_given ≡ cond (eqb r.asked 0) given₀ (set given₀ p.requests (r.start % 65536))
+      → (q : Progress) → q ≡ counted_of p r → (n : ℕ) → Went x column given₀ a p (record { progress = q; reason = 0; column = 0; next = n }) next_given next
+  goes z next_given f q e n lines k first g h = record {
     reasons = sym z ∙ reason_is lines k first given₀ a p g x h next r d;
     no_column = λ y. refl;
-    goes_on = λ y. subst (λ (o : Progress). Going lines (suc k) first nextGiven next o) (sym e) (goes_on lines k first given₀ a p g x h next r d z nextGiven f);
+    goes_on = λ y. subst (λ (o : Progress). Going lines (suc k) first next_given next o) (sym e) (goes_on lines k first given₀ a p g x h next r d z next_given f);
     points = λ y. absurd (y refl);
     stops = λ y. absurd (y refl);
   }

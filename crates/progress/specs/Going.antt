@@ -53,9 +53,9 @@ pub record Going (lines : ℕ → Line) (k : ℕ) (first given : List ℕ) (a : 
   pub line_is : p.line ≡ suc k
   pub accepted : (j : ℕ) → j < k → reason_by ours lines j ≡ 0
   pub kept : Kept a p.status (state_after lines k)
-  pub held-is : p.held ≡ held_after lines k
+  pub held_is : p.held ≡ held_after lines k
   pub peak_is : p.peak ≡ peak_up_to lines k
-  pub requests-is : p.requests ≡ length (starts_up_to lines k)
+  pub requests_is : p.requests ≡ length (starts_up_to lines k)
   -- each start in its place, and the places past them as they were at first
   pub starts_are : given ≡ sets first 0 (starts_up_to lines k)
 
@@ -92,16 +92,16 @@ pub record Small (p : Progress) (r : Step) : Type 0 where
   pub returned : r.returned ≤ p.held + r.asked
 
 -- what the line after k lines gives, by the columns of its positions
-pub record Next (lines : ℕ → Line) (k : ℕ) (column : Position → ℕ) (first given : List ℕ) (a : Arrays) (p : Progress) (r : Advanced) (nextGiven : List ℕ) (next : Arrays) : Type 0 where
+pub record Next (lines : ℕ → Line) (k : ℕ) (column : Position → ℕ) (first given : List ℕ) (a : Arrays) (p : Progress) (r : Advanced) (next_given : List ℕ) (next : Arrays) : Type 0 where
   pub reasons : r.reason ≡ reason_by ours lines k
   -- accepted: one line more is done, and there is no column
   pub no_column : r.reason ≡ 0 → r.column ≡ 0
-  pub goes_on : r.reason ≡ 0 → Going lines (suc k) first nextGiven next r.progress
+  pub goes_on : r.reason ≡ 0 → Going lines (suc k) first next_given next r.progress
   -- refused: it has the column of its position, and nothing changes but the line's number
   pub points : (r.reason ≡ 0 → ⊥) → r.column ≡ column (position_by ours lines k)
-  pub stops : (r.reason ≡ 0 → ⊥) → (r.progress ≡ passed_by p) × ((nextGiven ≡ given) × (next ≡ a))
+  pub stops : (r.reason ≡ 0 → ⊥) → (r.progress ≡ passed_by p) × ((next_given ≡ given) × (next ≡ a))
 
 -- that, of the line x wherever it comes next
 abbrev pub Went : Line → (column : Position → ℕ) → List ℕ → Arrays → Progress → Advanced → List ℕ → Arrays → Type 0
-Went x column given a p r nextGiven next =
-    (lines : ℕ → Line) (k : ℕ) (first : List ℕ) → Going lines k first given a p → lines k ≡ x → Next lines k column first given a p r nextGiven next
+Went x column given a p r next_given next =
+    (lines : ℕ → Line) (k : ℕ) (first : List ℕ) → Going lines k first given a p → lines k ≡ x → Next lines k column first given a p r next_given next

@@ -174,7 +174,7 @@ module _ (placing : Placing) (sheet : Sheet) (room : ℕ) where
   figures_exact =
       let n = accepted_lines placing sheet room in
       record {
-        held-each = λ k h. live_held n k stands.few h;
+        held_each = λ k h. live_held n k stands.few h;
         peak_each = λ k h. most_live k (omega (arith, h, stands.few));
         held = stands.held;
         nothing = λ p. let c = passing_clear placing sheet room p in subst (λ m. live m ≡ 0) (sym (all_accepted c)) (clear_nothing c);

@@ -254,7 +254,7 @@ module _ (placing : Placing) (sheet : Sheet) (room : ℕ) where
 
   pub record FiguresExact : Type 0 where
     -- after each accepted line the columns held, by which exit is decided, are those that are live, and the peak is the most that were
-    pub held-each : (k : ℕ) → k ≤ accepted_lines → held_after sheet.line k ≡ live_after k
+    pub held_each : (k : ℕ) → k ≤ accepted_lines → held_after sheet.line k ≡ live_after k
     pub peak_each : (k : ℕ) → k ≤ accepted_lines → MostLive k (peak_up_to sheet.line k)
     -- the answer has those after the accepted lines; on a pass and 16 nothing is held
     pub held : (answer_by placing sheet room).held ≡ live_after accepted_lines

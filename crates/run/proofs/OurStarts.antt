@@ -335,8 +335,8 @@ module _ (sheet : Sheet) (c : Clear ours sheet) where
       let l = lowest-least (state k).live (our k).live x start (same_at k (omega (arith, a.0.0))).0 q.0 q.1 u in
       (l.0, (start_is k x a ∙ l.1.0, l.1.1))
 
-  held-is : (k : ℕ) → k ≤ sheet.count → held_columns (our k).live ≡ held_after sheet.line k
-  held-is k h =
+  held_is : (k : ℕ) → k ≤ sheet.count → held_columns (our k).live ≡ held_after sheet.line k
+  held_is k h =
       let d = sound list (turns_of sheet) k in
       counted (our k).live d.low d.apart
       ∙ sym (total_alike (state k).live (our k).live (same_alike (state k).live (our k).live (same_at k h).0))
@@ -345,7 +345,7 @@ module _ (sheet : Sheet) (c : Clear ours sheet) where
   peak_is : (k : ℕ) → k ≤ sheet.count → peak_of list (turns_of sheet) k ≡ peak_up_to sheet.line k
   unfolding peak_of peak_up_to
   peak_is zero h = refl
-  peak_is (suc k) h = rw (peak_is k (omega (arith, h)), held-is (suc k) h)
+  peak_is (suc k) h = rw (peak_is k (omega (arith, h)), held_is (suc k) h)
 
   written : (old : List ℕ) → (answer_by ours sheet (length old)).reason ≡ 0 → places_after sheet old ≡ list ++ drop (length list) old
   unfolding places_after

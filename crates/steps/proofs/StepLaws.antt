@@ -171,10 +171,10 @@ module _ (held : ℕ) (status : Status) where
 
 -- ---- bookings
 -- what `book` ensures
-abbrev BookDone : Booked → Status → (asked returned : ℕ) → (hi lo columns : List ℕ) → Step → (nextHi nextLo nextColumns : List ℕ) → Type 0
-BookDone b status asked returned hi lo columns r nextHi nextLo nextColumns =
+abbrev BookDone : Booked → Status → (asked returned : ℕ) → (hi lo columns : List ℕ) → Step → (next_hi next_lo next_columns : List ℕ) → Type 0
+BookDone b status asked returned hi lo columns r next_hi next_lo next_columns =
     (r ≡ step_of b status asked returned)
-    × ((nextHi ≡ stored b b.next.hi hi) × (nextLo ≡ stored b b.next.lo lo) × (nextColumns ≡ stored b b.next.columns columns))
+    × ((next_hi ≡ stored b b.next.hi hi) × (next_lo ≡ stored b b.next.lo lo) × (next_columns ≡ stored b b.next.columns columns))
 
 -- what it answers where nothing is refused
 abbrev made : Booked → Status → (asked returned : ℕ) → Step

@@ -112,9 +112,9 @@ OpenDone held w t = Done (λ s. open_rules lowest s held w t) (statement w t)
 -- ---- the parts: all but exit whatever is held
 -- a statement before exit that touches the arrays of the ledger and the words alone, whatever the table of value names has
 abbrev pub LedgerDone : ℕ → Statement → (hi lo columns words : List ℕ) → Status → Step → (hi lo columns words : List ℕ) → Type 0
-LedgerDone w t hi lo columns words status r nextHi nextLo nextColumns nextWords =
+LedgerDone w t hi lo columns words status r next_hi next_lo next_columns next_words =
     (held : ℕ) (value_hi value_lo numbers widths : List ℕ)
-    → OpenDone held w t (arrays hi lo columns value_hi value_lo numbers widths words) status r (arrays nextHi nextLo nextColumns value_hi value_lo numbers widths nextWords)
+    → OpenDone held w t (arrays hi lo columns value_hi value_lo numbers widths words) status r (arrays next_hi next_lo next_columns value_hi value_lo numbers widths next_words)
 
 -- an alloc
 abbrev pub AllocDone : ℕ → Name → ℕ → Arrays → Status → Step → Arrays → Type 0
