@@ -14,7 +14,11 @@ pub returns-in_default : goal.returns-in_default
 returns-in_default c =
     let a = c.args in
     let x = c.read-t in
-    let h = rewrite_unread a.room.now (length a.room.now) x.result (registers_of a.text.now) (unread x.result (opened c.in_default.in_default-own.keys2)) in (record { answer = ap Refused c.reason.ensures ∙ (h.0 ∙ ap (λ (r : Reading). rewritten (length a.room.now) r (registers_of a.text.now)) x.ensures); left = h.1 ∙ ap (λ (r : Reading). left_of a.room.now r (registers_of a.text.now)) x.ensures })
+    let h = rewrite_unread a.room.now (length a.room.now) x.result (registers_of a.text.now) (unread x.result (opened c.in_default.in_default-own.keys2)) in
+    record {
+      answer = ap Refused c.reason.ensures ∙ (h.0 ∙ ap (λ (r : Reading). rewritten (length a.room.now) r (registers_of a.text.now)) x.ensures);
+      left = h.1 ∙ ap (λ (r : Reading). left_of a.room.now r (registers_of a.text.now)) x.ensures;
+    }
 
 pub rewrite_in-requires : goal.rewrite_in-requires
 rewrite_in-requires c = (sym c.read-t.ensures ∙ c.in-Got.is, refl, refl)

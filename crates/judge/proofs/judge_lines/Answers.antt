@@ -22,7 +22,13 @@ returns-then-done-ne-PASSED c =
     let t = c.loop-at-test.true in
     let x = c.advance-done in
     let z = c.if-done-ne-PASSED.true in
-    let r = c.refused in (record { answer = r.ensures.0 ∙ refuses a.args.sheet.now _ _ _ _ _ l.invariant t _ _ _ x.ensures.went z a.args.room a.requires.0; count = refused_count a.args.sheet.now _ _ z r.ensures.0 _ r.ensures.1; size = (omega (arith, r.ensures.1), same_places a.args.sheet.now _ _ _ _ _ l.invariant t _ _ _ x.ensures.went z a.requires.2); starts = λ e. absurd (z (sym (ap (λ y. y.reason) r.ensures.0) ∙ e)) })
+    let r = c.refused in
+    record {
+      answer = r.ensures.0 ∙ refuses a.args.sheet.now _ _ _ _ _ l.invariant t _ _ _ x.ensures.went z a.args.room a.requires.0;
+      count = refused_count a.args.sheet.now _ _ z r.ensures.0 _ r.ensures.1;
+      size = (omega (arith, r.ensures.1), same_places a.args.sheet.now _ _ _ _ _ l.invariant t _ _ _ x.ensures.went z a.requires.2);
+      starts = λ e. absurd (z (sym (ap (λ y. y.reason) r.ensures.0) ∙ e));
+    }
 
 pub loop-at-smaller : goal.loop-at-smaller
 loop-at-smaller c =
