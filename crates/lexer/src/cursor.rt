@@ -1,9 +1,9 @@
 // Tokens by a cursor that stops at the first token that does not fit, and stays there.
 ghost use Rattle.std.specs.Prelude.{◌≡◌, ◌-◌, true, cond, length, drop};
-ghost use Rattle.tokens.specs.Cursors.{seen, mark_c, end_c, name_seen, name_c, number_seen, number_c};
+ghost use Rattle.tokens.specs.Cursors.{seen, mark_c, end_c, name_c, number_c, read_seen};
 ghost use Rattle.lexer.specs.Places.{within};
 
-use tokens::{Cursor, Name, NameRead, NumberRead};
+use tokens::{Cursor, Name, Read};
 
 // Past the byte m, which blanks may precede.
 pub fn mark(s: &[u8], k: Cursor, m: u8) -> Cursor
@@ -87,12 +87,12 @@ fn past(k: Cursor, i: usize, e: usize) -> Cursor
 }
 
 // Past a name, which blanks may precede.
-pub fn name(s: &[u8], k: Cursor) -> NameRead
-    ensures rest { name_seen s.now result ≡ name_c (seen s.now k) }
+pub fn name(s: &[u8], k: Cursor) -> Read<Name>
+    ensures rest { read_seen s.now result ≡ name_c (seen s.now k) }
     ensures within { within s.now k → within s.now result.next }
 {
     if !k.ok {
-        return NameRead {
+        return Read {
             value: Name { hi: 0, lo: 0 },
             next: k,
         };
@@ -103,25 +103,25 @@ pub fn name(s: &[u8], k: Cursor) -> NameRead
     let value = n.value;
     let e = n.end;
     let ok = n.ok;
-    NameRead {
+    Read {
         value,
         next: moved(k, e, ok),
     }
 }
 
 // Past a number, which blanks may precede; 0 stands for one over the limit.
-pub fn number(s: &[u8], k: Cursor, limit: u64) -> NumberRead
-    ensures rest { number_seen s.now result ≡ number_c limit (seen s.now k) }
+pub fn number(s: &[u8], k: Cursor, limit: u64) -> Read<u64>
+    ensures rest { read_seen s.now result ≡ number_c limit (seen s.now k) }
     ensures within { within s.now k → within s.now result.next }
 {
     if !k.ok {
-        return NumberRead { value: 0, next: k };
+        return Read { value: 0, next: k };
     }
     let at = k.at;
     let i = crate::bytes::blanks_end(s, at);
     let n = crate::number::numeral(s, i);
     if !n.ok {
-        return NumberRead {
+        return Read {
             value: 0,
             next: moved(k, i, false),
         };
@@ -129,12 +129,12 @@ pub fn number(s: &[u8], k: Cursor, limit: u64) -> NumberRead
     let e = i + n.used;
     let v = n.value;
     if n.over | (limit < v) {
-        return NumberRead {
+        return Read {
             value: 0,
             next: past(k, i, e),
         };
     }
-    NumberRead {
+    Read {
         value: v,
         next: moved(k, e, true),
     }

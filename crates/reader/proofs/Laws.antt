@@ -16,11 +16,11 @@ use Rattle.laws.proofs.BoolLaws.{clash, and_split}
 use Rattle.expression.proofs.QuantityLaws.{alone-marked}
 use Rattle.tokens.specs.declared.Name.{Name}
 use Rattle.tokens.specs.declared.Cursor.{Cursor}
-use Rattle.tokens.specs.declared.NameRead.{NameRead}
 use Rattle.tokens.specs.Text.{byte}
 use Rattle.tokens.specs.Bytes.{after_blanks, token_of}
 use Rattle.tokens.specs.Numbers.{is_number, value_of}
-use Rattle.tokens.specs.Cursors.{Rest, seen, off, Took, mark_c, end_c, name_c, name_seen, number_c}
+use Rattle.tokens.specs.declared.Read.{Read}
+use Rattle.tokens.specs.Cursors.{Rest, seen, off, Took, mark_c, end_c, name_c, number_c, read_seen}
 use Rattle.expression.specs.declared.Amount.{Amount}
 use Rattle.expression.specs.Expressions.{clean, expr_by, factor_c, fits_in, settled, expression_c, goes_on, quantity_c}
 use Rattle.instruction.specs.declared.Kind.{Kind}
@@ -108,7 +108,7 @@ more_done s at d zero h e = refl
 more_done s at d (suc k) h e = rw (← h, e)
 
 -- a comma: one name, and what is left after it
-pub more_took : (s : List ℕ) (at d : Cursor) (m : NameRead) (count : ℕ) → count < 128 → seen s d ≡ mark_c (byte ",") (seen s at) → name_seen s m ≡ name_c (seen s d) → d.ok ≡ true
+pub more_took : (s : List ℕ) (at d : Cursor) (m : Read Name) (count : ℕ) → count < 128 → seen s d ≡ mark_c (byte ",") (seen s at) → read_seen s m ≡ name_c (seen s d) → d.ok ≡ true
     → more_c (128 - count) (seen s at) ≡ record { value = m.value ∷ (more_c (128 - (count + 1)) (seen s m.next)).value; next = (more_c (128 - (count + 1)) (seen s m.next)).next }
 unfolding more_c
 more_took s at d m count b h n e =

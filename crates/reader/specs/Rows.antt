@@ -14,7 +14,6 @@ use Rattle.statement.specs.Reading.{in_brackets_c, address_c, row_c}
 use Rattle.reader.specs.declared.Pair.{Pair}
 use Rattle.reader.specs.declared.Paired.{Paired}
 use Rattle.reader.specs.declared.Paired.TheVariants as p
-use Rattle.reader.specs.declared.MetadataRead.{MetadataRead}
 
 -- the opcodes whose operands are a name and a number
 abbrev pub paired_opcode : Paired → Opcode
@@ -65,5 +64,3 @@ metadata_c sp r =
     let a = address_c (mark_c (byte ",") r) in
     cond sp (record { value = Sparse a.value; next = a.next }) (record { value = Dense; next = r })
 
-abbrev pub metadata_seen : List ℕ → MetadataRead → Took Metadata
-metadata_seen s m = record { value = m.value; next = seen s m.next }

@@ -3,12 +3,12 @@ ghost use Rattle.std.specs.Prelude.{◌≡◌, ◌≤◌};
 ghost use Rattle.tokens.specs.Cursors.{seen, end_c};
 ghost use Rattle.statement.specs.declared.Opcode.TheVariants as opcode;
 ghost use Rattle.statement.specs.Reading.{answer_of, operands_c, told};
-ghost use Rattle.reader.specs.Rows.{paired_opcode, bracketed_of, limit_of, made_of, pair_c, pair_seen, metadata_c, metadata_seen};
+ghost use Rattle.reader.specs.Rows.{paired_opcode, bracketed_of, limit_of, made_of, pair_c, pair_seen, metadata_c};
 
-use crate::{MetadataRead, Pair, Paired};
+use crate::{Pair, Paired};
 use instruction::Kind;
 use statement::{Access, Metadata, Mma, Num, Reading, Shape, Statement};
-use tokens::{Cursor, Name};
+use tokens::{Cursor, Name, Read};
 
 // The most bytes of a text that reads.
 const LONGEST: usize = 4096;
@@ -160,19 +160,19 @@ pub fn store(s: &[u8], k: Cursor, shape: Shape, num: Num) -> Reading
 }
 
 // The metadata's address after a comma, for a sparse a alone.
-fn metadata(s: &[u8], k: Cursor, sp: bool) -> MetadataRead
-    ensures { metadata_seen s.now result ≡ metadata_c sp (seen s.now k) }
+fn metadata(s: &[u8], k: Cursor, sp: bool) -> Read<Metadata>
+    ensures { read_seen s.now result ≡ metadata_c sp (seen s.now k) }
 {
     if sp {
         let a = crate::operand::address(s, lexer::cursor::mark(s, k, b','));
         let value = a.value;
         let next = a.next;
-        return MetadataRead {
+        return Read {
             value: Metadata::Sparse(value),
             next,
         };
     }
-    MetadataRead {
+    Read {
         value: Metadata::Dense,
         next: k,
     }

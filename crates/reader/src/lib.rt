@@ -10,7 +10,7 @@ ghost use Rattle.tokens.specs.Cursors.{seen};
 ghost use Rattle.statement.specs.Reading.{read_of, reason_of, registers_of, his, los, operands_c, told};
 ghost use Rattle.reader.specs.Lists.{list_c};
 
-use statement::{Found, Metadata, Opcode, Reading, Statement};
+use statement::{Found, Opcode, Reading, Statement};
 use tokens::{Cursor, Name};
 
 // The forms of a name and a number.
@@ -27,13 +27,6 @@ pub enum Paired {
 pub struct Pair {
     pub name: Name,
     pub number: u64,
-    pub next: Cursor,
-}
-
-// The metadata of an mma, and what follows it.
-#[derive(Clone, Copy)]
-pub struct MetadataRead {
-    pub value: Metadata,
     pub next: Cursor,
 }
 

@@ -2,59 +2,59 @@
 ghost use Rattle.std.specs.Prelude.{◌≡◌, length};
 ghost use Rattle.std.proofs.lemmas.List.Edits.{sets};
 ghost use Rattle.tokens.specs.Text.{byte};
-ghost use Rattle.tokens.specs.Cursors.{seen, name_seen, mark_c, number_c};
+ghost use Rattle.tokens.specs.Cursors.{seen, mark_c, number_c, read_seen};
 ghost use Rattle.expression.specs.Expressions.{quantity_c};
 ghost use Rattle.statement.specs.Forms.{max32};
-ghost use Rattle.statement.specs.Reading.{in_brackets_c, offset_c, inside_c, address_c, operand_c, names_c, offset_seen, address_seen, operand_seen, count_seen, tally, his, los};
+ghost use Rattle.statement.specs.Reading.{in_brackets_c, offset_c, inside_c, address_c, operand_c, names_c, tally, his, los};
 ghost use Rattle.reader.specs.Rows.{named_c, plain_offset_c};
 
-use statement::{Address, AddressRead, CountRead, OffsetRead, Operand, OperandRead};
-use tokens::{Cursor, NameRead};
+use statement::{Address, Operand};
+use tokens::{Cursor, Name, Read};
 
 // The most names that a list has.
 const MOST: usize = statement::NAMES;
 
 // A number or an expression of 32 bits.
-pub fn number32(s: &[u8], k: Cursor) -> OffsetRead
-    ensures { offset_seen s.now result ≡ quantity_c max32 (seen s.now k) }
+pub fn number32(s: &[u8], k: Cursor) -> Read<u32>
+    ensures { read_seen s.now result ≡ quantity_c max32 (seen s.now k) }
 {
     let n = expression::quantity(s, k, statement::MAX32);
     let v = n.value;
     let next = n.next;
-    OffsetRead {
+    Read {
         value: v as u32,
         next,
     }
 }
 
 // A number of 32 bits; what follows it is not looked at.
-fn plain32(s: &[u8], k: Cursor) -> OffsetRead
-    ensures { offset_seen s.now result ≡ number_c max32 (seen s.now k) }
+fn plain32(s: &[u8], k: Cursor) -> Read<u32>
+    ensures { read_seen s.now result ≡ number_c max32 (seen s.now k) }
 {
     let n = lexer::cursor::number(s, k, statement::MAX32);
     let v = n.value;
     let next = n.next;
-    OffsetRead {
+    Read {
         value: v as u32,
         next,
     }
 }
 
 // [ name ]
-fn in_brackets(s: &[u8], k: Cursor) -> NameRead
-    ensures { name_seen s.now result ≡ in_brackets_c (seen s.now k) }
+fn in_brackets(s: &[u8], k: Cursor) -> Read<Name>
+    ensures { read_seen s.now result ≡ in_brackets_c (seen s.now k) }
 {
     let a = lexer::cursor::mark(s, k, b'[');
     let n = lexer::cursor::name(s, a);
     let b = n.next;
     let value = n.value;
     let next = lexer::cursor::mark(s, b, b']');
-    NameRead { value, next }
+    Read { value, next }
 }
 
 // A name, in brackets or not.
-pub fn named(s: &[u8], k: Cursor, bracketed: bool) -> NameRead
-    ensures { name_seen s.now result ≡ named_c bracketed (seen s.now k) }
+pub fn named(s: &[u8], k: Cursor, bracketed: bool) -> Read<Name>
+    ensures { read_seen s.now result ≡ named_c bracketed (seen s.now k) }
 {
     if bracketed {
         return in_brackets(s, k);
@@ -63,30 +63,30 @@ pub fn named(s: &[u8], k: Cursor, bracketed: bool) -> NameRead
 }
 
 // + number, or nothing, which is 0.
-pub fn offset(s: &[u8], k: Cursor) -> OffsetRead
-    ensures { offset_seen s.now result ≡ offset_c (seen s.now k) }
+pub fn offset(s: &[u8], k: Cursor) -> Read<u32>
+    ensures { read_seen s.now result ≡ offset_c (seen s.now k) }
 {
     let d = lexer::cursor::mark(s, k, b'+');
     if d.ok {
         return number32(s, d);
     }
-    OffsetRead { value: 0, next: k }
+    Read { value: 0, next: k }
 }
 
 // + and a number, whatever follows it, or nothing, which is 0.
-fn plain_offset(s: &[u8], k: Cursor) -> OffsetRead
-    ensures { offset_seen s.now result ≡ plain_offset_c (seen s.now k) }
+fn plain_offset(s: &[u8], k: Cursor) -> Read<u32>
+    ensures { read_seen s.now result ≡ plain_offset_c (seen s.now k) }
 {
     let d = lexer::cursor::mark(s, k, b'+');
     if d.ok {
         return plain32(s, d);
     }
-    OffsetRead { value: 0, next: k }
+    Read { value: 0, next: k }
 }
 
 // name ] or name + number ]. Most offsets are numbers alone, which the bracket behind them tells: these are read once.
-pub fn inside(s: &[u8], k: Cursor) -> AddressRead
-    ensures { address_seen s.now result ≡ inside_c (seen s.now k) }
+pub fn inside(s: &[u8], k: Cursor) -> Read<Address>
+    ensures { read_seen s.now result ≡ inside_c (seen s.now k) }
 {
     let n = lexer::cursor::name(s, k);
     let a = n.next;
@@ -95,7 +95,7 @@ pub fn inside(s: &[u8], k: Cursor) -> AddressRead
     let done = lexer::cursor::mark(s, c, b']');
     let base = n.value;
     if done.ok {
-        return AddressRead {
+        return Read {
             value: Address {
                 base,
                 offset: p.value,
@@ -106,7 +106,7 @@ pub fn inside(s: &[u8], k: Cursor) -> AddressRead
     let v = offset(s, a);
     let b = v.next;
     let next = lexer::cursor::mark(s, b, b']');
-    AddressRead {
+    Read {
         value: Address {
             base,
             offset: v.value,
@@ -115,22 +115,22 @@ pub fn inside(s: &[u8], k: Cursor) -> AddressRead
     }
 }
 
-pub fn address(s: &[u8], k: Cursor) -> AddressRead
-    ensures { address_seen s.now result ≡ address_c (seen s.now k) }
+pub fn address(s: &[u8], k: Cursor) -> Read<Address>
+    ensures { read_seen s.now result ≡ address_c (seen s.now k) }
 {
     inside(s, lexer::cursor::mark(s, k, b'['))
 }
 
 // An address where a bracket opens, else a descriptor's name.
-pub fn operand(s: &[u8], k: Cursor) -> OperandRead
-    ensures { operand_seen s.now result ≡ operand_c (seen s.now k) }
+pub fn operand(s: &[u8], k: Cursor) -> Read<Operand>
+    ensures { read_seen s.now result ≡ operand_c (seen s.now k) }
 {
     let d = lexer::cursor::mark(s, k, b'[');
     if d.ok {
         let a = inside(s, d);
         let value = a.value;
         let next = a.next;
-        return OperandRead {
+        return Read {
             value: Operand::Address(value),
             next,
         };
@@ -138,15 +138,15 @@ pub fn operand(s: &[u8], k: Cursor) -> OperandRead
     let n = lexer::cursor::name(s, k);
     let value = n.value;
     let next = n.next;
-    OperandRead {
+    Read {
         value: Operand::Descriptor(value),
         next,
     }
 }
 
 // { 1 to 128 names }: how many.
-pub fn names(s: &[u8], k: Cursor) -> CountRead
-    ensures { count_seen s.now result ≡ tally (names_c (seen s.now k)) }
+pub fn names(s: &[u8], k: Cursor) -> Read<usize>
+    ensures { read_seen s.now result ≡ tally (names_c (seen s.now k)) }
 {
     let a = lexer::cursor::mark(s, k, b'{');
     let n = lexer::cursor::name(s, a);
@@ -155,7 +155,7 @@ pub fn names(s: &[u8], k: Cursor) -> CountRead
     while count < MOST {
         let d = lexer::cursor::mark(s, at, b',');
         if !d.ok {
-            return CountRead {
+            return Read {
                 value: count,
                 next: lexer::cursor::mark(s, at, b'}'),
             };
@@ -164,7 +164,7 @@ pub fn names(s: &[u8], k: Cursor) -> CountRead
         at = m.next;
         count += 1;
     }
-    CountRead {
+    Read {
         value: count,
         next: lexer::cursor::mark(s, at, b'}'),
     }

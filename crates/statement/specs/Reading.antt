@@ -15,10 +15,6 @@ use Rattle.statement.specs.declared.Found.{Found}
 use Rattle.statement.specs.declared.Found.TheVariants.{Is, Nothing}
 use Rattle.statement.specs.declared.Reading.{Reading}
 use Rattle.statement.specs.declared.Reading.TheVariants.{Got, NoForm, TooLarge}
-use Rattle.statement.specs.declared.OffsetRead.{OffsetRead}
-use Rattle.statement.specs.declared.AddressRead.{AddressRead}
-use Rattle.statement.specs.declared.OperandRead.{OperandRead}
-use Rattle.statement.specs.declared.CountRead.{CountRead}
 use Rattle.statement.specs.Forms.{Slot, name, number, in_brackets, address, operand, names, Value, Values, max_offset, row, Whole, plain, make}
 use Rattle.statement.specs.Opcodes.{recognise}
 
@@ -138,18 +134,6 @@ unfoldable pub registers_of : List ℕ → List Name
 registers_of text = cond (leb (length text) longest_text && fine (whole_c text).next) (whole_c text).value.registers []
 
 -- ---- views of what the functions return
-abbrev pub offset_seen : List ℕ → OffsetRead → Took ℕ
-offset_seen t r = record { value = r.value; next = seen t r.next }
-
-abbrev pub address_seen : List ℕ → AddressRead → Took Address
-address_seen t r = record { value = r.value; next = seen t r.next }
-
-abbrev pub operand_seen : List ℕ → OperandRead → Took Operand
-operand_seen t r = record { value = r.value; next = seen t r.next }
-
-abbrev pub count_seen : List ℕ → CountRead → Took ℕ
-count_seen t r = record { value = r.value; next = seen t r.next }
-
 -- how many there are
 abbrev pub tally : Took (List Name) → Took ℕ
 tally r = record { value = length r.value; next = r.next }

@@ -2,7 +2,7 @@
 #![tactic(auto)]
 
 use instruction::Kind;
-use tokens::{Cursor, Name};
+use tokens::Name;
 
 // The largest numbers.
 pub const MAX32: u64 = 0xffff_ffff;
@@ -151,27 +151,3 @@ pub enum Written {
     Refused(u32),
 }
 
-#[derive(Clone, Copy)]
-pub struct OffsetRead {
-    pub value: u32,
-    pub next: Cursor,
-}
-
-#[derive(Clone, Copy)]
-pub struct AddressRead {
-    pub value: Address,
-    pub next: Cursor,
-}
-
-#[derive(Clone, Copy)]
-pub struct OperandRead {
-    pub value: Operand,
-    pub next: Cursor,
-}
-
-// How many names a list has.
-#[derive(Clone, Copy)]
-pub struct CountRead {
-    pub value: usize,
-    pub next: Cursor,
-}

@@ -3,8 +3,7 @@ use Rattle.tokens.specs.Text.{byte}
 use Rattle.std.specs.Prelude.{ℕ, List, [], ◌∷◌, Bool, true, false, ◌&&◌, cond, length, drop, leb, eqb}
 use Rattle.tokens.specs.declared.Name.{Name}
 use Rattle.tokens.specs.declared.Cursor.{Cursor}
-use Rattle.tokens.specs.declared.NameRead.{NameRead}
-use Rattle.tokens.specs.declared.NumberRead.{NumberRead}
+use Rattle.tokens.specs.declared.Read.{Read}
 use Rattle.tokens.specs.Bytes.{after_blanks, token_of, after_token}
 use Rattle.tokens.specs.Names.{is_name, packed, no_name}
 use Rattle.tokens.specs.Numbers.{is_number, value_of}
@@ -67,8 +66,5 @@ number_here limit r l = cond (is_number (token_of l)) (number_is limit r l (valu
 unfoldable pub number_c : ℕ → Rest → Took ℕ
 number_c limit r = cond r.ok (number_here limit r (after_blanks r.rest)) (record { value = 0; next = r })
 
-abbrev pub name_seen : List ℕ → NameRead → Took Name
-name_seen s r = record { value = r.value; next = seen s r.next }
-
-abbrev pub number_seen : List ℕ → NumberRead → Took ℕ
-number_seen s r = record { value = r.value; next = seen s r.next }
+abbrev pub read_seen : {A : Type 0} → List ℕ → Read A → Took A
+read_seen s r = record { value = r.value; next = seen s r.next }

@@ -2,7 +2,7 @@
 #![tactic(auto)]
 
 // A name, packed: its first eight bytes, and the rest, each as the digits of a number at base 256.
-#[derive(Clone, Copy)]
+#[derive(Clone, Copy, PartialEq, Eq)]
 pub struct Name {
     pub hi: u64,
     pub lo: u64,
@@ -27,14 +27,9 @@ pub struct Numeral {
     pub used: usize,
 }
 
+// What was read, and where reading goes on.
 #[derive(Clone, Copy)]
-pub struct NameRead {
-    pub value: Name,
-    pub next: Cursor,
-}
-
-#[derive(Clone, Copy)]
-pub struct NumberRead {
-    pub value: u64,
+pub struct Read<T> {
+    pub value: T,
     pub next: Cursor,
 }
