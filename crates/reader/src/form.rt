@@ -1,6 +1,6 @@
 // Forms: a straight line of operands, and one answer.
 ghost use Rattle.std.specs.Prelude.{◌≡◌, ◌≤◌};
-ghost use Rattle.tokens.specs.Cursors.{seen, end_c};
+ghost use Rattle.tokens.specs.Cursors.{seen, end_c, read_seen};
 ghost use Rattle.statement.specs.declared.Opcode.TheVariants as opcode;
 ghost use Rattle.statement.specs.Reading.{answer_of, operands_c, told};
 ghost use Rattle.reader.specs.Rows.{paired_opcode, bracketed_of, limit_of, made_of, pair_c, pair_seen, metadata_c};
