@@ -1,4 +1,5 @@
 -- A text reads as a statement exactly where it spells it: its opcode's word is recognised, and its row of operands is read to its end. Assumes nothing.
+use Rattle.std.specs.Prelude.{Option, Some, None}
 use Prim.Native.Nat.{ℕ, ◌-◌, ◌≤◌, ◌<◌}
 use native.Mathlib.Omega.{arith}
 use mathlib.Core.Path.{◌≡◌, refl, sym, ap, ◌∙◌, path_j}
@@ -14,8 +15,6 @@ use Rattle.tokens.specs.Cursors.{Rest, Took}
 use Rattle.statement.specs.declared.Operand.TheVariants as operand
 use Rattle.statement.specs.declared.Statement.{Statement}
 use Rattle.statement.specs.declared.Opcode.{Opcode}
-use Rattle.statement.specs.declared.Found.{Found}
-use Rattle.statement.specs.declared.Found.TheVariants.{Is, Nothing}
 use Rattle.statement.specs.declared.Reading.TheVariants.{Got, NoForm}
 use Rattle.statement.specs.Forms.{word, Slot, name, number, in_brackets, address, operand, names, Value, Values, max_offset, row, Whole, make}
 use Rattle.statement.specs.Opcodes.{recognise}
@@ -87,7 +86,7 @@ module _ (o : Opcode) (rest : List ℕ) (ends : run_len opcode_byte rest ≡ 0) 
   opcode_len_lem : opcode_len (word o ++ rest) ≡ length (word o)
   opcode_len_lem = run_all opcode_byte (word o) rest (clean o) ends
 
-  opcode_found : recognise (take (opcode_len (word o ++ rest)) (word o ++ rest)) ≡ Is o
+  opcode_found : recognise (take (opcode_len (word o ++ rest)) (word o ++ rest)) ≡ Some o
   opcode_found = rw (opcode_len_lem, take-append_seam (word o) rest) (recognised o)
 
   pub opcode_rest : drop (opcode_len (word o ++ rest)) (word o ++ rest) ≡ rest
@@ -117,9 +116,9 @@ pub spells_met : (w : Whole) (text : List ℕ) → Spells w text → Met w (whol
 spells_met w text s = rw (s.parts, whole-at s.opcode s.rest s.ends, ← s.made) (operands_met s.opcode s.values s.rest s.operands)
 
 -- ---- what is read to its end spells a statement
-read_by : (text : List ℕ) (found : Found) → recognise (take (opcode_len text) text) ≡ found → (whole_by text (drop (opcode_len text) text) found).next.ok ≡ true → (w : Whole) × Spells w text
+read_by : (text : List ℕ) (found : Option Opcode) → recognise (take (opcode_len text) text) ≡ found → (whole_by text (drop (opcode_len text) text) found).next.ok ≡ true → (w : Whole) × Spells w text
 unfolding operands_c
-read_by text (Is o) e h =
+read_by text (Some o) e h =
     let rest = drop (opcode_len text) text in
     let p = row_sound (row o) (start rest) h in
     let q : take (opcode_len text) text ≡ word o = recognises (take (opcode_len text) text) o e in (
@@ -134,7 +133,7 @@ read_by text (Is o) e h =
         made = refl;
       },
     )
-read_by text Nothing e h = never h
+read_by text None e h = never h
 
 pub read_spells : (text : List ℕ) → (whole_c text).next.ok ≡ true → (w : Whole) × Spells w text
 unfolding whole_c
@@ -147,8 +146,8 @@ Fits w text = Spells w text × (sized w.statement ≡ true) × (length text ≤ 
 abbrev Over : Whole → List ℕ → Type 0
 Over w text = Spells w text × (sized w.statement ≡ false) × (length text ≤ 4096)
 
-abbrev None : List ℕ → Type 0
-None text = length text ≤ 4096 → (w : Whole) → Spells w text → ⊥
+abbrev NoStatement : List ℕ → Type 0
+NoStatement text = length text ≤ 4096 → (w : Whole) → Spells w text → ⊥
 
 fits_got : (w : Whole) (text : List ℕ) → Fits w text → (read_of text ≡ Got w.statement) × (registers_of text ≡ w.registers)
 unfolding read_of answer_of registers_of
@@ -172,7 +171,7 @@ long_three : (text : List ℕ) → (whole_c text).next.ok ≡ true → leb (leng
 unfolding read_of answer_of
 long_three text e n = rw (e, n)
 
-none_three : (text : List ℕ) → None text → reason_of (read_of text) ≡ 3
+none_three : (text : List ℕ) → NoStatement text → reason_of (read_of text) ≡ 3
 none_three text h = go (leb (length text) 4096) (whole_c text).next.ok refl refl
   where
     go : (b c : Bool) → leb (length text) 4096 ≡ b → (whole_c text).next.ok ≡ c → reason_of (read_of text) ≡ 3
@@ -187,12 +186,12 @@ long text w s h = long_three text (ap (λ (r : Rest). r.ok) (spells_met w text s
 data Verdict (text : List ℕ) : Type 0 where
   fits : (w : Whole) → Fits w text → Verdict text
   over : (w : Whole) → Over w text → Verdict text
-  none : None text → Verdict text
+  none : NoStatement text → Verdict text
 
-long_none : (text : List ℕ) → leb (length text) 4096 ≡ false → None text
+long_none : (text : List ℕ) → leb (length text) 4096 ≡ false → NoStatement text
 long_none text e h = never (sym e ∙ le-leb (length text) 4096 h)
 
-stopped_none : (text : List ℕ) → (whole_c text).next.ok ≡ false → None text
+stopped_none : (text : List ℕ) → (whole_c text).next.ok ≡ false → NoStatement text
 stopped_none text e h w s = let m = spells_met w text s in never (sym e ∙ ap (λ (r : Rest). r.ok) m.next)
 
 verdict : (text : List ℕ) → Verdict text
@@ -229,7 +228,7 @@ four_over text (fits w h) e = absurd (let z = reason_got text w 4 (fits_got w te
 four_over text (over w h) e = (w, h)
 four_over text (none h) e = absurd (let z : ◌≡◌ {A = ℕ} 3 4 = sym (none_three text h) ∙ e in omega arith)
 
-three_none : (text : List ℕ) → Verdict text → reason_of (read_of text) ≡ 3 → None text
+three_none : (text : List ℕ) → Verdict text → reason_of (read_of text) ≡ 3 → NoStatement text
 three_none text (fits w h) e = absurd (let z = reason_got text w 3 (fits_got w text h).0 e in omega arith)
 three_none text (over w h) e = absurd (let z : ◌≡◌ {A = ℕ} 4 3 = sym (over_four w text h) ∙ e in omega arith)
 three_none text (none h) e = h
@@ -246,15 +245,15 @@ values_one o vs l a q e =
 
 pub one-reading : (text : List ℕ) (v w : Whole) → Spells v text → Spells w text → v ≡ w
 one-reading text v w a b =
-    let p : recognise (take (opcode_len text) text) ≡ Is a.opcode = rw a.parts (opcode_found a.opcode a.rest a.ends) in
-    let q : recognise (take (opcode_len text) text) ≡ Is b.opcode = rw b.parts (opcode_found b.opcode b.rest b.ends) in
+    let p : recognise (take (opcode_len text) text) ≡ Some a.opcode = rw a.parts (opcode_found a.opcode a.rest a.ends) in
+    let q : recognise (take (opcode_len text) text) ≡ Some b.opcode = rw b.parts (opcode_found b.opcode b.rest b.ends) in
     let x : drop (opcode_len text) text ≡ a.rest = rw a.parts (opcode_rest a.opcode a.rest a.ends) in
     let y : drop (opcode_len text) text ≡ b.rest = rw b.parts (opcode_rest b.opcode b.rest b.ends) in
     let r : a.rest ≡ b.rest = sym x ∙ y in
     let o : a.opcode ≡ b.opcode = is_same a.opcode b.opcode (sym p ∙ q) in
     sym a.made ∙ (values_one a.opcode a.values a.rest a.operands b.opcode o b.values (rw r b.operands) ∙ b.made)
   where
-    is_same : (c d : Opcode) → Is c ≡ Is d → c ≡ d
+    is_same : (c d : Opcode) → Some c ≡ Some d → c ≡ d
     is_same c d h = cc
 
 pub exact : (text : List ℕ) → Exact text

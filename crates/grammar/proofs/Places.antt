@@ -1,4 +1,5 @@
 -- The place of reason 3 is that of the first token at which no statement can go on: an opcode's operands are read as a row of tokens is, and such a row stops there. Assumes nothing.
+use Rattle.std.specs.Prelude.{Option, Some, None}
 use Prim.Native.Nat.{ℕ, ◌-◌}
 use native.Mathlib.Omega.{arith}
 use mathlib.Core.Path.{◌≡◌, refl, sym, ap, ◌∙◌}
@@ -9,8 +10,6 @@ use lib.Seq.{take-append_seam, drop-append_seam}
 use Rattle.tokens.specs.Bytes.{letter, word_byte, opcode_byte, run_len, token_of}
 use Rattle.tokens.specs.Cursors.{Rest, Took}
 use Rattle.statement.specs.declared.Opcode.{Opcode}
-use Rattle.statement.specs.declared.Found.{Found}
-use Rattle.statement.specs.declared.Found.TheVariants.{Is, Nothing}
 use Rattle.statement.specs.declared.Reading.TheVariants.{NoForm}
 use Rattle.statement.specs.Forms.{row, Whole, word, make}
 use Rattle.statement.specs.Opcodes.{recognise}
@@ -102,9 +101,9 @@ unread text none = go (whole_c text).next.ok refl
 stopped : (text : List ℕ) (p : ℕ) → (whole_c text).next.ok ≡ false → read_of text ≡ NoForm p → p ≡ length text - length (whole_c text).next.rest
 stopped text p e h = let z = sym h ∙ stopped_three text e in cc
 
-no_opcode : (text : List ℕ) (found : Found) → recognise (take (opcode_len text) text) ≡ found → ((o : Opcode) → take (opcode_len text) text ≡ word o → ⊥) → (whole_by text (drop (opcode_len text) text) found).next.rest ≡ text
-no_opcode text (Is o) e h = absurd (h o (recognises (take (opcode_len text) text) o e))
-no_opcode text Nothing e h = refl
+no_opcode : (text : List ℕ) (found : Option Opcode) → recognise (take (opcode_len text) text) ≡ found → ((o : Opcode) → take (opcode_len text) text ≡ word o → ⊥) → (whole_by text (drop (opcode_len text) text) found).next.rest ≡ text
+no_opcode text (Some o) e h = absurd (h o (recognises (take (opcode_len text) text) o e))
+no_opcode text None e h = refl
 
 first_place : (text : List ℕ) → ((o : Opcode) → take (opcode_len text) text ≡ word o → ⊥) → (whole_c text).next.rest ≡ text
 unfolding whole_c

@@ -1,5 +1,6 @@
 -- The head by the candidate is the head by the table. A text that starts with the word of its candidate, where no opcode byte follows, has that opcode
 -- at its head; any other has none, since an opcode at the head would be the candidate. Assumes nothing.
+use Rattle.std.specs.Prelude.{Option, Some, None}
 use Prim.Native.Nat.{ℕ, suc}
 use native.Mathlib.Omega.{arith}
 use mathlib.Core.Path.{◌≡◌, refl, sym, ap, ◌∙◌}
@@ -13,8 +14,6 @@ use Rattle.laws.proofs.BoolLaws.{never, and_split}
 use Rattle.tokens.specs.Bytes.{opcode_byte, run_len}
 use Rattle.tokens.proofs.Runs.{run_le, run_ends, run_all}
 use Rattle.statement.specs.declared.Opcode.{Opcode}
-use Rattle.statement.specs.declared.Found.{Found}
-use Rattle.statement.specs.declared.Found.TheVariants.{Is, Nothing}
 use Rattle.statement.specs.Forms.{word}
 use Rattle.statement.specs.Opcodes.{recognise}
 use Rattle.statement.specs.Reading.{opcode_len}
@@ -51,7 +50,7 @@ run_stops (x ∷ l) h = by (opcode_byte x) refl
 
 -- ---- heads
 -- a word, where no opcode byte follows, is the head
-head_word : (o : Opcode) (r : List ℕ) → stops r ≡ true → record { found = Is o; rest = r } ≡ head_of (word o ++ r)
+head_word : (o : Opcode) (r : List ℕ) → stops r ≡ true → record { found = Some o; rest = r } ≡ head_of (word o ++ r)
 unfolding head_of
 head_word o r h =
     let n : opcode_len (word o ++ r) ≡ length (word o) = run_all opcode_byte (word o) r (clean o) (stops_run r h) in
@@ -63,7 +62,7 @@ module _ (s : List ℕ) where
   stands = let w = word (candidate_in s) in starts_with w s && stops (drop (length w) s)
 
   -- an opcode that the table has at the head is the candidate
-  table-stands : (o : Opcode) → recognise (take (opcode_len s) s) ≡ Is o → stands ≡ true
+  table-stands : (o : Opcode) → recognise (take (opcode_len s) s) ≡ Some o → stands ≡ true
   table-stands o e =
       let w : take (opcode_len s) s ≡ word o = recognises (take (opcode_len s) s) o e in
       let n : opcode_len s ≡ length (word o) = sym (length-take-le (opcode_len s) s (run_le opcode_byte s)) ∙ ap length w in
@@ -73,16 +72,16 @@ module _ (s : List ℕ) where
       let t : stops (drop (length (word o)) s) ≡ true = rw (← n) (run_stops (drop (opcode_len s) s) (run_ends opcode_byte s)) in
       rw (same, b, t)
 
-  by_candidate : (b : Bool) → stands ≡ b → cond b (record { found = Is (candidate_in s); rest = drop (length (word (candidate_in s))) s }) (record { found = Nothing; rest = s }) ≡ head_of s
+  by_candidate : (b : Bool) → stands ≡ b → cond b (record { found = Some (candidate_in s); rest = drop (length (word (candidate_in s))) s }) (record { found = None; rest = s }) ≡ head_of s
   by_candidate true h =
       let w = word (candidate_in s) in
       let q = and_split (starts_with w s) (stops (drop (length w) s)) h in
       head_word (candidate_in s) (drop (length w) s) q.1 ∙ ap head_of (sym (starts_parts w s q.0))
   by_candidate false h = by_table (recognise (take (opcode_len s) s)) refl
     where
-      by_table : (f : Found) → recognise (take (opcode_len s) s) ≡ f → record { found = Nothing; rest = s } ≡ head_of s
-      by_table Nothing e = unfold head_of in rw e
-      by_table (Is o) e = never (sym h ∙ table-stands o e)
+      by_table : (f : Option Opcode) → recognise (take (opcode_len s) s) ≡ f → record { found = None; rest = s } ≡ head_of s
+      by_table None e = unfold head_of in rw e
+      by_table (Some o) e = never (sym h ∙ table-stands o e)
 
   -- the head by the candidate is the head by the table
   pub candidate_head : head_in s ≡ head_of s

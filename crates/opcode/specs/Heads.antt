@@ -1,14 +1,13 @@
 -- The opcode at the head of a text: the table's, of the run of opcode bytes there. Assumes nothing.
-use Rattle.std.specs.Prelude.{ℕ, List, take, drop}
-use Rattle.statement.specs.declared.Found.{Found}
-use Rattle.statement.specs.declared.Found.TheVariants.{Is, Nothing}
+use Rattle.std.specs.Prelude.{ℕ, List, take, drop, Option, Some, None}
+use Rattle.statement.specs.declared.Opcode.{Opcode}
 use Rattle.statement.specs.Opcodes.{recognise}
 use Rattle.statement.specs.Reading.{opcode_len}
 use Rattle.opcode.specs.declared.Head.{Head}
 
 -- an opcode, and what follows it
 pub record Parted : Type 0 where
-  pub found : Found
+  pub found : Option Opcode
   pub rest : List ℕ
 
 -- what a function returns of a text
@@ -16,9 +15,9 @@ abbrev pub head_seen : List ℕ → Head → Parted
 head_seen s r = record { found = r.found; rest = drop r.end s }
 
 -- what the table found, and what follows it: nothing is passed where it found none
-abbrev pub head_by : List ℕ → Found → Parted
-head_by s (Is o) = record { found = Is o; rest = drop (opcode_len s) s }
-head_by s Nothing = record { found = Nothing; rest = s }
+abbrev pub head_by : List ℕ → Option Opcode → Parted
+head_by s (Some o) = record { found = Some o; rest = drop (opcode_len s) s }
+head_by s None = record { found = None; rest = s }
 
 -- the opcode that the run of opcode bytes at the head of a text is
 unfoldable pub head_of : List ℕ → Parted

@@ -13,12 +13,12 @@ ghost use Rattle.opcode.specs.Candidates.{stops};
 
 use crate::piece::Place;
 use instruction::Kind;
-use statement::{Found, Num, Opcode, Shape};
+use statement::{Num, Opcode, Shape};
 
-// An opcode and where it ends; 0 where there is none.
+// The opcode, if any, and where it ends; 0 where there is none.
 #[derive(Clone, Copy)]
 pub struct Head {
-    pub found: Found,
+    pub found: Option<Opcode>,
     pub end: usize,
 }
 
@@ -105,12 +105,12 @@ pub fn head_of(w: &[u8]) -> Head
     let at = k.at;
     if k.ok & stops_at(w, at) {
         return Head {
-            found: Found::Is(o),
+            found: Some(o),
             end: at,
         };
     }
     Head {
-        found: Found::Nothing,
+        found: None,
         end: 0,
     }
 }

@@ -1,4 +1,5 @@
 -- Laws of numbers, lists of names and answers, in the words of the code. Assumes nothing.
+use Rattle.std.specs.Prelude.{Option, Some, None}
 use Prim.Native.Nat.{ℕ, zero, suc, ◌+◌, ◌-◌, ◌<◌, ◌≤◌}
 use native.Mathlib.Numerals.{add-one}
 use native.Mathlib.Nat.{sub_self}
@@ -28,8 +29,6 @@ use Rattle.statement.specs.declared.Statement.{Statement}
 use Rattle.statement.specs.declared.Statement.TheVariants.{Exit, Multiply as Multiplied}
 use Rattle.statement.specs.declared.Opcode.{Opcode}
 use Rattle.statement.specs.declared.Opcode.TheVariants.{Multiply}
-use Rattle.statement.specs.declared.Found.{Found}
-use Rattle.statement.specs.declared.Found.TheVariants.{Is, Nothing}
 use Rattle.statement.specs.declared.Reading.{Reading}
 use Rattle.statement.specs.declared.Reading.TheVariants.{Got, NoForm}
 use Rattle.statement.specs.Forms.{name, number, Values, max_offset, Whole, plain}
@@ -171,17 +170,17 @@ head_whole : (s : List ℕ) → whole_c s ≡ whole_by s (head_of s).rest (head_
 unfolding whole_c head_of
 head_whole s = by (recognise (take (opcode_len s) s)) refl
   where
-    by : (f : Found) → recognise (take (opcode_len s) s) ≡ f
+    by : (f : Option Opcode) → recognise (take (opcode_len s) s) ≡ f
         → whole_by s (drop (opcode_len s) s) (recognise (take (opcode_len s) s)) ≡ whole_by s (head_by s (recognise (take (opcode_len s) s))).rest (head_by s (recognise (take (opcode_len s) s))).found
-    by (Is o) e = rw e
-    by Nothing e = rw e
+    by (Some o) e = rw e
+    by None e = rw e
 
 -- in the words of the code
 module _ (s : List ℕ) (h : Head) (is : head_seen s h ≡ head_of s) where
-  pub whole_is : (o : Opcode) → h.found ≡ Is o → whole_c s ≡ operands_c o (start (drop h.end s))
+  pub whole_is : (o : Opcode) → h.found ≡ Some o → whole_c s ≡ operands_c o (start (drop h.end s))
   whole_is o e = head_whole s ∙ rw (← is, e)
 
-  pub whole-none : h.found ≡ Nothing → whole_c s ≡ record { value = plain Exit; next = off (start s) s }
+  pub whole-none : h.found ≡ None → whole_c s ≡ record { value = plain Exit; next = off (start s) s }
   whole-none e = head_whole s ∙ rw (← is, e)
 
 -- ---- the answer

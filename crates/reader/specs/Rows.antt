@@ -63,4 +63,3 @@ unfoldable pub metadata_c : Bool → Rest → Took Metadata
 metadata_c sp r =
     let a = address_c (mark_c (byte ",") r) in
     cond sp (record { value = Sparse a.value; next = a.next }) (record { value = Dense; next = r })
-

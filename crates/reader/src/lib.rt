@@ -10,7 +10,7 @@ ghost use Rattle.tokens.specs.Cursors.{seen};
 ghost use Rattle.statement.specs.Reading.{read_of, reason_of, registers_of, his, los, operands_c, told};
 ghost use Rattle.reader.specs.Lists.{list_c};
 
-use statement::{Found, Opcode, Reading, Statement};
+use statement::{Opcode, Reading, Statement};
 use tokens::{Cursor, Name};
 
 // The forms of a name and a number.
@@ -59,7 +59,7 @@ pub fn read(s: &[u8]) -> Reading
     let h = opcode::head_of(s);
     let e = h.end;
     let f = h.found;
-    let Found::Is(o) = f else {
+    let Some(o) = f else {
         return Reading::NoForm(0);
     };
     operands(
@@ -97,7 +97,7 @@ pub fn registers(s: &[u8], hi: &mut [u64; 128], lo: &mut [u64; 128]) -> usize
     let h = opcode::head_of(s);
     let e = h.end;
     let f = h.found;
-    let Found::Is(o) = f else {
+    let Some(o) = f else {
         return 0;
     };
     let k = Cursor {

@@ -1,6 +1,6 @@
 -- The opcodes of the table, and the one whose word is given. Assumes nothing.
-use Rattle.std.specs.Prelude.{ℕ, List, [], ◌∷◌, ◌++◌, Bool, true, false}
-use Rattle.std.proofs.Math.Option.{Option, none, some}
+use Rattle.std.specs.Prelude.{ℕ, List, [], ◌∷◌, ◌++◌, Bool, true, false, Option, Some, None}
+use Rattle.std.proofs.Math.Option as search
 use Rattle.laws.specs.Tests.{find}
 use Rattle.tokens.specs.Bytes.{same_bytes}
 use Rattle.instruction.specs.declared.Kind.{Kind}
@@ -11,8 +11,6 @@ use Rattle.statement.specs.declared.Num.{Num}
 use Rattle.statement.specs.declared.Num.TheVariants.{X1, X2, X4, X8, X16, X32, X64, X128}
 use Rattle.statement.specs.declared.Opcode.{Opcode}
 use Rattle.statement.specs.declared.Opcode.TheVariants.{Mov32, Mov64, Alloc, Dealloc, Relinquish, Load, Store, WaitLoad, WaitStore, FenceBefore, FenceAfter, Multiply, Exit}
-use Rattle.statement.specs.declared.Found.{Found}
-use Rattle.statement.specs.declared.Found.TheVariants.{Is, Nothing}
 use Rattle.statement.specs.Forms.{word}
 
 -- ---- the opcodes
@@ -48,10 +46,10 @@ unfoldable pub opcodes : List Opcode
 opcodes = singles ++ (load_stores ++ mmas)
 
 -- ---- the opcode of a word
-abbrev pub found_by : Option Opcode → Found
-found_by none = Nothing
-found_by (some o) = Is o
+abbrev pub found_by : search.Option Opcode → Option Opcode
+found_by search.none = None
+found_by (search.some o) = Some o
 
 -- the opcode whose word it is
-unfoldable pub recognise : List ℕ → Found
+unfoldable pub recognise : List ℕ → Option Opcode
 recognise w = found_by (find (λ o. same_bytes w (word o)) opcodes)

@@ -1,9 +1,9 @@
 -- How a statement is read: the opcode, its row of operands, the answer. Assumes nothing.
 use Rattle.tokens.specs.Text.{byte}
-use Rattle.std.specs.Prelude.{ℕ, zero, suc, ◌-◌, List, [], ◌∷◌, map, Bool, true, false, ◌&&◌, cond, length, take, drop, leb}
+use Rattle.std.specs.Prelude.{ℕ, zero, suc, ◌-◌, List, [], ◌∷◌, map, Bool, true, false, ◌&&◌, cond, length, take, drop, leb, Option, Some, None}
 use Rattle.tokens.specs.declared.Name.{Name}
 use Rattle.tokens.specs.Bytes.{opcode_byte, run_len}
-use Rattle.tokens.specs.Cursors.{Rest, seen, off, Took, mark_c, end_c, name_c}
+use Rattle.tokens.specs.Cursors.{Rest, off, Took, mark_c, end_c, name_c}
 use Rattle.expression.specs.Expressions.{quantity_c}
 use Rattle.statement.specs.declared.Address.{Address}
 use Rattle.statement.specs.declared.Operand.{Operand}
@@ -11,8 +11,6 @@ use Rattle.statement.specs.declared.Operand.TheVariants as operand
 use Rattle.statement.specs.declared.Statement.{Statement}
 use Rattle.statement.specs.declared.Statement.TheVariants as s
 use Rattle.statement.specs.declared.Opcode.{Opcode}
-use Rattle.statement.specs.declared.Found.{Found}
-use Rattle.statement.specs.declared.Found.TheVariants.{Is, Nothing}
 use Rattle.statement.specs.declared.Reading.{Reading}
 use Rattle.statement.specs.declared.Reading.TheVariants.{Got, NoForm, TooLarge}
 use Rattle.statement.specs.Forms.{Slot, name, number, in_brackets, address, operand, names, Value, Values, max_offset, row, Whole, plain, make}
@@ -104,9 +102,9 @@ operands_c o r = let t = row_c (row o) r in record { value = make o t.value; nex
 abbrev pub start : List ℕ → Rest
 start l = record { rest = l; ok = true; over = false; far = l }
 
-abbrev pub whole_by : List ℕ → List ℕ → Found → Took Whole
-whole_by text rest (Is o) = operands_c o (start rest)
-whole_by text rest Nothing = record { value = plain s.Exit; next = off (start text) text }
+abbrev pub whole_by : List ℕ → List ℕ → Option Opcode → Took Whole
+whole_by text rest (Some o) = operands_c o (start rest)
+whole_by text rest None = record { value = plain s.Exit; next = off (start text) text }
 
 abbrev pub opcode_len : List ℕ → ℕ
 opcode_len text = run_len opcode_byte text

@@ -118,13 +118,6 @@ pub enum Opcode {
     Exit,
 }
 
-// The opcode that a word is, if any.
-#[derive(Clone, Copy)]
-pub enum Found {
-    Is(Opcode),
-    Nothing,
-}
-
 // A statement; or the position of the token at which no form can go on, or that of a number that is out of range.
 #[derive(Clone, Copy)]
 pub enum Reading {
@@ -150,4 +143,3 @@ pub enum Written {
     Length(usize),
     Refused(u32),
 }
-

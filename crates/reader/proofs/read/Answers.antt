@@ -13,4 +13,4 @@ pub returns : goal.returns
 returns c =
     let a = c.args in
     let head_of = c.head_of-h in
-    c.operands.ensures ∙ read_told a.s.now _ (whole_is a.s.now head_of.result head_of.ensures _ c.in-Is.is)
+    c.operands.ensures ∙ read_told a.s.now _ (whole_is a.s.now head_of.result head_of.ensures _ c.in-Some.is)

@@ -23,7 +23,7 @@ returns-in_default-t c =
     let head_of = c₂.head_of-h in
     let operands = c.operands-t in
     none-stored a.hi.now a.lo.now (registers_of a.s.now) (registers_unread a.s.now _ operands.result (whole_is a.s.now
-    head_of.result head_of.ensures _ c₁.in-Is.is) operands.ensures (unread operands.result (opened c.in_default-t.in_default-t-own.keys2))) in
+    head_of.result head_of.ensures _ c₁.in-Some.is) operands.ensures (unread operands.result (opened c.in_default-t.in_default-t-own.keys2))) in
     record { count = both.0; first = both.1.0; second = both.1.1 }
 
 pub returns : goal.returns
@@ -35,5 +35,5 @@ returns c =
     let a = c₃.args in
     let head_of = c₃.head_of-h in
     let operands = c₁.operands-t in
-    rw (registers_got a.s.now _ operands.result (whole_is a.s.now head_of.result head_of.ensures _ c₂.in-Is.is) operands.ensures
+    rw (registers_got a.s.now _ operands.result (whole_is a.s.now head_of.result head_of.ensures _ c₂.in-Some.is) operands.ensures
     _ c.in-Got.is) (record { count = c.list_of.ensures.count; first = c.list_of.ensures.first; second = c.list_of.ensures.second })
