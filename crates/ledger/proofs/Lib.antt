@@ -3,3 +3,4 @@ pub mod PlaceLaws
 pub mod BookingLaws
 pub mod SlotLaws
 pub mod ShowLaws
+pub mod FoundLaws

@@ -323,7 +323,7 @@ slots_none hi lo columns a b c z t =
 
 module _ (hi lo columns : List ℕ) (live : List Allocation) (m : Slots hi lo columns live) where
   -- a live slot of a name is the one that is found
-  sole_slot : (n : Name) (i : ℕ) → i < 16 → 0 < get_or columns i 0 → (slot_at hi lo columns i).name ≡ n → i ≡ slot_of hi lo columns n
+  pub sole_slot : (n : Name) (i : ℕ) → i < 16 → 0 < get_or columns i 0 → (slot_at hi lo columns i).name ≡ n → i ≡ slot_of hi lo columns n
   unfolding slot_of
   sole_slot n i h p e =
       let q = least-at_most (owns_at hi lo columns n) 16 i (owns_in hi lo columns n i e p) in

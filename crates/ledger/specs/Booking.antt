@@ -1,5 +1,5 @@
 -- What each method of the ledger answers, and the next ledger (docs/FORMAT.md, 'Booking'). Assumes nothing.
-use Rattle.std.specs.Prelude.{ℕ, ◌*◌, Bool, true, false, not, ◌||◌, cond, List, [], ◌∷◌, ltb, eqb, get_or, set, replicate}
+use Rattle.std.specs.Prelude.{ℕ, ◌*◌, Bool, true, false, not, ◌||◌, cond, List, [], ◌∷◌, ltb, eqb, get_or, set, replicate, Option, Some, None}
 use Rattle.laws.specs.Rules.{Rule, rule, first_broken}
 use Rattle.request.specs.Request.{legal}
 use Rattle.tokens.specs.declared.Name.{Name}
@@ -90,3 +90,7 @@ find_in hi lo columns name =
     cond (ltb (slot_of hi lo columns name) 16)
     (record { start = slot_of hi lo columns name * 32; columns = get_or columns (slot_of hi lo columns name) 0 })
     (record { start = 0; columns = 0 })
+
+-- the same of a ledger: its start and its columns, where it has one
+unfoldable pub found : Ledger → Name → Option Span
+found l name = cond (is_live l name) (Some (record { start = slot l name * 32; columns = columns_of l name })) None

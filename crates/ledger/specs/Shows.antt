@@ -1,6 +1,6 @@
 -- A ledger shows a state of the rules: its slots are the live allocations, and it has the state's warp and permit. proofs/ShowLaws.antt shows that
 -- every method then answers and goes on as the rules say. Assumes nothing.
-use Rattle.std.specs.Prelude.{ℕ, ◌*◌, ◌/◌, ◌<◌, ◌≡◌, Bool, true, not, cond, List, [], ◌∷◌, eqb, get_or, length}
+use Rattle.std.specs.Prelude.{ℕ, ◌*◌, ◌/◌, ◌<◌, ◌≡◌, Bool, true, not, cond, List, [], ◌∷◌, eqb, get_or, length, is_some, Some}
 use Rattle.std.proofs.Math.Option.{Option, none, some}
 use Rattle.laws.specs.Lists.{Among}
 use Rattle.laws.specs.Rules.{first_broken}
@@ -13,8 +13,9 @@ use Rattle.rules.specs.Reasons.{open_rules}
 use Rattle.rules.specs.Sheet.{effect, start_list}
 use Rattle.rules.specs.Claims.{Unique}
 use Rattle.ledger.specs.declared.Ledger.{Ledger}
+use Rattle.ledger.specs.declared.Span.{Span}
 use Rattle.ledger.specs.Slots.{total}
-use Rattle.ledger.specs.Booking.{alloc_of, release_of, relinquish_of, find_in}
+use Rattle.ledger.specs.Booking.{alloc_of, release_of, relinquish_of, find_in, found}
 
 -- the allocation of slot i
 abbrev pub slot_at : List ℕ → List ℕ → List ℕ → ℕ → Allocation
@@ -30,6 +31,10 @@ pub record Slots (hi lo columns : List ℕ) (live : List Allocation) : Type 0 wh
   pub unique : Unique live
   -- the columns of the slots are those of the allocations: what is stored agrees with what is summed over the lines
   pub sum : total columns 16 ≡ rules.total live
+
+-- the same of a ledger: its slots that are not empty are the live allocations
+abbrev pub Live : Ledger → List Allocation → Type 0
+Live l live = Slots l.hi l.lo l.columns live
 
 -- the warp that is fixed, if any
 abbrev pub warp_of : Ledger → Option ℕ
@@ -54,6 +59,25 @@ pub record Finds (hi lo columns : List ℕ) (l : List Allocation) : Type 0 where
   pub own : (n : Name) → rules.is_live n l ≡ true → Holds hi lo columns ((find_in hi lo columns n).start / 32) n
   pub sole : (n : Name) (i : ℕ) → i < 16 → Holds hi lo columns i n → i ≡ (find_in hi lo columns n).start / 32
 
+-- slot i of a ledger has an allocation; and its name
+abbrev pub Taken : Ledger → ℕ → Type 0
+Taken l i = 0 < get_or l.columns i 0
+
+abbrev pub name_at : Ledger → ℕ → Name
+name_at l i = (slot_at l.hi l.lo l.columns i).name
+
+-- slot i of a ledger has a live allocation of that name
+abbrev pub HoldsIn : Ledger → ℕ → Name → Type 0
+HoldsIn l i n = Holds l.hi l.lo l.columns i n
+
+-- what a ledger tells of a name: it is live where an allocation is found, which has its columns
+pub record FindsIn (l : Ledger) (all : List Allocation) : Type 0 where
+  pub live : (n : Name) → is_some (found l n) ≡ rules.is_live n all
+  pub size : (n : Name) (s : Span) → found l n ≡ Some s → s.columns ≡ rules.columns_of n all
+  -- where it starts is the one slot that has the name
+  pub own : (n : Name) (s : Span) → found l n ≡ Some s → (s.start / 32 < 16) × HoldsIn l (s.start / 32) n
+  pub sole : (n : Name) (i : ℕ) → i < 16 → HoldsIn l i n → (s : Span) × (found l n ≡ Some s) × (i ≡ s.start / 32)
+
 -- the ledger's reason of a dealloc; where it has none, 18 if something is outstanding
 abbrev pub or_busy : ℕ → Bool → ℕ
 or_busy reason busy = cond (eqb reason 0) (cond busy 18 0) reason
@@ -75,6 +99,6 @@ pub record Tells (l : Ledger) (s : State) : Type 0 where
   pub release_live : (n : Name) (w k : ℕ) → (release_of l n w k).reason ≡ 0 → rules.is_live n s.live ≡ true
   pub relinquished : (w : ℕ) → (relinquish_of l w).reason ≡ 0 → Shows (relinquish_of l w).next (effect lowest s w act.relinquishes)
   -- the slots that it does not book stay as they were: an alloc takes an empty one, a dealloc that of the name, relinquish none
-  pub alloc_stays : (n : Name) (w k i : ℕ) → (alloc_of l n w k).reason ≡ 0 → 0 < get_or l.columns i 0 → Stays l (alloc_of l n w k).next i
-  pub release_stays : (n : Name) (w k i : ℕ) → (release_of l n w k).reason ≡ 0 → ((slot_at l.hi l.lo l.columns i).name ≡ n → ⊥) → Stays l (release_of l n w k).next i
+  pub alloc_stays : (n : Name) (w k i : ℕ) → (alloc_of l n w k).reason ≡ 0 → Taken l i → Stays l (alloc_of l n w k).next i
+  pub release_stays : (n : Name) (w k i : ℕ) → (release_of l n w k).reason ≡ 0 → (name_at l i ≡ n → ⊥) → Stays l (release_of l n w k).next i
   pub relinquish_stays : (w i : ℕ) → (relinquish_of l w).reason ≡ 0 → Stays l (relinquish_of l w).next i

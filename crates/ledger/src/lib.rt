@@ -5,7 +5,7 @@
 
 ghost use Rattle.std.specs.Prelude.{◌≡◌, not, ◌||◌, ◌+◌, ◌≤◌, ◌<◌, eqb};
 ghost use Rattle.ledger.specs.Slots.{owns, slot_of, place_of, past_of};
-ghost use Rattle.ledger.specs.Booking.{empty, unchanged, alloc_of, release_of, relinquish_of, find_in};
+ghost use Rattle.ledger.specs.Booking.{empty, unchanged, alloc_of, release_of, relinquish_of, find_in, found};
 
 use tokens::Name;
 
@@ -136,6 +136,19 @@ impl Ledger {
             warp: 0,
             relinquished: false,
         }
+    }
+
+    // The allocation of a name, if it has one.
+    pub fn find(&self, name: Name) -> Option<Span>
+        ensures { result ≡ found self.now name }
+    {
+        let at = slot_of(&self.hi, &self.lo, &self.columns, name);
+        if at < 16 {
+            let start = (at as u32) * 32;
+            let columns = wide(self.columns[at]);
+            return Some(Span { start, columns });
+        }
+        None
     }
 
     // Allocates columns at the lowest start, and fixes the warp; or reason 6, 8, 9, 10 or 11.

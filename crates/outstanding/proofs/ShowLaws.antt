@@ -17,12 +17,16 @@ use Rattle.tokens.proofs.Names.{same_true, same_name_lem}
 use Rattle.statement.specs.declared.Transfer.{Transfer}
 use Rattle.rules.specs.State.{Allocation, Mark, is_live, is_by, is_busy, after_wait, after_release}
 use Rattle.rules.proofs.OutstandingProved.{not_is, by_is, is_by_lem}
-use Rattle.ledger.specs.Booking.{find_in}
+use Rattle.std.specs.Prelude.{Option, Some, None, is_some, unwrap_or}
+use Rattle.ledger.specs.declared.Ledger.{Ledger}
+use Rattle.ledger.specs.declared.Span.{Span}
+use Rattle.ledger.specs.Booking.{find_in, found}
 use Rattle.ledger.specs.Shows.{slot_at, Slots, Holds}
 use Rattle.ledger.proofs.SlotLaws.{finds, found-start}
+use Rattle.ledger.proofs.FoundLaws.{finds_in, find_in_found}
 use Rattle.outstanding.specs.declared.Outstanding.{Outstanding}
-use Rattle.outstanding.specs.Words.{word_of, bit_at, marked, none, begun, waited, slots_of, busy_in}
-use Rattle.outstanding.specs.Shows.{Shows, Tells}
+use Rattle.outstanding.specs.Words.{word_of, bit_at, marked, none, begun, waited, slots_of, busy_in, busy_on, busy_at}
+use Rattle.outstanding.specs.Shows.{Shows, Tells, ShowsIn, TellsIn}
 use Rattle.outstanding.proofs.WordLaws.{zero_bit, word_below, which, begun_same, begun_other, waited_same, waited_other, slot-marked, marked-slot}
 
 -- ---- lists of marks
@@ -209,3 +213,32 @@ module _ (o : Outstanding) (hi lo columns : List ℕ) (l : List Mark) (h : Shows
   -- THE CLAIM
   pub tells : Tells o hi lo columns l
   tells = record { busy = busy; begins = λ live s n e x w p. begins x w p live s n e; waits = waits; releases = λ n e. release_none n l e; stays = stays }
+
+-- ---- the same of a ledger
+-- what is found of a name is what is found in the arrays
+found_start : (l : Ledger) (n : Name) (s : Span) → found l n ≡ Some s → s.start ≡ (find_in l.hi l.lo l.columns n).start
+found_start l n s e = ap (λ (x : Span). x.start) (rw e at (find_in_found l n))
+
+busy_same : (o : Outstanding) (l : Ledger) (n : Name) → is_some (found l n) ≡ true → busy_on o l n ≡ busy_in o l.hi l.lo l.columns n
+unfolding busy_on busy_in
+busy_same o l n e = at (found l n) refl e
+  where
+    at : (f : Option Span) → found l n ≡ f → is_some f ≡ true → busy_at o f ≡ bit_at (slots_of o) ((find_in l.hi l.lo l.columns n).start / 32)
+    at (Some s) f e = ap (λ i. bit_at (slots_of o) (i / 32)) (found_start l n s f)
+    at None f e = absurd (clash e refl)
+
+module _ (o : Outstanding) (l : Ledger) (marks : List Mark) (h : ShowsIn o l marks) where
+  abbrev t : Tells o l.hi l.lo l.columns marks
+  t = tells o l.hi l.lo l.columns marks h
+
+  -- THE CLAIM
+  pub tells_in : TellsIn o l marks
+  tells_in = record {
+    busy = λ live m n e. busy_same o l n ((finds_in l live m).live n ∙ e) ∙ t.busy live m n e;
+    begins = λ live m n s e x w p.
+        subst (λ i. ShowsIn (begun o x w (i / 32)) l (record { name = n; warp = w; transfer = x } ∷ marks)) (sym (found_start l n s e))
+        (t.begins live m n (sym ((finds_in l live m).live n) ∙ ap is_some e) x w p);
+    waits = t.waits;
+    releases = t.releases;
+    stays = λ next f. t.stays next.hi next.lo next.columns f;
+  }

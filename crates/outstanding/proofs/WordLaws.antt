@@ -16,10 +16,12 @@ use Rattle.tokens.specs.declared.Name.{Name}
 use Rattle.statement.specs.declared.Transfer.{Transfer}
 use Rattle.statement.specs.declared.Transfer.TheVariants.{Load, Store}
 use Rattle.ledger.specs.declared.Span.{Span}
-use Rattle.ledger.specs.Booking.{find_in}
+use Rattle.std.specs.Prelude.{Option, Some, None}
+use Rattle.ledger.specs.declared.Ledger.{Ledger}
+use Rattle.ledger.specs.Booking.{find_in, found}
 use Rattle.ledger.proofs.SlotLaws.{found-start}
 use Rattle.outstanding.specs.declared.Outstanding.{Outstanding}
-use Rattle.outstanding.specs.Words.{word_of, bit_at, marked, begun, waited, union_to, slots_of, busy_in}
+use Rattle.outstanding.specs.Words.{word_of, bit_at, marked, begun, waited, union_to, slots_of, busy_in, busy_on, busy_at}
 
 -- ---- bits
 or-one : (p q : ℕ) → p < 2 → q < 2 → eqb (bit_or p q) 1 ≡ eqb p 1 || eqb q 1
@@ -169,6 +171,15 @@ begun-is o x w i k word e f = rw (f, e)
 pub waited-is : (o : Outstanding) (x : Transfer) (w k : ℕ) → k ≡ word_of x w → record { words = set o.words k 0 } ≡ waited o x w
 unfolding waited
 waited-is o x w k e = rw e
+
+-- where no word has a bit, nothing is outstanding
+pub none_on : (o : Outstanding) (l : Ledger) (n : Name) → slots_of o ≡ 0 → false ≡ busy_on o l n
+unfolding busy_on
+none_on o l n z = at (found l n)
+  where
+    at : (f : Option Span) → false ≡ busy_at o f
+    at (Some s) = sym (ap (λ word. bit_at word (s.start / 32)) z ∙ zero_bit (s.start / 32))
+    at None = refl
 
 module _ (o : Outstanding) (hi lo columns : List ℕ) (n : Name) (slots : ℕ) (e : slots ≡ slots_of o) where
   pub none_busy : slots ≡ 0 → false ≡ busy_in o hi lo columns n

@@ -1,14 +1,16 @@
 -- The words show the marks of the rules: bit i is for the allocation of slot i of the ledger. proofs/ShowLaws.antt shows that each function then goes on as the rules
 -- say, and that bookings of the ledger leave it so. Assumes nothing.
-use Rattle.std.specs.Prelude.{ℕ, ◌/◌, ◌<◌, ◌≡◌, true, false, List, ◌∷◌, get_or, length}
+use Rattle.std.specs.Prelude.{ℕ, ◌/◌, ◌<◌, ◌≡◌, true, false, List, ◌∷◌, get_or, length, Some}
 use Rattle.laws.specs.Lists.{Among}
 use Rattle.tokens.specs.declared.Name.{Name}
 use Rattle.statement.specs.declared.Transfer.{Transfer}
 use Rattle.rules.specs.State.{Allocation, Mark, is_live, is_busy, after_wait, after_release}
-use Rattle.ledger.specs.Booking.{find_in}
-use Rattle.ledger.specs.Shows.{slot_at, Slots, Holds}
+use Rattle.ledger.specs.declared.Ledger.{Ledger}
+use Rattle.ledger.specs.declared.Span.{Span}
+use Rattle.ledger.specs.Booking.{find_in, found}
+use Rattle.ledger.specs.Shows.{slot_at, Slots, Holds, Live, Taken, name_at, Stays}
 use Rattle.outstanding.specs.declared.Outstanding.{Outstanding}
-use Rattle.outstanding.specs.Words.{marked, begun, waited, busy_in}
+use Rattle.outstanding.specs.Words.{marked, begun, waited, busy_in, busy_on}
 
 pub record Shows (o : Outstanding) (hi lo columns : List ℕ) (l : List Mark) : Type 0 where
   pub size : length o.words ≡ 8
@@ -29,3 +31,18 @@ pub record Tells (o : Outstanding) (hi lo columns : List ℕ) (l : List Mark) : 
   -- a booking changes nothing, if it leaves every slot as it was on which something is outstanding
   pub stays : (hi' lo' columns' : List ℕ) → ((i : ℕ) → i < 16 → 0 < get_or columns i 0 → is_busy (slot_at hi lo columns i).name l ≡ true → slot_at hi' lo' columns' i ≡ slot_at hi lo columns i)
       → Shows o hi' lo' columns' l
+
+-- ---- the same of a ledger
+abbrev pub ShowsIn : Outstanding → Ledger → List Mark → Type 0
+ShowsIn o l marks = Shows o l.hi l.lo l.columns marks
+
+pub record TellsIn (o : Outstanding) (l : Ledger) (marks : List Mark) : Type 0 where
+  -- whether anything is outstanding on a live allocation
+  pub busy : (live : List Allocation) → Live l live → (n : Name) → is_live n live ≡ true → busy_on o l n ≡ is_busy n marks
+  -- what a load or store on a live allocation, a wait, and a dealloc of an allocation on which nothing is outstanding leave
+  pub begins : (live : List Allocation) → Live l live → (n : Name) (s : Span) → found l n ≡ Some s → (x : Transfer) (w : ℕ) → w < 4
+      → ShowsIn (begun o x w (s.start / 32)) l (record { name = n; warp = w; transfer = x } ∷ marks)
+  pub waits : (x : Transfer) (w : ℕ) → w < 4 → ShowsIn (waited o x w) l (after_wait w x marks)
+  pub releases : (n : Name) → is_busy n marks ≡ false → after_release n marks ≡ marks
+  -- a booking changes nothing, if it leaves every slot as it was on which something is outstanding
+  pub stays : (next : Ledger) → ((i : ℕ) → i < 16 → Taken l i → is_busy (name_at l i) marks ≡ true → Stays l next i) → ShowsIn o next marks

@@ -4,8 +4,9 @@
 
 ghost use Rattle.std.specs.Prelude.{◌≡◌, ◌<◌, ◌^◌};
 ghost use Rattle.std.specs.Int.Bits.{bit_or};
-ghost use Rattle.outstanding.specs.Words.{word_of, bit_at, none, begun, waited, slots_of, busy_in};
+ghost use Rattle.outstanding.specs.Words.{word_of, bit_at, none, begun, waited, slots_of, busy_in, busy_on};
 
+use ledger::Ledger;
 use statement::Transfer;
 use tokens::Name;
 
@@ -77,8 +78,22 @@ impl Outstanding {
         w[0] | w[1] | w[2] | w[3] | w[4] | w[5] | w[6] | w[7]
     }
 
+    // Whether anything is outstanding on the allocation of a name. It is not looked for where nothing is outstanding at all.
+    pub fn is_busy(self, ledger: &Ledger, name: Name) -> bool
+        ensures { result ≡ busy_on self ledger.now name }
+    {
+        let slots = self.slots();
+        if slots == 0 {
+            return false;
+        }
+        match ledger.find(name) {
+            Some(span) => has_slot(slots, span.start / 32),
+            None => false,
+        }
+    }
+
     // Whether anything is outstanding on the allocation of a live name. It is not looked for where nothing is outstanding at all.
-    pub fn is_busy<'a>(
+    pub fn is_busy_among<'a>(
         self,
         hi: &'a [u64; 16],
         lo: &'a [u64; 16],

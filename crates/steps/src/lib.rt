@@ -173,7 +173,7 @@ fn is_early<'a>(
         return false;
     }
     let outstanding = Outstanding { words: *words };
-    outstanding.is_busy(hi, lo, columns, name)
+    outstanding.is_busy_among(hi, lo, columns, name)
 }
 
 // An allocation is released, unless the ledger refuses, or a load or store is outstanding on it (18).

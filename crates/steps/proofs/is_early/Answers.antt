@@ -6,4 +6,4 @@ pub returns-then-reason-ne-PASSED : goal.returns-then-reason-ne-PASSED
 returns-then-reason-ne-PASSED c = early_no _ _ _ _ _ _ c.if-reason-ne-PASSED.true
 
 pub returns : goal.returns
-returns c = early_is _ _ _ _ _ _ c.if-reason-ne-PASSED.false _ c.is_busy.ensures
+returns c = early_is _ _ _ _ _ _ c.if-reason-ne-PASSED.false _ c.is_busy_among.ensures
