@@ -14,9 +14,9 @@ use Rattle.rules.specs.State as rules
 use Rattle.rules.specs.State.{Allocation}
 use Rattle.ledger.specs.declared.Ledger.{Ledger}
 use Rattle.ledger.specs.declared.Span.{Span}
-use Rattle.ledger.specs.Booking.{slot, is_live, columns_of, found, find_in}
+use Rattle.ledger.specs.Booking.{slot, is_live, columns_of, found, find_in, columns_in}
 use Rattle.ledger.specs.Shows.{Live, HoldsIn, FindsIn}
-use Rattle.ledger.proofs.SlotLaws.{slot_own, live_slot, columns-slot, sole_slot}
+use Rattle.ledger.proofs.SlotLaws.{slot_own, live_slot, columns-slot, sole_slot, columns-none}
 
 some_if : {A : Type 0} (b : Bool) (x : A) → is_some (cond b (Some x) None) ≡ b
 some_if true x = refl
@@ -40,8 +40,12 @@ module _ (l : Ledger) (live : List Allocation) (m : Live l live) where
   unfolding found
   found_live n = some_if (is_live l n) _ ∙ live_slot l.hi l.lo l.columns live m n
 
-  found_size : (n : Name) (s : Span) → found l n ≡ Some s → s.columns ≡ rules.columns_of n live
-  found_size n s e = ap (λ (x : Span). x.columns) (found_parts l n s e).1 ∙ columns-slot l.hi l.lo l.columns live m n
+  found_size : (n : Name) → columns_in (found l n) ≡ rules.columns_of n live
+  found_size n = at (found l n) refl
+    where
+      at : (f : Option Span) → found l n ≡ f → columns_in f ≡ rules.columns_of n live
+      at (Some s) e = ap (λ (x : Span). x.columns) (found_parts l n s e).1 ∙ columns-slot l.hi l.lo l.columns live m n
+      at None e = sym (columns-none live n (sym (found_live n) ∙ ap is_some e))
 
   found_own : (n : Name) (s : Span) → found l n ≡ Some s → (s.start / 32 < 16) × HoldsIn l (s.start / 32) n
   found_own n s e =

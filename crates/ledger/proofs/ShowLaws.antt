@@ -22,16 +22,15 @@ use Rattle.rules.specs.Sheet.{effect, start_list, added, fixed}
 use Rattle.rules.proofs.CountingLaws.{least_hit}
 use Rattle.rules.proofs.ByAct.{first_broken_lem}
 use Rattle.ledger.specs.declared.Ledger.{Ledger}
-use Rattle.ledger.specs.declared.Booked.{Booked}
 use Rattle.ledger.specs.Slots.{fits_at, place_of, total}
-use Rattle.ledger.specs.Booking.{empty, slot, place, is_live, may_book, columns_of, alloc_rules, release_rules, relinquish_rules, with_allocation, without_allocation, after_relinquish, booked, alloc_of, release_of, relinquish_of}
+use Rattle.ledger.specs.Booking.{Booking, empty, slot, place, is_live, may_book, columns_of, alloc_rules, release_rules, relinquish_rules, with_allocation, without_allocation, after_relinquish, booked, alloc_of, release_of, relinquish_of}
 use Rattle.ledger.specs.Shows.{slot_at, Slots, Shows, or_busy, Stays, Tells}
 use Rattle.ledger.proofs.BookingLaws.{legal_range}
 use Rattle.ledger.proofs.SlotLaws.{slot_own, live_slot, columns-slot, place-slot, place-empty, slot_other, slot_emptied, slots_none, slots_alloc, slots_release}
 
 -- ---- what is booked, by its reason
 cond_reason : (l next : Ledger) (reason start : ℕ) (t : Bool) → eqb reason 0 ≡ t
-    → (cond {A = Booked} t (record { next = next; reason = 0; start = start }) (record { next = l; reason = reason; start = 0 })).reason ≡ reason
+    → (cond {A = Booking} t (record { next = next; reason = 0; start = start }) (record { next = l; reason = reason; start = 0 })).reason ≡ reason
 cond_reason l next reason start true e = sym (eqb-true reason 0 e)
 cond_reason l next reason start false e = refl
 
@@ -174,7 +173,7 @@ module _ (l : Ledger) (s : State) (h : Shows l s) where
   unfolding alloc_of
   allocated n w k e =
       let a = alloc-kept n w k e in
-      subst (λ (b : Booked). Shows b.next (effect lowest s w (act.requests n k)))
+      subst (λ (b : Booking). Shows b.next (effect lowest s w (act.requests n k)))
       (sym (booked-next l (with_allocation l (place l k) n w k) (first_broken (alloc_rules l n w k)) (place l k * 32) a.4))
       (alloc_shows n w k a.0 a.1 a.2 a.3)
 
@@ -183,14 +182,14 @@ module _ (l : Ledger) (s : State) (h : Shows l s) where
   started n w k e =
       let a = alloc-kept n w k e in
       rw (placed_at s.live k (place l k) (place-test k a.2) a.3)
-      (ap (λ (b : Booked). b.start ∷ []) (sym (booked-next l (with_allocation l (place l k) n w k) (first_broken (alloc_rules l n w k)) (place l k * 32) a.4)))
+      (ap (λ (b : Booking). b.start ∷ []) (sym (booked-next l (with_allocation l (place l k) n w k) (first_broken (alloc_rules l n w k)) (place l k * 32) a.4)))
 
   released : (n : Name) (w k : ℕ) → (release_of l n w k).reason ≡ 0 → Shows (release_of l n w k).next (effect lowest s w (act.releases n k))
   unfolding release_of effect
   released n w k e =
       let z : first_broken (release_rules l n w k) ≡ 0 = sym (booked_reason l (without_allocation l (slot l n)) (first_broken (release_rules l n w k)) 0) ∙ e in
       let a = kept (is_live l n) _ 6 (omega arith) z in
-      subst (λ (b : Booked). Shows b.next (effect lowest s w (act.releases n k)))
+      subst (λ (b : Booking). Shows b.next (effect lowest s w (act.releases n k)))
       (sym (booked-next l (without_allocation l (slot l n)) (first_broken (release_rules l n w k)) 0 z))
       (record {
         slots = slots_release l.hi l.lo l.columns s.live h.slots n (ltb-true (slot l n) 16 a.0);
@@ -207,7 +206,7 @@ module _ (l : Ledger) (s : State) (h : Shows l s) where
   relinquished w e =
       let z : first_broken (relinquish_rules l w) ≡ 0 = sym (booked_reason l (after_relinquish l w) (first_broken (relinquish_rules l w)) 0) ∙ e in
       let a = kept (may_book l w) 0 8 (omega arith) z in
-      subst (λ (b : Booked). Shows b.next (effect lowest s w act.relinquishes))
+      subst (λ (b : Booking). Shows b.next (effect lowest s w act.relinquishes))
       (sym (booked-next l (after_relinquish l w) (first_broken (relinquish_rules l w)) 0 z))
       (record { slots = h.slots; warp = fixes l.fixed l.warp w a.0 ∙ ap (λ (o : Option ℕ). fixed o w) h.warp; relinquished = refl })
 
@@ -217,7 +216,7 @@ module _ (l : Ledger) (s : State) (h : Shows l s) where
   alloc_stays n w k i e p =
       let a = alloc-kept n w k e in
       let z : get_or l.columns (place l k) 0 ≡ 0 = free k a.2 a.3 in
-      subst (λ (b : Booked). Stays l b.next i)
+      subst (λ (b : Booking). Stays l b.next i)
       (sym (booked-next l (with_allocation l (place l k) n w k) (first_broken (alloc_rules l n w k)) (place l k * 32) a.4))
       (slot_other l.hi l.lo l.columns n k (place l k) i (λ q. absurd (omega (arith, p, z, ap (λ (j : ℕ). get_or l.columns j 0) q))))
 
@@ -227,7 +226,7 @@ module _ (l : Ledger) (s : State) (h : Shows l s) where
       let z : first_broken (release_rules l n w k) ≡ 0 = sym (booked_reason l (without_allocation l (slot l n)) (first_broken (release_rules l n w k)) 0) ∙ e in
       let a = kept (is_live l n) _ 6 (omega arith) z in
       let own = (slot_own l.hi l.lo l.columns s.live h.slots n (ltb-true (slot l n) 16 a.0)).0 in
-      subst (λ (b : Booked). Stays l b.next i)
+      subst (λ (b : Booking). Stays l b.next i)
       (sym (booked-next l (without_allocation l (slot l n)) (first_broken (release_rules l n w k)) 0 z))
       (slot_emptied l.hi l.lo l.columns (slot l n) i (λ q. o (ap (λ (j : ℕ). (slot_at l.hi l.lo l.columns j).name) q ∙ own)))
 
@@ -235,7 +234,7 @@ module _ (l : Ledger) (s : State) (h : Shows l s) where
   unfolding relinquish_of
   relinquish_stays w i e =
       let z : first_broken (relinquish_rules l w) ≡ 0 = sym (booked_reason l (after_relinquish l w) (first_broken (relinquish_rules l w)) 0) ∙ e in
-      subst (λ (b : Booked). Stays l b.next i) (sym (booked-next l (after_relinquish l w) (first_broken (relinquish_rules l w)) 0 z)) refl
+      subst (λ (b : Booking). Stays l b.next i) (sym (booked-next l (after_relinquish l w) (first_broken (relinquish_rules l w)) 0 z)) refl
 
   -- THE CLAIM
   pub tells : Tells l s

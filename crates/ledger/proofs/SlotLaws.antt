@@ -79,7 +79,7 @@ columns_of_lem a (b ∷ l) n u (inl q) e = rw (same_name_lem b.name n (sym (ap (
 columns_of_lem a (b ∷ l) n u (inr m) e =
     rw (other_name b.name n (λ z. clash (among_live a l b.name m (e ∙ sym z)) u.0)) (columns_of_lem a l n u.1 m e)
 
-columns-none : (l : List Allocation) (n : Name) → rules.is_live n l ≡ false → rules.columns_of n l ≡ 0
+pub columns-none : (l : List Allocation) (n : Name) → rules.is_live n l ≡ false → rules.columns_of n l ≡ 0
 unfolding rules.columns_of rules.is_live
 columns-none [] n e = refl
 columns-none (b ∷ l) n e =

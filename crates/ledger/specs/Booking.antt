@@ -1,5 +1,7 @@
 -- What each method of the ledger answers, and the next ledger (docs/FORMAT.md, 'Booking'). Assumes nothing.
-use Rattle.std.specs.Prelude.{ℕ, ◌*◌, Bool, true, false, not, ◌||◌, cond, List, [], ◌∷◌, ltb, eqb, get_or, set, replicate, Option, Some, None}
+use Rattle.std.specs.Prelude.{ℕ, ◌*◌, Bool, true, false, not, ◌||◌, cond, List, [], ◌∷◌, ltb, eqb, get_or, set, replicate, Option, Some, None, Result, Ok, Err}
+use Rattle.reasons.specs.declared.Reason.{Reason}
+use Rattle.reasons.specs.Reasons.{answered}
 use Rattle.laws.specs.Rules.{Rule, rule, first_broken}
 use Rattle.request.specs.Request.{legal}
 use Rattle.tokens.specs.declared.Name.{Name}
@@ -66,22 +68,37 @@ without_allocation l i = record {
 abbrev pub after_relinquish : Ledger → ℕ → Ledger
 after_relinquish l warp = record { hi = l.hi; lo = l.lo; columns = l.columns; fixed = true; warp = warp; relinquished = true }
 
+-- what a booking answers: the next ledger, the reason or 0, and the start of an alloc that is accepted
+pub record Booking : Type 0 where
+  pub next : Ledger
+  pub reason : ℕ
+  pub start : ℕ
+
+-- the start, 0 where it is refused
+abbrev pub started : Result ℕ Reason → ℕ
+started (Ok start) = start
+started (Err _) = 0
+
+-- the answer of the code, so told
+abbrev pub booking : Booked → Booking
+booking b = record { next = b.next; reason = answered b.start; start = started b.start }
+
 -- the same ledger, with a reason
-abbrev pub unchanged : Ledger → ℕ → Booked
+abbrev pub unchanged : Ledger → ℕ → Booking
 unchanged l reason = record { next = l; reason = reason; start = 0 }
 
 -- the next ledger with its start where no rule is broken, else the same ledger with the number of the first that is
-abbrev pub booked : Ledger → ℕ → ℕ → Ledger → Booked
+abbrev pub booked : Ledger → ℕ → ℕ → Ledger → Booking
 booked l reason start next = cond (eqb reason 0) (record { next = next; reason = 0; start = start }) (unchanged l reason)
 
-unfoldable pub alloc_of : Ledger → Name → ℕ → ℕ → Booked
+unfoldable pub alloc_of : Ledger → Name → ℕ → ℕ → Booking
 alloc_of l name warp requested =
     booked l (first_broken (alloc_rules l name warp requested)) (place l requested * 32) (with_allocation l (place l requested) name warp requested)
 
-unfoldable pub release_of : Ledger → Name → ℕ → ℕ → Booked
+unfoldable pub release_of : Ledger → Name → ℕ → ℕ → Booking
 release_of l name warp released = booked l (first_broken (release_rules l name warp released)) 0 (without_allocation l (slot l name))
 
-unfoldable pub relinquish_of : Ledger → ℕ → Booked
+unfoldable pub relinquish_of : Ledger → ℕ → Booking
 relinquish_of l warp = booked l (first_broken (relinquish_rules l warp)) 0 (after_relinquish l warp)
 
 -- the allocation of a name: its start and its columns; 0 columns where it has none
@@ -94,3 +111,8 @@ find_in hi lo columns name =
 -- the same of a ledger: its start and its columns, where it has one
 unfoldable pub found : Ledger → Name → Option Span
 found l name = cond (is_live l name) (Some (record { start = slot l name * 32; columns = columns_of l name })) None
+
+-- the columns of what is found; 0 where nothing is
+abbrev pub columns_in : Option Span → ℕ
+columns_in (Some span) = span.columns
+columns_in None = 0

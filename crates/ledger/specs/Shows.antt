@@ -15,7 +15,7 @@ use Rattle.rules.specs.Claims.{Unique}
 use Rattle.ledger.specs.declared.Ledger.{Ledger}
 use Rattle.ledger.specs.declared.Span.{Span}
 use Rattle.ledger.specs.Slots.{total}
-use Rattle.ledger.specs.Booking.{alloc_of, release_of, relinquish_of, find_in, found}
+use Rattle.ledger.specs.Booking.{alloc_of, release_of, relinquish_of, find_in, found, columns_in}
 
 -- the allocation of slot i
 abbrev pub slot_at : List ℕ → List ℕ → List ℕ → ℕ → Allocation
@@ -73,7 +73,7 @@ HoldsIn l i n = Holds l.hi l.lo l.columns i n
 -- what a ledger tells of a name: it is live where an allocation is found, which has its columns
 pub record FindsIn (l : Ledger) (all : List Allocation) : Type 0 where
   pub live : (n : Name) → is_some (found l n) ≡ rules.is_live n all
-  pub size : (n : Name) (s : Span) → found l n ≡ Some s → s.columns ≡ rules.columns_of n all
+  pub size : (n : Name) → columns_in (found l n) ≡ rules.columns_of n all
   -- where it starts is the one slot that has the name
   pub own : (n : Name) (s : Span) → found l n ≡ Some s → (s.start / 32 < 16) × HoldsIn l (s.start / 32) n
   pub sole : (n : Name) (i : ℕ) → i < 16 → HoldsIn l i n → (s : Span) × (found l n ≡ Some s) × (i ≡ s.start / 32)

@@ -5,8 +5,10 @@
 
 ghost use Rattle.std.specs.Prelude.{◌≡◌, not, ◌||◌, ◌+◌, ◌≤◌, ◌<◌, eqb};
 ghost use Rattle.ledger.specs.Slots.{owns, slot_of, place_of, past_of};
-ghost use Rattle.ledger.specs.Booking.{empty, unchanged, alloc_of, release_of, relinquish_of, find_in, found};
+ghost use Rattle.ledger.specs.Booking.{empty, unchanged, alloc_of, release_of, relinquish_of, find_in, found, booking};
+ghost use Rattle.reasons.specs.Reasons.{number};
 
+use reasons::Reason;
 use tokens::Name;
 
 // Slot by slot the name and the columns of an allocation, 0 columns where there is none. `fixed`: a warp is fixed, and
@@ -21,12 +23,11 @@ pub struct Ledger {
     pub relinquished: bool,
 }
 
-// The next ledger and 0, or the same ledger and the reason. `start`: of an alloc that is accepted, the first column.
+// The next ledger, or the same ledger and the reason. `start`: of an alloc the first column, else 0.
 #[derive(Clone, Copy)]
 pub struct Booked {
     pub next: Ledger,
-    pub reason: u32,
-    pub start: u32,
+    pub start: Result<u32, Reason>,
 }
 
 // The columns of an allocation, from the first on; 0 columns where there is none.
@@ -113,13 +114,12 @@ pub fn find_in<'a>(hi: &'a [u64; 16], lo: &'a [u64; 16], columns: &'a [u16; 16],
 }
 
 // The ledger unchanged, and a reason.
-fn refused(ledger: Ledger, reason: u32) -> Booked
-    ensures { result ≡ unchanged ledger reason }
+fn refused(ledger: Ledger, reason: Reason) -> Booked
+    ensures { booking result ≡ unchanged ledger (number reason) }
 {
     Booked {
         next: ledger,
-        reason,
-        start: 0,
+        start: Err(reason),
     }
 }
 
@@ -153,24 +153,24 @@ impl Ledger {
 
     // Allocates columns at the lowest start, and fixes the warp; or reason 6, 8, 9, 10 or 11.
     pub fn alloc(mut self, name: Name, warp: u8, requested: u32) -> Booked
-        ensures { result ≡ alloc_of self name warp requested }
+        ensures { booking result ≡ alloc_of self name warp requested }
     {
         let at = slot_of(&self.hi, &self.lo, &self.columns, name);
         if at < 16 {
-            return refused(self, reasons::NAME);
+            return refused(self, Reason::Name);
         }
         if !is_allowed(self.fixed, self.warp, warp) {
-            return refused(self, reasons::WARP);
+            return refused(self, Reason::Warp);
         }
         if request::reason(requested) != reasons::PASSED {
-            return refused(self, reasons::COLUMNS);
+            return refused(self, Reason::Columns);
         }
         if self.relinquished {
-            return refused(self, reasons::RELINQUISHED);
+            return refused(self, Reason::Relinquished);
         }
         let place = place_for(&self.columns, requested);
         if 16 <= place {
-            return refused(self, reasons::SPACE);
+            return refused(self, Reason::Space);
         }
         let i = place as usize;
         let columns = requested as u16;
@@ -182,47 +182,44 @@ impl Ledger {
         let start = place * 32;
         Booked {
             next: self,
-            reason: reasons::PASSED,
-            start,
+            start: Ok(start),
         }
     }
 
     // Releases the allocation of a name, all of its columns; or reason 6, 8 or 9.
     pub fn release(mut self, name: Name, warp: u8, released: u32) -> Booked
-        ensures { result ≡ release_of self name warp released }
+        ensures { booking result ≡ release_of self name warp released }
     {
         let at = slot_of(&self.hi, &self.lo, &self.columns, name);
         if 16 <= at {
-            return refused(self, reasons::NAME);
+            return refused(self, Reason::Name);
         }
         if !is_allowed(self.fixed, self.warp, warp) {
-            return refused(self, reasons::WARP);
+            return refused(self, Reason::Warp);
         }
         if wide(self.columns[at]) != released {
-            return refused(self, reasons::COLUMNS);
+            return refused(self, Reason::Columns);
         }
         self.columns[at] = 0;
         Booked {
             next: self,
-            reason: reasons::PASSED,
-            start: 0,
+            start: Ok(0),
         }
     }
 
     // No more allocs, and the warp is fixed; or reason 8.
     pub fn relinquish(mut self, warp: u8) -> Booked
-        ensures { result ≡ relinquish_of self warp }
+        ensures { booking result ≡ relinquish_of self warp }
     {
         if !is_allowed(self.fixed, self.warp, warp) {
-            return refused(self, reasons::WARP);
+            return refused(self, Reason::Warp);
         }
         self.fixed = true;
         self.warp = warp;
         self.relinquished = true;
         Booked {
             next: self,
-            reason: reasons::PASSED,
-            start: 0,
+            start: Ok(0),
         }
     }
 }

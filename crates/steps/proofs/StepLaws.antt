@@ -31,9 +31,8 @@ use Rattle.rules.proofs.RuleLaws.{none_kept}
 use Rattle.statement.specs.Cells.{counted}
 use Rattle.rules.specs.Sheet.{statement, effect, given, requested, released, moved, marked, start_list}
 use Rattle.ledger.specs.declared.Ledger.{Ledger}
-use Rattle.ledger.specs.declared.Booked.{Booked}
 use Rattle.ledger.specs.declared.Span.{Span}
-use Rattle.ledger.specs.Booking.{slot, release_rules, relinquish_rules, without_allocation, after_relinquish, alloc_of, release_of, relinquish_of, find_in}
+use Rattle.ledger.specs.Booking.{Booking, slot, release_rules, relinquish_rules, without_allocation, after_relinquish, alloc_of, release_of, relinquish_of, find_in}
 use Rattle.ledger.specs.Shows as ledger
 use Rattle.ledger.specs.Shows.{Slots}
 use Rattle.ledger.proofs.BookingLaws.{legal_range}
@@ -171,13 +170,13 @@ module _ (held : ℕ) (status : Status) where
 
 -- ---- bookings
 -- what `book` ensures
-abbrev BookDone : Booked → Status → (asked returned : ℕ) → (hi lo columns : List ℕ) → Step → (next_hi next_lo next_columns : List ℕ) → Type 0
+abbrev BookDone : Booking → Status → (asked returned : ℕ) → (hi lo columns : List ℕ) → Step → (next_hi next_lo next_columns : List ℕ) → Type 0
 BookDone b status asked returned hi lo columns r next_hi next_lo next_columns =
     (r ≡ step_of b status asked returned)
     × ((next_hi ≡ stored b b.next.hi hi) × (next_lo ≡ stored b b.next.lo lo) × (next_columns ≡ stored b b.next.columns columns))
 
 -- what it answers where nothing is refused
-abbrev made : Booked → Status → (asked returned : ℕ) → Step
+abbrev made : Booking → Status → (asked returned : ℕ) → Step
 made b status asked returned = record {
   reason = 0;
   start = b.start;
@@ -187,7 +186,7 @@ made b status asked returned = record {
 }
 
 -- the two ways through
-module _ (b : Booked) (status : Status) (asked returned : ℕ) (hi lo columns : List ℕ) where
+module _ (b : Booking) (status : Status) (asked returned : ℕ) (hi lo columns : List ℕ) where
   pub book_refused : (b.reason ≡ 0 → ⊥) → (r : Step) → r ≡ only status b.reason → BookDone b status asked returned hi lo columns r hi lo columns
   book_refused z r p =
       let e = ne_eqb b.reason 0 z in (
@@ -212,7 +211,7 @@ module _ (b : Booked) (status : Status) (asked returned : ℕ) (hi lo columns : 
 
 -- a booking that gives no start
 start_if_lem : (l next : Ledger) (reason : ℕ) (t : Bool)
-    → (cond {A = Booked} t (record { next = next; reason = 0; start = 0 }) (record { next = l; reason = reason; start = 0 })).start ≡ 0
+    → (cond {A = Booking} t (record { next = next; reason = 0; start = 0 }) (record { next = l; reason = reason; start = 0 })).start ≡ 0
 start_if_lem l next reason true = refl
 start_if_lem l next reason false = refl
 
@@ -225,7 +224,7 @@ unfolding relinquish_of
 relinquish_start l w = start_if_lem l (after_relinquish l w) (first_broken (relinquish_rules l w)) (eqb (first_broken (relinquish_rules l w)) 0)
 
 -- the arrays once a booking is stored
-abbrev stored_in : Arrays → Booked → Arrays
+abbrev stored_in : Arrays → Booking → Arrays
 stored_in a b =
     arrays (stored b b.next.hi a.hi) (stored b b.next.lo a.lo) (stored b b.next.columns a.columns) a.value_hi a.value_lo a.numbers a.widths a.words
 
@@ -252,7 +251,7 @@ module _ (a : Arrays) (status : Status) (s : State) (k : Kept a status s) where
   left_alone next f = mark_tells.stays next.hi next.lo next.columns (λ i p. f i)
 
   -- any booking, by what the claim of the ledger says of it
-  module _ (b : Booked) (R : ℕ) (next : State) (starts : List ℕ) (asked returned : ℕ) (e : b.reason ≡ R)
+  module _ (b : Booking) (R : ℕ) (next : State) (starts : List ℕ) (asked returned : ℕ) (e : b.reason ≡ R)
       (f : b.reason ≡ 0 → ledger.Shows b.next next) (g : next.values ≡ s.values) (h : next.exited ≡ s.exited)
       (i : b.reason ≡ 0 → starts ≡ cond (eqb asked 0) [] (b.start ∷ []))
       (j : b.reason ≡ 0 → asked ≡ 0 → b.start ≡ 0)
@@ -332,7 +331,7 @@ abbrev early : Arrays → Status → (w : ℕ) → Name → ℕ → Bool
 early a status w n x = is_early (release_of (kept a status) n w x).reason (outstanding_of a.words) a.hi a.lo a.columns n
 
 module _ (a : Arrays) (status : Status) (held w : ℕ) (n : Name) (x : ℕ) where
-  abbrev freed : Booked
+  abbrev freed : Booking
   freed = release_of (kept a status) n w x
 
   -- what is found outstanding is what the state has
@@ -373,21 +372,21 @@ relinquish_gives a status held w s k =
     (λ z. left_alone a status s k (relinquish_of (kept a status) w).next (λ i p b. (tells a status s k).relinquish_stays w i z))
 
 -- ---- what the code has: the booking, the answer and the arrays that were stored
-array_path : (a : Arrays) (b : Booked) (hi lo columns : List ℕ)
+array_path : (a : Arrays) (b : Booking) (hi lo columns : List ℕ)
     → (hi ≡ stored b b.next.hi a.hi) × (lo ≡ stored b b.next.lo a.lo) × (columns ≡ stored b b.next.columns a.columns)
     → stored_in a b ≡ arrays hi lo columns a.value_hi a.value_lo a.numbers a.widths a.words
 array_path a b hi lo columns q = rw (q.0, q.1, q.2)
 
-step_done : (held w : ℕ) (t : Statement) (a : Arrays) (status : Status) (b right : Booked) (asked returned : ℕ) → b ≡ right
+step_done : (held w : ℕ) (t : Statement) (a : Arrays) (status : Status) (b right : Booking) (asked returned : ℕ) → b ≡ right
     → OpenDone held w t a status (step_of right status asked returned) (stored_in a right)
     → (r : Step) (hi lo columns : List ℕ) → BookDone b status asked returned a.hi a.lo a.columns r hi lo columns
     → OpenDone held w t a status r (arrays hi lo columns a.value_hi a.value_lo a.numbers a.widths a.words)
 step_done held w t a status b right asked returned e d r hi lo columns q =
     subst (λ (x : Arrays). OpenDone held w t a status r x) (array_path a b hi lo columns q.1)
     (subst (λ (x : Step). OpenDone held w t a status x (stored_in a b)) (sym q.0)
-    (subst (λ (x : Booked). OpenDone held w t a status (step_of x status asked returned) (stored_in a x)) (sym e) d))
+    (subst (λ (x : Booking). OpenDone held w t a status (step_of x status asked returned) (stored_in a x)) (sym e) d))
 
-module _ (held w : ℕ) (a : Arrays) (status : Status) (l : Ledger) (f : l ≡ kept a status) (b : Booked) (r : Step) (hi lo columns : List ℕ) where
+module _ (held w : ℕ) (a : Arrays) (status : Status) (l : Ledger) (f : l ≡ kept a status) (b : Booking) (r : Step) (hi lo columns : List ℕ) where
   abbrev after : Arrays
   after = arrays hi lo columns a.value_hi a.value_lo a.numbers a.widths a.words
 
@@ -405,19 +404,19 @@ module _ (held w : ℕ) (a : Arrays) (status : Status) (l : Ledger) (f : l ≡ k
   release_done n x e z p =
       let g : b ≡ release_of (kept a status) n w x = e ∙ ap (λ (y : Ledger). release_of y n w x) f in
       step_done held w (Dealloc n x) a status b (release_of (kept a status) n w x) 0 x g
-      (release_gives a status held w n x (subst (λ (y : Booked). is_early y.reason (outstanding_of a.words) a.hi a.lo a.columns n ≡ false) g z)) r hi lo columns p
+      (release_gives a status held w n x (subst (λ (y : Booking). is_early y.reason (outstanding_of a.words) a.hi a.lo a.columns n ≡ false) g z)) r hi lo columns p
 
   pub relinquish_done : b ≡ relinquish_of l w → So 0 0 → OpenDone held w Relinquish a status r after
   relinquish_done e p =
       step_done held w Relinquish a status b (relinquish_of (kept a status) w) 0 0 (e ∙ ap (λ (y : Ledger). relinquish_of y w) f)
       (relinquish_gives a status held w) r hi lo columns p
 
-pub release_18 : (held w : ℕ) (a : Arrays) (status : Status) (l : Ledger) → l ≡ kept a status → (b : Booked) (r : Step) (n : Name) (x : ℕ) → b ≡ release_of l n w x
+pub release_18 : (held w : ℕ) (a : Arrays) (status : Status) (l : Ledger) → l ≡ kept a status → (b : Booking) (r : Step) (n : Name) (x : ℕ) → b ≡ release_of l n w x
     → is_early b.reason (outstanding_of a.words) a.hi a.lo a.columns n ≡ true → r ≡ only status 18 → OpenDone held w (Dealloc n x) a status r a
 release_18 held w a status l f b r n x e z p =
     let g : b ≡ release_of (kept a status) n w x = e ∙ ap (λ (y : Ledger). release_of y n w x) f in
     subst (λ (y : Step). OpenDone held w (Dealloc n x) a status y a) (sym p)
-    (release_early a status held w n x (subst (λ (y : Booked). is_early y.reason (outstanding_of a.words) a.hi a.lo a.columns n ≡ true) g z))
+    (release_early a status held w n x (subst (λ (y : Booking). is_early y.reason (outstanding_of a.words) a.hi a.lo a.columns n ≡ true) g z))
 
 -- ---- loads, stores and their waits
 -- the arrays with other words

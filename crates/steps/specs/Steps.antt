@@ -13,7 +13,7 @@ use Rattle.rules.specs.State.{State, lowest}
 use Rattle.rules.specs.Reasons.{open_rules, rules}
 use Rattle.rules.specs.Sheet.{Line, statement, given, requested, released, line_rules, line_effect}
 use Rattle.ledger.specs.declared.Ledger.{Ledger}
-use Rattle.ledger.specs.declared.Booked.{Booked}
+use Rattle.ledger.specs.Booking.{Booking}
 use Rattle.ledger.specs.Shows.{warp_of}
 use Rattle.outstanding.specs.declared.Outstanding.{Outstanding}
 use Rattle.outstanding.specs.Words.{busy_in}
@@ -126,11 +126,11 @@ pub record MovDone (name : Name) (width number : ℕ) (before : Arrays) (status 
   pub at64 : (held w : ℕ) → width ≡ 64 → OpenDone held w (Mov64 name number) before status r after
 
 -- what is stored of a booking: nothing where it is refused
-abbrev pub stored : Booked → List ℕ → List ℕ → List ℕ
+abbrev pub stored : Booking → List ℕ → List ℕ → List ℕ
 stored b next old = cond (eqb b.reason 0) next old
 
 -- what is answered once a booking is made
-abbrev pub step_of : Booked → Status → ℕ → ℕ → Step
+abbrev pub step_of : Booking → Status → ℕ → ℕ → Step
 step_of b status asked returned =
     cond (eqb b.reason 0)
     (record {

@@ -4,10 +4,13 @@
 ghost use Rattle.std.specs.Prelude.{◌≡◌, List, ℕ, ◌<◌};
 ghost use Rattle.statement.specs.declared.Statement.TheVariants.{Dealloc, Relinquish};
 ghost use Rattle.steps.specs.Steps.{arrays, arrays_in, arrays_out, only, Sized, StatementDone, AllocDone, LedgerDone, MovDone, ledger_of, outstanding_of, stored, step_of, is_early, access_by, exit_of};
+ghost use Rattle.reasons.specs.Reasons.{answered};
+ghost use Rattle.ledger.specs.Booking.{booking, started};
 ghost use Rattle.outstanding.specs.Words.{waited};
 
 use ledger::{Booked, Ledger};
 use outstanding::Outstanding;
+use reasons::Reason;
 use statement::{Access, Statement, Transfer};
 use tokens::Name;
 
@@ -95,6 +98,26 @@ fn lent<'a>(hi: &'a [u64; 16], lo: &'a [u64; 16], columns: &'a [u16; 16], status
     }
 }
 
+// The reason of a booking, or 0.
+fn refusal(answer: Result<u32, Reason>) -> u32
+    ensures { result ≡ answered answer }
+{
+    match answer {
+        Ok(_) => reasons::PASSED,
+        Err(reason) => reason.number(),
+    }
+}
+
+// The start of a booking, 0 where it is refused.
+fn start_in(answer: Result<u32, Reason>) -> u32
+    ensures { result ≡ started answer }
+{
+    match answer {
+        Ok(start) => start,
+        Err(_) => 0,
+    }
+}
+
 // The next ledger is put back into the arrays and the status, unless the booking is refused.
 fn book(
     hi: &mut [u64; 16],
@@ -105,11 +128,13 @@ fn book(
     asked: u32,
     returned: u32,
 ) -> Step
-    ensures answer { result ≡ step_of booked status asked returned }
-    ensures kept { (hi.new ≡ stored booked booked.next.hi hi.old) × (lo.new ≡ stored booked booked.next.lo lo.old) × (columns.new ≡ stored booked booked.next.columns columns.old) }
+    ensures answer { result ≡ step_of (booking booked) status asked returned }
+    ensures kept { (hi.new ≡ stored (booking booked) booked.next.hi hi.old) × (lo.new ≡ stored (booking booked) booked.next.lo lo.old) × (columns.new ≡ stored (booking booked) booked.next.columns columns.old) }
 {
-    if booked.reason != reasons::PASSED {
-        return quiet(status, booked.reason);
+    let answer = booked.start;
+    let reason = refusal(answer);
+    if reason != reasons::PASSED {
+        return quiet(status, reason);
     }
     let h = booked.next.hi;
     let l = booked.next.lo;
@@ -125,7 +150,7 @@ fn book(
     };
     Step {
         reason: reasons::PASSED,
-        start: booked.start,
+        start: start_in(answer),
         asked,
         returned,
         status: kept,
@@ -192,7 +217,8 @@ fn release(
 {
     let ledger = lent(hi, lo, columns, status);
     let booked = ledger.release(name, warp, released);
-    if is_early(hi, lo, columns, words, name, booked.reason) {
+    let answer = booked.start;
+    if is_early(hi, lo, columns, words, name, refusal(answer)) {
         return quiet(status, reasons::OUTSTANDING);
     }
     book(hi, lo, columns, booked, status, 0, released)
