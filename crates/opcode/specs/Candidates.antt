@@ -1,6 +1,6 @@
 -- How the head of a text is found: a few bytes, at places counted from the start, tell the one opcode that it can be, and the text is compared with that
 -- one's word. It is the head by the table (`candidate_head`, in proofs). Assumes nothing.
-use Rattle.std.specs.Prelude.{ℕ, ◌+◌, List, [], ◌∷◌, Bool, true, false, ◌&&◌, not, cond, get_or, eqb, Some, None}
+use Rattle.std.specs.Prelude.{ℕ, ◌+◌, List, [], ◌∷◌, Bool, true, false, not, cond, get_or, eqb}
 use Rattle.instruction.specs.declared.Kind.{Kind}
 use Rattle.instruction.specs.declared.Kind.TheVariants.{F16, Tf32, F8f6f4, I8}
 use Rattle.tokens.specs.Bytes.{opcode_byte}
@@ -11,9 +11,6 @@ use Rattle.statement.specs.declared.Num.{Num}
 use Rattle.statement.specs.declared.Num.TheVariants.{X1, X2, X4, X8, X16, X32, X64, X128}
 use Rattle.statement.specs.declared.Opcode.{Opcode}
 use Rattle.statement.specs.declared.Opcode.TheVariants.{Mov32, Mov64, Alloc, Dealloc, Relinquish, Load, Store, WaitLoad, WaitStore, FenceBefore, FenceAfter, Multiply, Exit}
-use Rattle.statement.specs.Forms.{word}
-use Rattle.opcode.specs.Pieces.{piece_c, whole}
-use Rattle.opcode.specs.Heads.{Parted}
 
 -- ---- the candidate
 -- the byte at a place is this one
@@ -99,10 +96,3 @@ candidate_in s = cond (is_at s 0 (byte "m")) (mov_in s) (cond (is_at s 0 (byte "
 abbrev pub stops : List ℕ → Bool
 stops [] = true
 stops (x ∷ l) = not (opcode_byte x)
-
--- the candidate, where the text starts with its word and the opcode bytes stop there
-unfoldable pub head_in : List ℕ → Parted
-head_in s =
-    let o = candidate_in s in
-    let k = piece_c (word o) (whole s) in
-    cond (k.ok && stops k.rest) (record { found = Some o; rest = k.rest }) (record { found = None; rest = s })

@@ -10,9 +10,10 @@ pub record Parted : Type 0 where
   pub found : Option Opcode
   pub rest : List ℕ
 
--- what a function returns of a text
-abbrev pub head_seen : List ℕ → Head → Parted
-head_seen s r = record { found = r.found; rest = drop r.end s }
+-- what a function returns of a text: nothing is passed where it finds no opcode
+abbrev pub head_seen : List ℕ → Option Head → Parted
+head_seen s (Some h) = record { found = Some h.opcode; rest = drop h.end s }
+head_seen s None = record { found = None; rest = s }
 
 -- what the table found, and what follows it: nothing is passed where it found none
 abbrev pub head_by : List ℕ → Option Opcode → Parted

@@ -1,25 +1,14 @@
--- Comparing a word piece by piece. Assumes nothing.
-use Rattle.std.specs.Prelude.{ℕ, List, [], ◌∷◌, Bool, true, false, ◌&&◌, length, drop, eqb}
-use Rattle.opcode.specs.declared.piece.Place.{Place}
+-- Taking a word off the start of a text. Assumes nothing.
+use Rattle.std.specs.Prelude.{ℕ, List, [], ◌∷◌, cond, eqb, Option, Some, None}
+use Rattle.std.proofs.Common.{Bor}
 
--- the second list starts with the first
-abbrev pub starts_with : List ℕ → List ℕ → Bool
-starts_with [] l = true
-starts_with (x ∷ p) [] = false
-starts_with (x ∷ p) (y ∷ l) = eqb y x && starts_with p l
+-- what a text leaves after p; none, where it does not start with p
+unfoldable pub without : List ℕ → List ℕ → Option (List ℕ)
+without [] s = Some s
+without (x ∷ p) [] = None
+without (x ∷ p) (y ∷ s) = cond (eqb y x) (without p s) None
 
--- what is left of a word, and whether all before it was as wanted
-pub record Left : Type 0 where
-  pub rest : List ℕ
-  pub ok : Bool
-
-abbrev pub left_seen : List ℕ → Place → Left
-left_seen w k = record { rest = drop k.at w; ok = k.ok }
-
--- past a piece
-unfoldable pub piece_c : List ℕ → Left → Left
-piece_c p l = record { rest = drop (length p) l.rest; ok = l.ok && starts_with p l.rest }
-
--- all of a word is left
-abbrev pub whole : List ℕ → Left
-whole w = record { rest = w; ok = true }
+-- the text that a function returns, if any
+abbrev pub left : Option (Bor (List ℕ)) → Option (List ℕ)
+left None = None
+left (Some w) = Some w.now

@@ -9,22 +9,19 @@ use statement::{Num, Opcode, Shape};
 pub fn byte(w: &[u8], at: usize) -> u8
     ensures { result ≡ get_or w.now at 0 }
 {
-    if at < w.len() { w[at] } else { 0 }
+    w.get(at).copied().unwrap_or(0)
 }
 
+#[tactic(auto, unfolding(crate::specs::Candidates::shape_by))]
 pub fn shape_by(x: u8) -> Shape
     ensures { result ≡ shape_by x }
 {
-    if x == b'3' {
-        return Shape::S32x32;
+    match x {
+        b'3' => Shape::S32x32,
+        b'6' => Shape::S16x64,
+        b'1' => Shape::S16x128,
+        _ => Shape::S16x256,
     }
-    if x == b'6' {
-        return Shape::S16x64;
-    }
-    if x == b'1' {
-        return Shape::S16x128;
-    }
-    Shape::S16x256
 }
 
 // Where the digits of .xN stand.
@@ -32,73 +29,60 @@ pub fn num_place(shape: Shape) -> usize
     ensures { result ≡ num_place shape }
 {
     match shape {
-        Shape::S32x32 => 32,
-        Shape::S16x64 => 32,
-        Shape::S16x128 => 33,
-        Shape::S16x256 => 33,
+        Shape::S32x32 | Shape::S16x64 => 32,
+        Shape::S16x128 | Shape::S16x256 => 33,
     }
 }
 
 // By the first two bytes of N and what follows it.
+#[tactic(auto, unfolding(crate::specs::Candidates::num_at))]
 pub fn num_at(x: u8, y: u8) -> Num
     ensures { result ≡ num_at x y }
 {
-    if x == b'1' {
-        if y == b'6' {
-            return Num::X16;
-        }
-        if y == b'2' {
-            return Num::X128;
-        }
-        return Num::X1;
+    match (x, y) {
+        (b'1', b'6') => Num::X16,
+        (b'1', b'2') => Num::X128,
+        (b'1', _) => Num::X1,
+        (b'2', _) => Num::X2,
+        (b'3', _) => Num::X32,
+        (b'4', _) => Num::X4,
+        (b'6', _) => Num::X64,
+        _ => Num::X8,
     }
-    if x == b'2' {
-        return Num::X2;
-    }
-    if x == b'3' {
-        return Num::X32;
-    }
-    if x == b'4' {
-        return Num::X4;
-    }
-    if x == b'6' {
-        return Num::X64;
-    }
-    Num::X8
 }
 
 // Where the kind stands.
 pub fn kind_place(ws: bool, sp: bool) -> usize
     ensures { result ≡ kind_place ws sp }
 {
-    if ws {
-        return if sp { 37 } else { 34 };
+    match (ws, sp) {
+        (false, false) => 31,
+        (true, true) => 37,
+        _ => 34,
     }
-    if sp { 34 } else { 31 }
 }
 
 // By the first two bytes: f16, tf32, f8f6f4, i8.
+#[tactic(auto, unfolding(crate::specs::Candidates::kind_at))]
 pub fn kind_at(x: u8, y: u8) -> Kind
     ensures { result ≡ kind_at x y }
 {
-    if x == b't' {
-        return Kind::Tf32;
+    match (x, y) {
+        (b't', _) => Kind::Tf32,
+        (b'i', _) => Kind::I8,
+        (_, b'1') => Kind::F16,
+        _ => Kind::F8f6f4,
     }
-    if x == b'i' {
-        return Kind::I8;
-    }
-    if y == b'1' {
-        return Kind::F16;
-    }
-    Kind::F8f6f4
 }
 
+#[tactic(auto, unfolding(crate::specs::Candidates::shape_of))]
 pub fn shape_of(w: &[u8]) -> Shape
     ensures { result ≡ shape_of w.now }
 {
     shape_by(byte(w, 27))
 }
 
+#[tactic(auto, unfolding(crate::specs::Candidates::num_in))]
 pub fn num_in(w: &[u8]) -> Num
     ensures { result ≡ num_in w.now }
 {
@@ -106,6 +90,7 @@ pub fn num_in(w: &[u8]) -> Num
     num_at(byte(w, p), byte(w, p + 1))
 }
 
+#[tactic(auto, unfolding(crate::specs::Candidates::mma_of))]
 pub fn mma_of(ws: bool, sp: bool, w: &[u8]) -> Opcode
     ensures { result ≡ mma_of ws sp w.now }
 {
@@ -117,91 +102,75 @@ pub fn mma_of(ws: bool, sp: bool, w: &[u8]) -> Opcode
     }
 }
 
+#[tactic(auto, unfolding(crate::specs::Candidates::mma_in))]
 pub fn mma_in(w: &[u8]) -> Opcode
     ensures { result ≡ mma_in w.now }
 {
-    let x = byte(w, 12);
-    if x == b'w' {
-        return mma_of(true, byte(w, 15) == b's', w);
+    match byte(w, 12) {
+        b'w' => mma_of(true, byte(w, 15) == b's', w),
+        x => mma_of(false, x == b's', w),
     }
-    mma_of(false, x == b's', w)
 }
 
 pub fn wait_by(w: &[u8]) -> Opcode
     ensures { result ≡ wait_in w.now }
 {
-    if byte(w, 14) == b'l' {
-        Opcode::WaitLoad
-    } else {
-        Opcode::WaitStore
+    match byte(w, 14) {
+        b'l' => Opcode::WaitLoad,
+        _ => Opcode::WaitStore,
     }
 }
 
 pub fn fence_by(w: &[u8]) -> Opcode
     ensures { result ≡ fence_in w.now }
 {
-    if byte(w, 15) == b'b' {
-        Opcode::FenceBefore
-    } else {
-        Opcode::FenceAfter
+    match byte(w, 15) {
+        b'b' => Opcode::FenceBefore,
+        _ => Opcode::FenceAfter,
     }
 }
 
 pub fn mov_by(w: &[u8]) -> Opcode
     ensures { result ≡ mov_in w.now }
 {
-    if byte(w, 5) == b'3' {
-        Opcode::Mov32
-    } else {
-        Opcode::Mov64
+    match byte(w, 5) {
+        b'3' => Opcode::Mov32,
+        _ => Opcode::Mov64,
     }
 }
 
+#[tactic(auto, unfolding(crate::specs::Candidates::tcgen05_in))]
 pub fn tcgen05_in(x: u8, w: &[u8]) -> Opcode
     ensures { result ≡ tcgen05_in x w.now }
 {
-    if x == b'l' {
-        return Opcode::Load {
+    match x {
+        b'l' => Opcode::Load {
             shape: shape_of(w),
             num: num_in(w),
-        };
-    }
-    if x == b's' {
-        return Opcode::Store {
+        },
+        b's' => Opcode::Store {
             shape: shape_of(w),
             num: num_in(w),
-        };
-    }
-    if x == b'm' {
-        return mma_in(w);
-    }
-    if x == b'a' {
-        return Opcode::Alloc {
+        },
+        b'm' => mma_in(w),
+        b'a' => Opcode::Alloc {
             shared: byte(w, 40) == b's',
-        };
+        },
+        b'd' => Opcode::Dealloc,
+        b'w' => wait_by(w),
+        b'f' => fence_by(w),
+        _ => Opcode::Relinquish,
     }
-    if x == b'd' {
-        return Opcode::Dealloc;
-    }
-    if x == b'w' {
-        return wait_by(w);
-    }
-    if x == b'f' {
-        return fence_by(w);
-    }
-    Opcode::Relinquish
 }
 
 // The one opcode that a text can start with.
+#[tactic(auto, unfolding(crate::specs::Candidates::candidate_in))]
 pub fn candidate_in(w: &[u8]) -> Opcode
     ensures { result ≡ candidate_in w.now }
 {
-    let x = byte(w, 0);
-    if x == b'm' {
-        return mov_by(w);
+    match byte(w, 0) {
+        b'm' => mov_by(w),
+        b't' => tcgen05_in(byte(w, 8), w),
+        _ => Opcode::Exit,
     }
-    if x == b't' {
-        return tcgen05_in(byte(w, 8), w);
-    }
-    Opcode::Exit
 }

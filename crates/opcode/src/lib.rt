@@ -1,116 +1,106 @@
-// The opcode at the head of a text: a few bytes tell the one that it can be, and the text is compared with that one's word.
+// The opcode at the head of a text: a few bytes tell the one that it can be, and that one's word is taken off the text.
 #![tactic(auto)]
 
 mod candidate;
-mod piece;
 
-ghost use Rattle.std.specs.Prelude.{◌≡◌, ◌++◌, drop};
+ghost use Rattle.std.specs.Prelude.{◌≡◌, ◌++◌};
 ghost use Rattle.tokens.specs.Text.{bytes};
 ghost use Rattle.statement.specs.Forms.{word, shape_text, num_text};
-ghost use Rattle.opcode.specs.Pieces.{left_seen, piece_c, whole};
+ghost use Rattle.opcode.specs.Pieces.{left, without};
 ghost use Rattle.opcode.specs.Heads.{head_seen, head_of};
 ghost use Rattle.opcode.specs.Candidates.{stops};
 
-use crate::piece::Place;
 use instruction::Kind;
 use statement::{Num, Opcode, Shape};
 
-// The opcode, if any, and where it ends; 0 where there is none.
+// An opcode and where it ends.
 #[derive(Clone, Copy)]
 pub struct Head {
-    pub found: Option<Opcode>,
+    pub opcode: Opcode,
     pub end: usize,
 }
 
-// What follows the head of a ld or st: SHAPE, NUM, .b32.
-pub fn access(w: &[u8], head: Place, shape: Shape, num: Num) -> Place
-    ensures { left_seen w.now result ≡ piece_c (shape_text shape ++ (num_text num ++ bytes ".b32")) (left_seen w.now head) }
+// What a text leaves after p, if it starts with p.
+fn past<'a>(w: &'a [u8], p: &[u8]) -> Option<&'a [u8]>
+    ensures { left result ≡ without p.now w.now }
 {
-    let a = piece::spelled(w, head, spellings::shape(shape));
-    let b = piece::spelled(w, a, spellings::num(num));
-    piece::piece(w, b, b".b32")
+    w.strip_prefix(p)
 }
 
-pub fn load(w: &[u8], shape: Shape, num: Num) -> Place
-    ensures { left_seen w.now result ≡ piece_c (word (Opcode.Load shape num)) (whole w.now) }
+// Past the word of a ld or st, which starts with `start`.
+fn access<'a>(w: &'a [u8], start: &[u8], shape: Shape, num: Num) -> Option<&'a [u8]>
+    ensures { left result ≡ without (start.now ++ (shape_text shape ++ (num_text num ++ bytes ".b32"))) w.now }
 {
-    access(w, piece::first(w, b"tcgen05.ld.sync.aligned"), shape, num)
+    let w = past(w, start)?;
+    let w = past(w, spellings::shape(shape))?;
+    let w = past(w, spellings::num(num))?;
+    past(w, b".b32")
 }
 
-pub fn store(w: &[u8], shape: Shape, num: Num) -> Place
-    ensures { left_seen w.now result ≡ piece_c (word (Opcode.Store shape num)) (whole w.now) }
+fn alloc(w: &[u8], shared: bool) -> Option<&[u8]>
+    ensures { left result ≡ without (word (Opcode.Alloc shared)) w.now }
 {
-    access(w, piece::first(w, b"tcgen05.st.sync.aligned"), shape, num)
+    let w = past(w, b"tcgen05.alloc.cta_group::1.sync.aligned")?;
+    let w = past(w, spellings::option(shared, b".shared::cta"))?;
+    past(w, b".b32")
 }
 
-pub fn alloc(w: &[u8], shared: bool) -> Place
-    ensures { left_seen w.now result ≡ piece_c (word (Opcode.Alloc shared)) (whole w.now) }
+fn multiply(w: &[u8], ws: bool, sp: bool, kind: Kind) -> Option<&[u8]>
+    ensures { left result ≡ without (word (Opcode.Multiply ws sp kind)) w.now }
 {
-    let a = piece::first(w, b"tcgen05.alloc.cta_group::1.sync.aligned");
-    let b = piece::option_piece(w, a, shared, b".shared::cta");
-    piece::piece(w, b, b".b32")
+    let w = past(w, b"tcgen05.mma")?;
+    let w = past(w, spellings::option(ws, b".ws"))?;
+    let w = past(w, spellings::option(sp, b".sp"))?;
+    let w = past(w, b".cta_group::1.kind::")?;
+    past(w, spellings::kind(kind))
 }
 
-pub fn multiply(w: &[u8], ws: bool, sp: bool, kind: Kind) -> Place
-    ensures { left_seen w.now result ≡ piece_c (word (Opcode.Multiply ws sp kind)) (whole w.now) }
-{
-    let a = piece::first(w, b"tcgen05.mma");
-    let b = piece::option_piece(w, a, ws, b".ws");
-    let c = piece::option_piece(w, b, sp, b".sp");
-    let d = piece::piece(w, c, b".cta_group::1.kind::");
-    piece::spelled(w, d, spellings::kind(kind))
-}
-
-// Past an opcode's word.
-pub fn past(w: &[u8], o: Opcode) -> Place
-    ensures { left_seen w.now result ≡ piece_c (word o) (whole w.now) }
+// What a text leaves after an opcode's word, if it starts with it.
+#[tactic(auto, unfolding(statement::specs::Forms::word))]
+fn past_word(w: &[u8], o: Opcode) -> Option<&[u8]>
+    ensures { left result ≡ without (word o) w.now }
 {
     match o {
-        Opcode::Mov32 => piece::first(w, b"mov.b32"),
-        Opcode::Mov64 => piece::first(w, b"mov.b64"),
+        Opcode::Mov32 => past(w, b"mov.b32"),
+        Opcode::Mov64 => past(w, b"mov.b64"),
         Opcode::Alloc { shared } => alloc(w, shared),
-        Opcode::Dealloc => piece::first(w, b"tcgen05.dealloc.cta_group::1.sync.aligned.b32"),
-        Opcode::Relinquish => piece::first(
+        Opcode::Dealloc => past(w, b"tcgen05.dealloc.cta_group::1.sync.aligned.b32"),
+        Opcode::Relinquish => past(
             w,
             b"tcgen05.relinquish_alloc_permit.cta_group::1.sync.aligned",
         ),
-        Opcode::Load { shape, num } => load(w, shape, num),
-        Opcode::Store { shape, num } => store(w, shape, num),
-        Opcode::WaitLoad => piece::first(w, b"tcgen05.wait::ld.sync.aligned"),
-        Opcode::WaitStore => piece::first(w, b"tcgen05.wait::st.sync.aligned"),
-        Opcode::FenceBefore => piece::first(w, b"tcgen05.fence::before_thread_sync"),
-        Opcode::FenceAfter => piece::first(w, b"tcgen05.fence::after_thread_sync"),
+        Opcode::Load { shape, num } => access(w, b"tcgen05.ld.sync.aligned", shape, num),
+        Opcode::Store { shape, num } => access(w, b"tcgen05.st.sync.aligned", shape, num),
+        Opcode::WaitLoad => past(w, b"tcgen05.wait::ld.sync.aligned"),
+        Opcode::WaitStore => past(w, b"tcgen05.wait::st.sync.aligned"),
+        Opcode::FenceBefore => past(w, b"tcgen05.fence::before_thread_sync"),
+        Opcode::FenceAfter => past(w, b"tcgen05.fence::after_thread_sync"),
         Opcode::Multiply { ws, sp, kind } => multiply(w, ws, sp, kind),
-        Opcode::Exit => piece::first(w, b"exit"),
+        Opcode::Exit => past(w, b"exit"),
     }
 }
 
 // Whether no byte of an opcode is next.
-pub fn stops_at(w: &[u8], at: usize) -> bool
-    ensures { result ≡ stops (drop at w.now) }
+fn stops(w: &[u8]) -> bool
+    ensures { result ≡ stops w.now }
 {
-    if at < w.len() {
-        !lexer::bytes::is_opcode(w[at])
-    } else {
-        true
+    match w {
+        [next, ..] => !lexer::bytes::is_opcode(*next),
+        [] => true,
     }
 }
 
 // The opcode at the head of a text.
-pub fn head_of(w: &[u8]) -> Head
+pub fn head_of(w: &[u8]) -> Option<Head>
     ensures { head_seen w.now result ≡ head_of w.now }
 {
-    let o = candidate::candidate_in(w);
-    let k = past(w, o);
-    let at = k.at;
-    if k.ok & stops_at(w, at) {
-        return Head {
-            found: Some(o),
-            end: at,
-        };
+    let opcode = candidate::candidate_in(w);
+    let rest = past_word(w, opcode)?;
+    if !stops(rest) {
+        return None;
     }
-    Head {
-        found: None,
-        end: 0,
-    }
+    Some(Head {
+        opcode,
+        end: w.len() - rest.len(),
+    })
 }

@@ -176,12 +176,12 @@ head_whole s = by (recognise (take (opcode_len s) s)) refl
     by None e = rw e
 
 -- in the words of the code
-module _ (s : List ℕ) (h : Head) (is : head_seen s h ≡ head_of s) where
-  pub whole_is : (o : Opcode) → h.found ≡ Some o → whole_c s ≡ operands_c o (start (drop h.end s))
-  whole_is o e = head_whole s ∙ rw (← is, e)
+module _ (s : List ℕ) where
+  pub whole_is : (h : Head) → head_seen s (Some h) ≡ head_of s → whole_c s ≡ operands_c h.opcode (start (drop h.end s))
+  whole_is h is = head_whole s ∙ rw (← is)
 
-  pub whole-none : h.found ≡ None → whole_c s ≡ record { value = plain Exit; next = off (start s) s }
-  whole-none e = head_whole s ∙ rw (← is, e)
+  pub whole-none : head_seen s None ≡ head_of s → whole_c s ≡ record { value = plain Exit; next = off (start s) s }
+  whole-none is = head_whole s ∙ rw (← is)
 
 -- ---- the answer
 pub read_none : (s : List ℕ) → whole_c s ≡ record { value = plain Exit; next = off (start s) s } → NoForm 0 ≡ read_of s

@@ -56,22 +56,16 @@ pub fn operands(s: &[u8], k: Cursor, o: Opcode) -> Reading
 pub fn read(s: &[u8]) -> Reading
     ensures { result ≡ read_of s.now }
 {
-    let h = opcode::head_of(s);
-    let e = h.end;
-    let f = h.found;
-    let Some(o) = f else {
+    let Some(head) = opcode::head_of(s) else {
         return Reading::NoForm(0);
     };
-    operands(
-        s,
-        Cursor {
-            at: e,
-            ok: true,
-            over: false,
-            far: e,
-        },
-        o,
-    )
+    let k = Cursor {
+        at: head.end,
+        ok: true,
+        over: false,
+        far: head.end,
+    };
+    operands(s, k, head.opcode)
 }
 
 // How many registers the operands of an opcode name; their names go to the first places of hi and lo.
@@ -94,23 +88,20 @@ pub fn registers(s: &[u8], hi: &mut [u64; 128], lo: &mut [u64; 128]) -> usize
     ensures first { hi.new ≡ sets hi.old 0 (his (registers_of s.now)) }
     ensures second { lo.new ≡ sets lo.old 0 (los (registers_of s.now)) }
 {
-    let h = opcode::head_of(s);
-    let e = h.end;
-    let f = h.found;
-    let Some(o) = f else {
+    let Some(head) = opcode::head_of(s) else {
         return 0;
     };
     let k = Cursor {
-        at: e,
+        at: head.end,
         ok: true,
         over: false,
-        far: e,
+        far: head.end,
     };
-    let t = operands(s, k, o);
+    let t = operands(s, k, head.opcode);
     let Reading::Got(_) = t else {
         return 0;
     };
-    list_of(s, k, o, hi, lo)
+    list_of(s, k, head.opcode, hi, lo)
 }
 
 // The number of an answer.

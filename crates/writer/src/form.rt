@@ -12,7 +12,6 @@ ghost use Rattle.writer.specs.Outputs.{out_seen, add_c, named_text, pair_text, m
 
 use crate::output::Buffer;
 use instruction::Kind;
-use spellings::Spelling;
 use statement::{Access, Metadata, Mma, Num, Shape};
 use tokens::Name;
 
@@ -27,33 +26,13 @@ pub fn name_number(t: &mut Buffer, w: &[u8], n: Name, bracketed: bool, v: u64, l
     crate::output::put(t, d, b";")
 }
 
-// A spelling.
-fn spelled(t: &mut Buffer, at: usize, p: Spelling) -> usize
-    requires { (p.length ≤ 8) × (length p.bytes ≡ 8) }
-    ensures { out_seen t.new result ≡ add_c (take p.length p.bytes) true (out_seen t.old at) }
-{
-    let bytes = p.bytes;
-    let n = p.length;
-    crate::output::put(t, at, &bytes[..n])
-}
-
-// A part that may be left out.
-fn option_text(t: &mut Buffer, at: usize, b: bool, w: &[u8]) -> usize
-    ensures { out_seen t.new result ≡ add_c (option b w.now) true (out_seen t.old at) }
-{
-    if b {
-        return crate::output::put(t, at, w);
-    }
-    crate::output::put(t, at, b"")
-}
-
 // The word of a ld or st, which starts with w, and a space.
 fn access_word(t: &mut Buffer, w: &[u8], shape: Shape, num: Num) -> usize
     ensures { out_seen t.new result ≡ add_c ((w.now ++ (shape_text shape ++ (num_text num ++ bytes ".b32"))) ++ bytes " ") true (out_seen t.old 0) }
 {
     let a = crate::output::put(t, 0, w);
-    let b = spelled(t, a, spellings::shape(shape));
-    let c = spelled(t, b, spellings::num(num));
+    let b = crate::output::put(t, a, spellings::shape(shape));
+    let c = crate::output::put(t, b, spellings::num(num));
     crate::output::put(t, c, b".b32 ")
 }
 
@@ -88,10 +67,10 @@ fn mma_word(t: &mut Buffer, ws: bool, sp: bool, kind: Kind) -> usize
     ensures { out_seen t.new result ≡ add_c (word (opcode.Multiply ws sp kind) ++ bytes " ") true (out_seen t.old 0) }
 {
     let a = crate::output::put(t, 0, b"tcgen05.mma");
-    let b = option_text(t, a, ws, b".ws");
-    let c = option_text(t, b, sp, b".sp");
+    let b = crate::output::put(t, a, spellings::option(ws, b".ws"));
+    let c = crate::output::put(t, b, spellings::option(sp, b".sp"));
     let d = crate::output::put(t, c, b".cta_group::1.kind::");
-    let e = spelled(t, d, spellings::kind(kind));
+    let e = crate::output::put(t, d, spellings::kind(kind));
     crate::output::put(t, e, b" ")
 }
 

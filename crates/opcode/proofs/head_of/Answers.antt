@@ -1,20 +1,19 @@
 -- `opcode::head_of` meets its contract. It finds the head by the candidate, which is the head by the table. Assumes nothing.
-use Rattle.opcode.specs.Candidates.{head_in}
-use Rattle.opcode.proofs.Heads.{candidate_head}
+use Rattle.std.proofs.Common.{sym, ◌∙◌}
+use Rattle.opcode.proofs.Heads.{no_word, more_follows, head_at, left_short}
 use Rattle.opcode.proofs.head_of.Goals as goal
 
-pub returns-then-k-stops_at : goal.returns-then-k-stops_at
-unfolding head_in
-returns-then-k-stops_at c =
-    let c₁ = c in
-    let c₂ = c₁ in
-    let c₃ = c₂ in
-    rw (← c₃.candidate_in-o.ensures, ← c₂.past-k.ensures, ← c₁.stops_at.ensures, c.if-k-stops_at.true) at (candidate_head c₃.args.w.now)
+pub returns-in_err-rest : goal.returns-in_err-rest
+returns-in_err-rest c = rw c.from_residual.ensures (no_word c.args.w.now (rw c.candidate_in-opcode.ensures at c.in_err-rest.ensures))
+
+pub returns-then-not-stops : goal.returns-then-not-stops
+returns-then-not-stops c =
+    more_follows c.args.w.now c.in_ok-rest.rest.now (rw c.candidate_in-opcode.ensures at c.in_ok-rest.ensures) (sym c.stops.ensures ∙ c.if-not-stops.true)
+
+pub overflow_sub-result : goal.overflow_sub-result
+overflow_sub-result c = left_short c.args.w.now c.in_ok-rest.rest.now (rw c.candidate_in-opcode.ensures at c.in_ok-rest.ensures)
 
 pub returns : goal.returns
-unfolding head_in
 returns c =
-    let c₁ = c in
-    let c₂ = c₁ in
-    let c₃ = c₂ in
-    rw (← c₃.candidate_in-o.ensures, ← c₂.past-k.ensures, ← c₁.stops_at.ensures, c.if-k-stops_at.false) at (candidate_head c₃.args.w.now)
+    rw c.candidate_in-opcode.ensures
+    (head_at c.args.w.now c.in_ok-rest.rest.now (rw c.candidate_in-opcode.ensures at c.in_ok-rest.ensures) (sym c.stops.ensures ∙ c.if-not-stops.false))

@@ -1,12 +1,24 @@
--- `opcode::multiply` meets its contract. The law of five pieces, by the callees' contracts; a spelling is its text. Assumes nothing.
-use Rattle.tokens.specs.Text.{bytes}
-use Rattle.statement.specs.Forms.{word, option, kind_text}
-use Rattle.opcode.proofs.Laws.{piece_five}
-use Rattle.opcode.specs.Pieces.{whole}
+-- `opcode::multiply` meets its contract: each word is taken off what the one before it left. Assumes nothing.
+use Rattle.statement.specs.Forms.{word}
+use Rattle.opcode.proofs.Laws.{without_some, without_none}
 use Rattle.opcode.proofs.multiply.Goals as goal
+
+pub returns-in_err-w : goal.returns-in_err-w
+unfolding word
+returns-in_err-w c = rw (c.from_residual.ensures, without_none _ _ _ c.in_err-w.ensures)
+
+pub returns-in_err-w-2 : goal.returns-in_err-w-2
+unfolding word
+returns-in_err-w-2 c = rw (c.from_residual-in_err-w-2.ensures, ← c.option.ensures, without_some _ _ _ _ c.in_ok-w.ensures, without_none _ _ _ c.in_err-w-2.ensures)
+
+pub returns-in_err-w-3 : goal.returns-in_err-w-3
+unfolding word
+returns-in_err-w-3 c = rw (c.from_residual-in_err-w-3.ensures, ← c.option.ensures, ← c.option-2.ensures, without_some _ _ _ _ c.in_ok-w.ensures, without_some _ _ _ _ c.in_ok-w-2.ensures, without_none _ _ _ c.in_err-w-3.ensures)
+
+pub returns-in_err-w-4 : goal.returns-in_err-w-4
+unfolding word
+returns-in_err-w-4 c = rw (c.from_residual-in_err-w-4.ensures, ← c.option.ensures, ← c.option-2.ensures, without_some _ _ _ _ c.in_ok-w.ensures, without_some _ _ _ _ c.in_ok-w-2.ensures, without_some _ _ _ _ c.in_ok-w-3.ensures, without_none _ _ _ c.in_err-w-4.ensures)
 
 pub returns : goal.returns
 unfolding word
-returns c =
-    let a = c.args in
-    cc (piece_five (bytes "tcgen05.mma") (option a.ws (bytes ".ws")) (option a.sp (bytes ".sp")) (bytes ".cta_group::1.kind::") (kind_text a.kind) (whole a.w.now))
+returns c = rw (← c.option.ensures, ← c.option-2.ensures, ← c.kind.ensures, without_some _ _ _ _ c.in_ok-w.ensures, without_some _ _ _ _ c.in_ok-w-2.ensures, without_some _ _ _ _ c.in_ok-w-3.ensures, without_some _ _ _ _ c.in_ok-w-4.ensures, c.past-5.ensures)

@@ -4,13 +4,7 @@ use Rattle.reader.proofs.Laws.{read_none, read_told, whole_is, whole-none}
 use Rattle.reader.proofs.read.Goals as goal
 
 pub returns-in_default : goal.returns-in_default
-returns-in_default c =
-    let a = c.args in
-    let head_of = c.head_of-h in
-    read_none a.s.now (whole-none a.s.now head_of.result head_of.ensures c.in_default.is)
+returns-in_default c = read_none c.args.s.now (whole-none c.args.s.now c.in_default.ensures)
 
 pub returns : goal.returns
-returns c =
-    let a = c.args in
-    let head_of = c.head_of-h in
-    c.operands.ensures ∙ read_told a.s.now _ (whole_is a.s.now head_of.result head_of.ensures _ c.in-Some.is)
+returns c = c.operands.ensures ∙ read_told c.args.s.now _ (whole_is c.args.s.now c.in-Some.head c.in-Some.ensures)

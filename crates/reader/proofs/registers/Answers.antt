@@ -10,30 +10,21 @@ use Rattle.reader.proofs.registers.Goals as goal
 pub returns-in_default : goal.returns-in_default
 returns-in_default c =
     let both = let a = c.args in
-    let head_of = c.head_of-h in
-    none-stored a.hi.now a.lo.now (registers_of a.s.now) (registers_none a.s.now (whole-none a.s.now head_of.result
-    head_of.ensures c.in_default.is)) in
+    none-stored a.hi.now a.lo.now (registers_of a.s.now) (registers_none a.s.now (whole-none a.s.now c.in_default.ensures)) in
     record { count = both.0; first = both.1.0; second = both.1.1 }
 
 pub returns-in_default-t : goal.returns-in_default-t
 returns-in_default-t c =
-    let both = let c₁ = c in
-    let c₂ = c₁ in
-    let a = c₂.args in
-    let head_of = c₂.head_of-h in
+    let both = let a = c.args in
     let operands = c.operands-t in
     none-stored a.hi.now a.lo.now (registers_of a.s.now) (registers_unread a.s.now _ operands.result (whole_is a.s.now
-    head_of.result head_of.ensures _ c₁.in-Some.is) operands.ensures (unread operands.result (opened c.in_default-t.in_default-t-own.keys2))) in
+    c.in-Some.head c.in-Some.ensures) operands.ensures (unread operands.result (opened c.in_default-t.in_default-t-own.keys2))) in
     record { count = both.0; first = both.1.0; second = both.1.1 }
 
 pub returns : goal.returns
 unfolding list_c
 returns c =
-    let c₁ = c in
-    let c₂ = c₁ in
-    let c₃ = c₂ in
-    let a = c₃.args in
-    let head_of = c₃.head_of-h in
-    let operands = c₁.operands-t in
-    rw (registers_got a.s.now _ operands.result (whole_is a.s.now head_of.result head_of.ensures _ c₂.in-Some.is) operands.ensures
+    let a = c.args in
+    let operands = c.operands-t in
+    rw (registers_got a.s.now _ operands.result (whole_is a.s.now c.in-Some.head c.in-Some.ensures) operands.ensures
     _ c.in-Got.is) (record { count = c.list_of.ensures.count; first = c.list_of.ensures.first; second = c.list_of.ensures.second })
