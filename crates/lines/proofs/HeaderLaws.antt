@@ -1,15 +1,15 @@
 -- The header: its bytes and an LF stand at the start exactly when the first line is the header, and ended; and line 2 starts after them. Assumes nothing.
-use Prim.Native.Nat.{ℕ, suc, ◌+◌, ◌<◌, ◌≤◌}
+use Prim.Native.Nat.{ℕ, suc, ◌≤◌}
 use native.Mathlib.Omega.{arith}
-use native.Mathlib.Numerals.{add-one}
 use mathlib.Core.Path.{◌≡◌, refl, sym, ap, ◌∙◌}
 use mathlib.Core.List.{List, [], ◌∷◌, ◌++◌}
-use mathlib.Core.Bool.{Bool, true, false, not, ◌&&◌, ◌||◌, and-false}
-use lib.ListN.{length, get_or, drop, drop_of_length-le}
-use lib.Seq.{drop-cons}
+use mathlib.Core.Bool.{Bool, true, false, not, ◌&&◌, and-false}
+use lib.ListN.{length, take, drop}
+use lib.Pointwise.{pointwise}
 use lib.Dec.{eqb}
-use borrow.Author.Tests.{eq-eqb, ne_eqb, ltb-true, eqb-true, not-true}
-use Rattle.laws.proofs.BoolLaws.{and_split, and_swap, or_neither}
+use borrow.Author.Tests.{ltb-true, eqb-true, not-true}
+use Rattle.std.proofs.lemmas.Bool.Decides.{same_from_decides, Decides-eqb}
+use Rattle.laws.proofs.BoolLaws.{and_split, and_swap}
 use Rattle.tokens.specs.Text.{lf}
 use Rattle.tokens.specs.Bytes.{all, same_bytes}
 use Rattle.tokens.proofs.Bytes.{same_eq}
@@ -18,62 +18,36 @@ use Rattle.lines.proofs.LineLaws.{text_cons, ended-cons, text_lf, ended-lf, text
 
 -- ---- the header
 
--- the bytes of a list from a place on are those of another
-unfoldable pub match_at : List ℕ → ℕ → List ℕ → Bool
-match_at [] i s = true
-match_at (y ∷ m) i s = eqb (get_or s i 0) y && match_at m (suc i) s
+-- the bytes of a list are the first of another
+abbrev starts : List ℕ → List ℕ → Bool
+starts m s = pointwise eqb m (take (length m) s)
 
-match_shift : (m : List ℕ) (i x : ℕ) (l : List ℕ) → match_at m (suc i) (x ∷ l) ≡ match_at m i l
-unfolding match_at
-match_shift [] i x l = refl
-match_shift (y ∷ m) i x l = ap (λ (b : Bool). eqb (get_or l i 0) y && b) (match_shift m (suc i) x l)
+eqb_sym : (x y : ℕ) → eqb x y ≡ eqb y x
+eqb_sym x y = same_from_decides (eqb x y) (eqb y x) (Decides-eqb x y) (let d = Decides-eqb y x in (λ h. sym (d.0 h), λ h. d.1 (sym h)))
 
--- a byte that is neither 0 nor an LF
-abbrev shown : ℕ → Bool
-shown y = not (eqb 0 y || eqb lf y)
+module _ (s y : ℕ) (l m : List ℕ) (z : eqb lf y ≡ false) (k : starts (m ++ lf ∷ []) l ≡ (ended_of l && same_bytes (text_of l) m)) where
+  head_by : (t : Bool) → eqb s lf ≡ t → (eqb y s && starts (m ++ lf ∷ []) l) ≡ (ended_of (s ∷ l) && same_bytes (text_of (s ∷ l)) (y ∷ m))
+  head_by true e = let q : s ≡ lf = eqb-true s lf e in rw (text_lf s l e, and-false, q, eqb_sym y lf, z)
+  head_by false e = rw (text_cons s l e, ended-cons s l e, k, eqb_sym y s) (and_swap (eqb s y) (ended_of l) (same_bytes (text_of l) m))
 
-shown_parts : (y : ℕ) (m : List ℕ) → all shown (y ∷ m) ≡ true → ((eqb 0 y ≡ false) × (eqb lf y ≡ false)) × (all shown m ≡ true)
-shown_parts y m h = let a = and_split (shown y) (all shown m) h in (or_neither (eqb 0 y) (eqb lf y) (not-true (eqb 0 y || eqb lf y) a.0), a.1)
-
-module _ (s y : ℕ) (l m : List ℕ) (z : eqb lf y ≡ false) (k : match_at (m ++ lf ∷ []) 0 l ≡ (ended_of l && same_bytes (text_of l) m)) where
-  head_by_lem : (t : Bool) → eqb s lf ≡ t → (eqb s y && match_at (m ++ lf ∷ []) 0 l) ≡ (ended_of (s ∷ l) && same_bytes (text_of (s ∷ l)) (y ∷ m))
-  head_by_lem true e = let q : s ≡ lf = eqb-true s lf e in rw (text_lf s l e, and-false, q, z)
-  head_by_lem false e = rw (text_cons s l e, ended-cons s l e, k) (and_swap (eqb s y) (ended_of l) (same_bytes (text_of l) m))
-
-last_by : (s : ℕ) (l : List ℕ) (t : Bool) → eqb s lf ≡ t → (eqb s lf && true) ≡ (ended_of (s ∷ l) && same_bytes (text_of (s ∷ l)) [])
-last_by s l true e = rw (text_lf s l e, ended-lf s l e, e)
-last_by s l false e = rw (text_cons s l e, and-false, e)
+last_by : (s : ℕ) (l : List ℕ) (t : Bool) → eqb s lf ≡ t → (eqb lf s && true) ≡ (ended_of (s ∷ l) && same_bytes (text_of (s ∷ l)) [])
+last_by s l true e = rw (text_lf s l e, ended-lf s l e, eqb_sym lf s, e)
+last_by s l false e = rw (text_cons s l e, and-false, eqb_sym lf s, e)
 
 -- the bytes of a line and an LF stand at the start exactly when the first line is that line, and ended
-line_is : (w s : List ℕ) → all shown w ≡ true → match_at (w ++ lf ∷ []) 0 s ≡ (ended_of s && same_bytes (text_of s) w)
-unfolding match_at ended_of upto
+line_is : (w s : List ℕ) → all (λ x. not (eqb lf x)) w ≡ true → starts (w ++ lf ∷ []) s ≡ (ended_of s && same_bytes (text_of s) w)
+unfolding ended_of upto
 line_is [] [] k = refl
 line_is [] (x ∷ l) k = last_by x l (eqb x lf) refl
-line_is (y ∷ m) [] k = rw (shown_parts y m k).0.0
+line_is (y ∷ m) [] k = refl
 line_is (y ∷ m) (x ∷ l) k =
-    let p = shown_parts y m k in
-    ap (λ (b : Bool). eqb x y && b) (match_shift (m ++ lf ∷ []) 0 x l) ∙ head_by_lem x y l m p.0.1 (line_is m l p.1) (eqb x lf) refl
+    let p = and_split (not (eqb lf y)) (all (λ x. not (eqb lf x)) m) k in
+    head_by x y l m (not-true (eqb lf y) p.0) (line_is m l p.1) (eqb x lf) refl
 
--- line 1 with its LF
-abbrev pub header_line : List ℕ
-header_line = header ++ lf ∷ []
-
-pub headed_match : (s : List ℕ) → headed s ≡ match_at header_line 0 s
+-- line 1 with its LF stands at the start
+pub headed_starts : (s : List ℕ) → headed s ≡ pointwise eqb (header ++ lf ∷ []) (take 16 s)
 unfolding headed
-headed_match s = sym (line_is header s refl)
-
-module _ (h s : List ℕ) (i : ℕ) (k : i < length h) where
-  pub match_step : get_or s i 0 ≡ get_or h i 0 → match_at (drop i h) i s ≡ match_at (drop (i + 1) h) (i + 1) s
-  unfolding match_at
-  match_step e = rw (add-one, drop-cons h i 0 k, eq-eqb _ _ e)
-
-  pub match_stop : (get_or s i 0 ≡ get_or h i 0 → ⊥) → match_at (drop i h) i s ≡ false
-  unfolding match_at
-  match_stop e = rw (drop-cons h i 0 k, ne_eqb _ _ e)
-
-pub match_end : (h s : List ℕ) (i : ℕ) → length h ≤ i → match_at (drop i h) i s ≡ true
-unfolding match_at
-match_end h s i k = rw (drop_of_length-le h k)
+headed_starts s = sym (line_is header s refl)
 
 -- ---- after the header
 

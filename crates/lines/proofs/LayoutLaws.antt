@@ -1,13 +1,14 @@
 -- The layout of a line, by the tests that the code makes: of two bytes, of blocks of 16 bytes, and of the byte after the run of a statement's bytes.
 -- Assumes nothing.
-use Prim.Native.Nat.{ℕ, suc, ◌+◌, ◌-◌, ◌<◌, ◌≤◌}
+use Prim.Native.Nat.{ℕ, suc, ◌+◌, ◌<◌, ◌≤◌}
 use native.Mathlib.Omega.{arith}
 use mathlib.Core.Path.{◌≡◌, refl, sym, ap, ◌∙◌, subst}
 use mathlib.Core.List.{List, [], ◌∷◌}
-use mathlib.Core.Bool.{Bool, true, false, ◌&&◌, ◌||◌, cond, and-true, and-false, and_assoc}
-use lib.ListN.{length, get_or, take, drop, length-drop, take-append-drop}
-use lib.Seq.{drop-cons, drop-drop, length-take-le}
-use lib.Dec.{leb, eqb}
+use mathlib.Core.Bool.{Bool, true, false, ◌&&◌, ◌||◌, and-true, and-false, and_assoc}
+use lib.ListN.{length, get_or, take, drop, drop_of_length-le, take-append-drop}
+use lib.Seq.{drop-cons, length-take-le}
+use native.Mathlib.Numerals.{add-one}
+use lib.Dec.{leb, eqb, leb-suc-suc}
 use borrow.Author.Tests.{ne_eqb, ltb-true, eqb-true, leb-true}
 use Rattle.laws.proofs.BoolLaws.{never, clash, and_split}
 use Rattle.tokens.specs.Text.{tab, lf}
@@ -19,24 +20,19 @@ use Rattle.lines.proofs.LineLaws.{upto-cons, text_cons, ended-cons, upto-lf, tex
 -- ---- blocks of 16 bytes
 
 -- a block of bytes that pass is the start of the run
-pub run_block : (f : ℕ → Bool) (s : List ℕ) (i : ℕ) → i + 16 ≤ length s → all f (take 16 (drop i s)) ≡ true → i + 16 + run_len f (drop (i + 16) s) ≡ i + run_len f (drop i s)
-run_block f s i h e =
-    let d = drop i s in
-    let n : length (take 16 d) ≡ 16 = length-take-le 16 d (omega (arith, length-drop i s)) in
+pub run_block : (f : ℕ → Bool) (d : List ℕ) → 16 ≤ length d → all f (take 16 d) ≡ true → run_len f d ≡ 16 + run_len f (drop 16 d)
+run_block f d h e =
+    let n : length (take 16 d) ≡ 16 = length-take-le 16 d h in
     let a : run_len f d ≡ length (take 16 d) + run_len f (drop 16 d) = rw (take-append-drop 16 d) at (run_append f (take 16 d) (drop 16 d) e) in
-    rw (a, n, drop-drop) (omega arith)
+    omega (arith, a, n)
 
 -- one test more
-module _ (f : ℕ → Bool) (s : List ℕ) (at i : ℕ) (b : Bool) where
-  pub all_step : i < 16 → at + 16 ≤ length s → (b && all f (take (16 - i) (drop (at + i) s))) ≡ ((b && f (get_or s (at + i) 0)) && all f (take (16 - (i + 1)) (drop (at + (i + 1)) s)))
-  all_step h k =
-      let z : 16 - i ≡ suc (16 - (i + 1)) = omega arith in
-      let y : at + (i + 1) ≡ suc (at + i) = omega arith in
-      let g : at + i < length s = omega arith in
-      rw (z, y, drop-cons s (at + i) 0 g) (sym (and_assoc b (f (get_or s (at + i) 0)) _))
+module _ (f : ℕ → Bool) (s : List ℕ) (i : ℕ) (b : Bool) where
+  pub all_step : i < length s → (b && all f (drop i s)) ≡ ((b && f (get_or s i 0)) && all f (drop (i + 1) s))
+  all_step h = rw (add-one, drop-cons s i 0 h) (sym (and_assoc b (f (get_or s i 0)) _))
 
-  pub all_end : 16 ≤ i → (b && all f (take (16 - i) (drop (at + i) s))) ≡ b
-  all_end h = let z : 16 - i ≡ 0 = omega arith in rw z (and-true b)
+  pub all_end : length s ≤ i → (b && all f (drop i s)) ≡ b
+  all_end h = rw (drop_of_length-le s h) (and-true b)
 
 -- ---- the layout
 
@@ -127,21 +123,20 @@ end_by [] k = never k.0.0
 end_by (x ∷ []) k = never k.0.1
 end_by (x ∷ (y ∷ m)) k = upto-cons x (y ∷ m) (no_lf warp_byte refl x k.0.0) ∙ ap suc (upto-cons y m (no_lf (λ z. eqb z tab) refl y k.0.1) ∙ ap suc (sym (run_line m k.1)))
 
--- what the code measures: the place after the run, if the tests hold there
-module _ (l : List ℕ) (e : ℕ) (z : e ≡ 2 + run_len plain (drop 2 l)) where
-  is-end : e ≡ end_of l
-  is-end = omega arith
+-- the tests of a line that starts with a warp byte and has a byte more, by what follows these two
+module _ (x y : ℕ) (t : List ℕ) where
+  pub laid_tests : warp_byte x ≡ true → laid_out (x ∷ (y ∷ t)) ≡ (eqb y tab && eqb (get_or t (run_len plain t) 0) lf && leb (run_len plain t) 2046)
+  laid_tests k = laid-tested (x ∷ (y ∷ t)) ∙ rw (k, leb-suc-suc (suc (run_len plain t)) 2047, leb-suc-suc (run_len plain t) 2046) refl
 
-  pub measured : cond (laid_out l) (upto l) 0 ≡ cond (tested l e) e 0
-  measured = rw (is-end, laid-tested l) (measured_by (tested l (end_of l)) refl)
-    where
-      measured_by : (b : Bool) → tested l (end_of l) ≡ b → cond b (upto l) 0 ≡ cond b (end_of l) 0
-      measured_by true h = end_by l (split l (end_of l) h)
-      measured_by false h = refl
+  pub laid_end : laid_out (x ∷ (y ∷ t)) ≡ true → upto (x ∷ (y ∷ t)) ≡ suc (suc (run_len plain t))
+  laid_end h = end_by (x ∷ (y ∷ t)) (split (x ∷ (y ∷ t)) (end_of (x ∷ (y ∷ t))) (sym (laid-tested (x ∷ (y ∷ t))) ∙ h))
 
-  pub measured_as : (w b : Bool) (x y z : ℕ) → x ≡ get_or l 0 0 → y ≡ get_or l 1 0 → z ≡ get_or l e 0 → w ≡ warp_byte x
-      → (w && eqb y tab && eqb z lf && leb e 2048) ≡ b → cond b e 0 ≡ cond (laid_out l) (upto l) 0
-  measured_as w b x y z p q r v t = let k : tested l e ≡ b = rw (← p, ← q, ← r, ← v) t in sym (measured ∙ ap (λ (u : Bool). cond u e 0) k)
+-- a line is none without a warp byte, or with nothing after it
+pub unlaid_warp : (x : ℕ) (m : List ℕ) → warp_byte x ≡ false → laid_out (x ∷ m) ≡ false
+unlaid_warp x m e = laid-tested (x ∷ m) ∙ rw e refl
+
+pub unlaid_one : (x : ℕ) → laid_out (x ∷ []) ≡ false
+unlaid_one x = laid-tested (x ∷ []) ∙ rw (and-false (warp_byte x)) refl
 
 -- a line that is laid out has its warp byte and its tab
 pub laid_warp : (l : List ℕ) → laid_out l ≡ true → (warp_byte (get_or l 0 0) ≡ true) × (eqb (get_or l 1 0) tab ≡ true)

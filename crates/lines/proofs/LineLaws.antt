@@ -4,12 +4,13 @@ use Prim.Native.Nat.{ℕ, zero, suc, ◌+◌, ◌-◌, ◌<◌, ◌≤◌}
 use native.Mathlib.Omega.{arith}
 use native.Mathlib.Numerals.{add-one}
 use mathlib.Core.Path.{◌≡◌, refl, ◌∙◌}
-use mathlib.Core.List.{List, [], ◌∷◌}
+use mathlib.Core.List.{List, [], ◌∷◌, ◌++◌}
 use mathlib.Core.Bool.{Bool, true, false, cond}
-use lib.ListN.{length, get_or, drop, drop_of_length-le}
+use lib.ListN.{length, get_or, take, drop, drop_of_length-le, take-append-drop}
 use lib.Seq.{drop-cons, length-take-le}
 use lib.Dec.{eqb, leb-suc-suc}
 use borrow.Author.Tests.{lt-ltb, eq-eqb, ne_eqb}
+use Rattle.std.specs.Int.{from_bool}
 use Rattle.laws.specs.Tests.{bit}
 use Rattle.tokens.specs.Text.{lf}
 use Rattle.lines.specs.Sheet.{upto, text_of, ended_of, rest, after, count_from, line_count, lfs}
@@ -92,6 +93,15 @@ pub lfs_step : (s : List ℕ) (i : ℕ) → i < length s → lfs (drop i s) ≡ 
 unfolding lfs
 lfs_step s i h = rw (add-one, drop-cons s i 0 h)
 
+lfs_append : (a b : List ℕ) → lfs (a ++ b) ≡ lfs a + lfs b
+unfolding lfs
+lfs_append [] b = omega arith
+lfs_append (x ∷ a) b = omega (arith, lfs_append a b)
+
+-- the LFs of a block, and of what follows it
+pub lfs_parts : (n : ℕ) (s : List ℕ) → lfs s ≡ lfs (take n s) + lfs (drop n s)
+lfs_parts n s = rw (take-append-drop n s) at (lfs_append (take n s) (drop n s))
+
 pub lfs-past : (s : List ℕ) (i : ℕ) → length s ≤ i → lfs (drop i s) ≡ 0
 unfolding lfs
 lfs-past s i h = rw (drop_of_length-le s h)
@@ -127,3 +137,8 @@ module _ (s : List ℕ) (n : ℕ) (e : n ≡ lfs s) (some : length s ≡ 0 → �
 
   pub count_open : (get_or s (length s - 1) 0 ≡ lf → ⊥) → n + 1 ≡ line_count s
   count_open t = omega (arith, count_by false (ne_eqb (get_or s (length s - 1) 0) lf t))
+
+-- a test as the code's number
+pub bit_from : (b : Bool) → (from_bool b ≡ bit b) × (from_bool b ≤ 1)
+bit_from true = (refl, omega arith)
+bit_from false = (refl, omega arith)

@@ -6,9 +6,12 @@ use mathlib.Core.Path.{◌≡◌, refl, ap, ◌∙◌, subst}
 use mathlib.Core.List.{List, [], ◌∷◌}
 use mathlib.Core.Bool.{true}
 use lib.ListN.{length, drop, length-drop}
-use Rattle.lines.specs.Sheet.{after, line_count, laid_out, headed, body_at, content_of, content_after, content_seen, line_at, place_after, After}
+use Rattle.std.specs.Prelude.{Option, None, Some}
+use Rattle.laws.proofs.BoolLaws.{clash}
+use Rattle.lines.specs.declared.Line.{Line}
+use Rattle.lines.specs.Sheet.{after, next_of, line_count, laid_out, headed, body_at, content_of, content_after, content_seen, line_at, place_after, After}
 use Rattle.lines.proofs.LineLaws.{count_line}
-use Rattle.lines.proofs.SheetLaws.{line_ok, line_seen_lem}
+use Rattle.lines.proofs.SheetLaws.{none_fault, line_seen_lem}
 use Rattle.lines.proofs.SheetTheorems.{after-header, step_after}
 
 -- with no line there is no byte
@@ -20,16 +23,20 @@ none-empty (x ∷ l) z = absurd (let y = count_line (x ∷ l) (omega arith) in o
 abbrev pub LaidOut : List ℕ → ℕ → Type 0
 LaidOut s k = (i : ℕ) → i < k → laid_out (after (1 + i) s) ≡ true
 
+-- a line that is laid out leads to the place after it
+steps : (s : List ℕ) (at k : ℕ) → After s (1 + k) at → laid_out (drop at s) ≡ true → (o : Option Line) → o ≡ line_at s at → After s (1 + suc k) (next_of o)
+steps s at k p h None e = absurd (clash h (none_fault s at e))
+steps s at k p h (Some r) e = subst (λ (n : ℕ). After s n r.next) (omega arith) (step_after s (1 + k) at p r e)
+
 module _ (s : List ℕ) (h : headed s ≡ true) where
   -- from line 2 on, the reader stands after 1 + k lines when it has taken k
   pub stands : (k : ℕ) → LaidOut s k → After s (1 + k) (place_after s body_at k)
   unfolding place_after
   stands zero f = after-header s h
   stands (suc k) f =
-      let p = stands k (λ i g. f i (omega (arith, g))) in
       let at = place_after s body_at k in
-      let good : (line_at s at).ok ≡ true = line_ok s at ∙ ap laid_out p.here ∙ f k (omega arith) in
-      subst (λ (x : ℕ). After s x (line_at s at).next) (omega arith) (step_after s (1 + k) at p (line_at s at) refl good)
+      let p = stands k (λ i g. f i (omega (arith, g))) in
+      steps s at k p (ap laid_out p.here ∙ f k (omega arith)) (line_at s at) refl
 
   -- the line that it takes there is the sheet's
   pub reads-each : (k : ℕ) → LaidOut s k → content_seen s (line_at s (place_after s body_at k)) ≡ content_after (1 + k) s

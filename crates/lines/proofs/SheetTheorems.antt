@@ -12,12 +12,13 @@ use Rattle.laws.proofs.BoolLaws.{never}
 use Rattle.laws.proofs.TestLaws.{bit_le}
 use Rattle.tokens.specs.Text.{tab, lf}
 use Rattle.lines.specs.Sheet.{text_of, rest, after, count_from, line_count, warp_byte, warp_of, laid_out, Content, fault, laid, content_of, content_after, headed, body_at, line_at, After, content_seen}
+use Rattle.std.specs.Prelude.{Option, None, Some}
 use Rattle.lines.specs.declared.Line.{Line}
 use Rattle.lines.specs.Written.{Written}
 use Rattle.lines.proofs.LineLaws.{count_line, count_none}
 use Rattle.lines.proofs.LayoutLaws.{laid_parts}
 use Rattle.lines.proofs.HeaderLaws.{header-inside, header-after, header-counted}
-use Rattle.lines.proofs.SheetLaws.{fault-seen, laid-seen, line_seen_lem, line_inside, line_next, line_after, line_counted}
+use Rattle.lines.proofs.SheetLaws.{line_seen_lem, line_inside, line_next, line_after, line_counted}
 
 -- ---- a line
 
@@ -110,7 +111,7 @@ count-le l = count_from_le true l
 pub after-header : (s : List ℕ) → headed s ≡ true → After s 1 body_at
 after-header s h = record { inside = header-inside s h; here = header-after s h; counted = omega (arith, header-counted s h) }
 
-module _ (s : List ℕ) (k at : ℕ) (p : After s k at) (r : Line) (e : r ≡ line_at s at) where
+module _ (s : List ℕ) (k at : ℕ) (p : After s k at) where
   -- before the end there is one line more
   pub one_more : at < length s → k < line_count s
   one_more h = omega (arith, p.counted, count_line (drop at s) (omega (arith, length-drop at s)))
@@ -119,20 +120,17 @@ module _ (s : List ℕ) (k at : ℕ) (p : After s k at) (r : Line) (e : r ≡ li
   pub all_done : length s ≤ at → k ≡ line_count s
   all_done h = omega (arith, p.counted, count_none (drop at s) (omega (arith, length-drop at s)))
 
-  content_is : content_after k s ≡ content_seen s r
-  content_is = sym (ap (content_seen s) e ∙ (line_seen_lem s at ∙ ap content_of p.here))
+  content_is : (o : Option Line) → o ≡ line_at s at → content_after k s ≡ content_seen s o
+  content_is o e = sym (ap (content_seen s) e ∙ (line_seen_lem s at ∙ ap content_of p.here))
 
-  -- a line that is not ok is a layout fault
-  pub step_fault : r.ok ≡ false → content_after k s ≡ fault
-  step_fault h = content_is ∙ fault-seen s r h
+  -- where no line is found there is a layout fault
+  pub step_fault : None ≡ line_at s at → content_after k s ≡ fault
+  step_fault e = content_is None e
 
-  module _ (h : r.ok ≡ true) where
-    ok_there : (line_at s at).ok ≡ true
-    ok_there = ap (λ (l : Line). l.ok) (sym e) ∙ h
-
-    -- a line that is ok is its warp and the bytes of its statement
+  module _ (r : Line) (e : Some r ≡ line_at s at) where
+    -- a line is its warp and the bytes of its statement
     pub step_laid : content_after k s ≡ laid r.warp (take (r.end - r.start) (drop r.start s))
-    step_laid = content_is ∙ laid-seen s r h
+    step_laid = content_is (Some r) e
 
     pub step_warp : r.warp ≤ 3
     step_warp =
@@ -142,19 +140,16 @@ module _ (s : List ℕ) (k at : ℕ) (p : After s k at) (r : Line) (e : r ≡ li
     -- its statement is a part of the sheet, of at most 2,046 bytes
     pub step_part : (r.start ≤ r.end) × (r.end ≤ length s) × (r.end ≤ r.start + 2046)
     step_part =
-        let a = line_inside s at ok_there in
-        let b = line_next s at ok_there in
-        rw e (a.0, omega (arith, a.2, b), a.1)
+        let a = line_inside s at r e in
+        (a.0, omega (arith, a.2, line_next s at r e), a.1)
 
     -- the next line starts further on, and one line more is done
     pub step_more : at < r.next
-    step_more = rw e (line_inside s at ok_there).3
+    step_more = (line_inside s at r e).3
 
     pub step_after : After s (k + 1) r.next
-    step_after =
-        let z = ap (λ (l : Line). l.next) e in
-        record {
-          inside = rw e (line_inside s at ok_there).2;
-          here = rw (add-one, z) (line_after s at ok_there k p.here);
-          counted = let y : line_count (drop at s) ≡ suc (line_count (drop r.next s)) = rw z (line_counted s at ok_there) in omega (arith, p.counted);
-        }
+    step_after = record {
+      inside = (line_inside s at r e).2;
+      here = rw add-one (line_after s at r e k p.here);
+      counted = omega (arith, p.counted, line_counted s at r e);
+    }

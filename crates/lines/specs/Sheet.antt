@@ -1,5 +1,5 @@
 -- The sheet: its limits, its lines by number, and what a line is. Assumes nothing.
-use Rattle.std.specs.Prelude.{ℕ, zero, suc, ◌+◌, ◌-◌, ◌≤◌, ◌≡◌, List, [], ◌∷◌, Bool, true, false, ◌&&◌, ◌||◌, cond, length, get_or, take, drop, ltb, leb, eqb}
+use Rattle.std.specs.Prelude.{ℕ, zero, suc, ◌+◌, ◌-◌, ◌≤◌, ◌≡◌, List, [], ◌∷◌, Bool, true, ◌&&◌, ◌||◌, cond, Option, None, Some, length, get_or, take, drop, ltb, leb, eqb}
 use Rattle.laws.specs.Tests.{bit}
 use Rattle.tokens.specs.Text.{byte, bytes, tab, lf}
 use Rattle.tokens.specs.Bytes.{between, same_bytes, all}
@@ -106,23 +106,26 @@ oversize s = ltb most_bytes (length s) || ltb most_lines (line_count s)
 
 -- ---- places
 
-abbrev pub no_line : Line
-no_line = record { ok = false; warp = 0; start = 0; end = 0; next = 0 }
-
 -- the line that starts at a place, by the places of its statement and of the next line; a layout fault has none
-unfoldable pub line_at : List ℕ → ℕ → Line
+unfoldable pub line_at : List ℕ → ℕ → Option Line
 line_at s at =
     let l = drop at s in
-    cond (laid_out l) (record { ok = true; warp = warp_of (get_or l 0 0); start = at + 2; end = at + upto l; next = at + upto l + 1 }) no_line
+    cond (laid_out l) (Some (record { warp = warp_of (get_or l 0 0); start = at + 2; end = at + upto l; next = at + upto l + 1 })) None
+
+-- where the next line starts; a layout fault has no next line, and 0 stands for it
+abbrev pub next_of : Option Line → ℕ
+next_of None = 0
+next_of (Some r) = r.next
 
 -- where a reader stands after k lines from a place on: each line says where the next one starts
 unfoldable pub place_after : List ℕ → ℕ → ℕ → ℕ
 place_after s at zero = at
-place_after s at (suc k) = (line_at s (place_after s at k)).next
+place_after s at (suc k) = next_of (line_at s (place_after s at k))
 
 -- what a line found by places is
-unfoldable pub content_seen : List ℕ → Line → Content
-content_seen s r = cond r.ok (laid r.warp (take (r.end - r.start) (drop r.start s))) fault
+abbrev pub content_seen : List ℕ → Option Line → Content
+content_seen s None = fault
+content_seen s (Some r) = laid r.warp (take (r.end - r.start) (drop r.start s))
 
 -- a place stands after k lines of a sheet
 pub record After (s : List ℕ) (k at : ℕ) : Type 0 where

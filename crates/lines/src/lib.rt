@@ -1,10 +1,11 @@
 // Lines of a sheet: whether a sheet is too large, whether it begins with its header, and the line at a place.
 #![tactic(auto)]
 
-ghost use Rattle.std.specs.Prelude.{◌≡◌, true, cond, ◌+◌, ◌<◌, ◌≤◌, ◌^◌, length, get_or, take, drop};
-ghost use Rattle.laws.specs.Tests.{bit};
+ghost use Rattle.std.specs.Prelude.{◌≡◌, ◌+◌, ◌≤◌, cond, length, get_or, eqb};
+ghost use Rattle.std.specs.List.{prefix_len};
+ghost use Rattle.tokens.specs.Text.{lf};
 ghost use Rattle.tokens.specs.Bytes.{all, run_len};
-ghost use Rattle.lines.specs.Sheet.{upto, lfs, line_count, oversize, headed, warp_byte, warp_of, plain, laid_out, line_at};
+ghost use Rattle.lines.specs.Sheet.{lfs, line_count, oversize, headed, warp_byte, warp_of, plain, line_at};
 
 // The most bytes of a sheet.
 pub const BYTES: usize = 65536;
@@ -15,51 +16,25 @@ pub const LINES: usize = 4096;
 // The bytes of line 1, its LF among them: where line 2 starts.
 pub const HEADER: usize = 16;
 
-// A line after the first: its warp, where its statement starts and ends, and where the next line starts. Not ok: its
-// layout is wrong, and all numbers are 0.
+// A line after the first whose layout is right: its warp, where its statement starts and ends, and where the next line starts.
 #[derive(Clone, Copy)]
 pub struct Line {
-    pub ok: bool,
     pub warp: u8,
     pub start: usize,
     pub end: usize,
     pub next: usize,
 }
 
-fn one_if(n: u8, b: bool) -> u8
-    requires { n + 1 < 2 ^ 8 }
-    ensures { result ≡ n + bit b }
-{
-    if b { n + 1 } else { n }
-}
-
-// How many LFs there are from one place to another, at most 240 bytes on. The loop has no way out but its end and counts
-// in a byte: it is compiled to vector code.
-fn count_block(s: &[u8], from: usize, to: usize) -> u8
-    requires { (from ≤ to) × (to ≤ from + 240) × (to ≤ length s.now) }
-    ensures { (result + lfs (drop to s.now) ≡ lfs (drop from s.now)) × (result + from ≤ to) }
+// How many LFs at most 240 bytes have. The loop has no way out but its end and counts in a byte: it is compiled to vector code.
+fn count_block(block: &[u8]) -> u8
+    requires { length block.now ≤ 240 }
+    ensures { (result ≡ lfs block.now) × (result ≤ length block.now) }
 {
     let mut n: u8 = 0;
-    let mut i = from;
-    while i < to {
-        n = one_if(n, s[i] == b'\n');
-        i += 1;
+    for x in block {
+        n += u8::from(*x == b'\n');
     }
     n
-}
-
-fn wide(x: u8) -> usize
-    ensures { result ≡ x }
-{
-    x as usize
-}
-
-// The end of a block that starts inside n bytes.
-fn block_end(i: usize, n: usize) -> usize
-    requires { i < n }
-    ensures { (i < result) × (result ≤ n) × (result ≤ i + 240) }
-{
-    if n - i < 240 { n } else { i + 240 }
 }
 
 // How many LFs there are.
@@ -67,13 +42,12 @@ fn count_lfs(s: &[u8]) -> usize
     ensures { (result ≡ lfs s.now) × (result ≤ length s.now) }
 {
     let mut n: usize = 0;
-    let mut i: usize = 0;
-    while i < s.len() {
-        let end = block_end(i, s.len());
-        n = n + wide(count_block(s, i, end));
-        i = end;
+    let mut rest = s;
+    while let Some((block, more)) = rest.split_first_chunk::<240>() {
+        n += usize::from(count_block(block));
+        rest = more;
     }
-    n
+    n + usize::from(count_block(rest))
 }
 
 // How many lines there are: those that an LF ends, and one more where bytes follow the last LF.
@@ -100,39 +74,23 @@ pub fn size_fault(sheet: &[u8]) -> bool
     LINES < count_lines(sheet)
 }
 
-// The byte at a place, or 0 past the end.
-fn byte_at(s: &[u8], at: usize) -> u8
-    ensures { result ≡ get_or s.now at 0 }
-{
-    if at < s.len() { s[at] } else { 0 }
-}
-
 // Whether line 1 is the header.
 pub fn is_headed(sheet: &[u8]) -> bool
     ensures { result ≡ headed sheet.now }
 {
-    let h = b"sheet\t1\tsm_100a\n";
-    let mut i: usize = 0;
-    while i < HEADER {
-        if byte_at(sheet, i) != h[i] {
-            return false;
-        }
-        i += 1;
+    sheet.starts_with(b"sheet\t1\tsm_100a\n")
+}
+
+// The warp that a byte stands for, if it is a warp byte: * is warp 0.
+#[tactic(auto, unfolding(crate::specs::Sheet::warp_byte, crate::specs::Sheet::warp_of))]
+fn warp_of(b: u8) -> Option<u8>
+    ensures { result ≡ cond (warp_byte b) (Some (warp_of b)) None }
+{
+    match b {
+        b'*' => Some(0),
+        b'0'..=b'3' => Some(b - b'0'),
+        _ => None,
     }
-    true
-}
-
-fn is_warp(b: u8) -> bool
-    ensures { result ≡ warp_byte b }
-{
-    ((b'0' <= b) & (b <= b'3')) | (b == b'*')
-}
-
-fn warp_of(b: u8) -> u8
-    requires { warp_byte b ≡ true }
-    ensures { result ≡ warp_of b }
-{
-    if b == b'*' { 0 } else { b - b'0' }
 }
 
 fn is_plain(b: u8) -> bool
@@ -141,101 +99,73 @@ fn is_plain(b: u8) -> bool
     (b' ' <= b) & (b <= b'~')
 }
 
-// Whether the 16 bytes from a place on are all 32 to 126. No way out but the end: vector code.
-fn plain_block(s: &[u8], at: usize) -> bool
-    requires { at + 16 ≤ length s.now }
-    ensures { result ≡ all plain (take 16 (drop at s.now)) }
+// Whether 16 bytes are all 32 to 126. No way out but the end: vector code.
+fn plain_block(block: &[u8; 16]) -> bool
+    ensures { result ≡ all plain block.now }
 {
     let mut good = true;
-    let mut i: usize = 0;
-    while i < 16 {
-        good = good & is_plain(s[at + i]);
-        i += 1;
+    for x in block {
+        good = good & is_plain(*x);
     }
     good
 }
 
-// A place inside the run of bytes 32 to 126 from a place on, fewer than 16 bytes before its end or the sheet's.
-fn plain_blocks(s: &[u8], at: usize) -> usize
-    requires { at ≤ length s.now }
-    ensures { (result ≤ length s.now) × (result + run_len plain (drop result s.now) ≡ at + run_len plain (drop at s.now)) }
+// What is left after the blocks of 16 bytes 32 to 126 at the head.
+fn past_blocks<'a>(s: &'a [u8]) -> &'a [u8]
+    ensures { (length result.now ≤ length s.now) × (length result.now + run_len plain s.now ≡ length s.now + run_len plain result.now) }
 {
-    let mut i = at;
-    while 16 <= s.len() - i {
-        if !plain_block(s, i) {
-            return i;
+    let mut rest = s;
+    while let Some((block, more)) = rest.split_first_chunk::<16>() {
+        if !plain_block(block) {
+            return rest;
         }
-        i += 16;
+        rest = more;
     }
-    i
+    rest
 }
 
-// Where the run of bytes 32 to 126 ends that starts at a place.
-fn plain_end(s: &[u8], at: usize) -> usize
-    ensures { result ≡ at + run_len plain (drop at s.now) }
+// How many bytes 32 to 126 there are at the head, one by one.
+fn plain_count(s: &[u8]) -> usize
+    ensures { result ≡ prefix_len plain s.now }
 {
-    if s.len() < at {
-        return at;
-    }
-    let mut i = plain_blocks(s, at);
-    while i < s.len() {
-        if !is_plain(s[i]) {
-            return i;
-        }
-        i += 1;
-    }
-    i
+    s.iter().take_while(|b| is_plain(**b)).count()
 }
 
-// How many bytes the first line has before its LF if it is laid out, else 0. Between the tab and the LF each byte is
-// looked at once, in the last block of 16 at most twice.
-fn laid_length(l: &[u8]) -> usize
-    ensures { result ≡ cond (laid_out l.now) (upto l.now) 0 }
+// How many bytes 32 to 126 there are at the head. Each byte is looked at once, in the last block of 16 at most twice.
+fn plain_len(s: &[u8]) -> usize
+    ensures { result ≡ run_len plain s.now }
 {
-    let end = plain_end(l, 2);
-    let first = byte_at(l, 0);
-    let second = byte_at(l, 1);
-    let last = byte_at(l, end);
-    if is_warp(first) & (second == b'\t') & (last == b'\n') & (end <= 2048) {
-        end
-    } else {
-        0
-    }
+    let rest = past_blocks(s);
+    s.len() - rest.len() + plain_count(rest)
+}
+
+// Whether an LF stands at a place.
+fn lf_at(text: &[u8], at: usize) -> bool
+    ensures { result ≡ eqb (get_or text.now at 0) lf }
+{
+    matches!(text.get(at), Some(b'\n'))
 }
 
 // The line that starts at a place.
-fn find_line(s: &[u8], at: usize) -> Line
+fn find_line(s: &[u8], at: usize) -> Option<Line>
     ensures { result ≡ line_at s.now at }
 {
-    if s.len() <= at {
-        return Line {
-            ok: false,
-            warp: 0,
-            start: 0,
-            end: 0,
-            next: 0,
-        };
-    }
-    let n = laid_length(&s[at..]);
-    if n == 0 {
-        return Line {
-            ok: false,
-            warp: 0,
-            start: 0,
-            end: 0,
-            next: 0,
-        };
-    }
-    let warp = warp_of(s[at]);
-    let start = at + 2;
-    let end = at + n;
-    let after = end + 1;
-    Line {
-        ok: true,
-        warp,
-        start,
-        end,
-        next: after,
+    let (mark, text) = s.get(at..)?.split_first()?;
+    let warp = warp_of(*mark)?;
+    let (tab, text) = text.split_first()?;
+    let n = plain_len(text);
+    if (*tab == b'\t') & lf_at(text, n) & (n <= 2046) {
+        let start = at + 2;
+        let end = start + n;
+        let next = end + 1;
+        Some(Line {
+            warp,
+            start,
+            end,
+            next,
+        })
+    } else {
+        None
     }
 }
 
@@ -246,38 +176,31 @@ pub struct LineReader<'a> {
     pub at: usize,
 }
 
-pub fn new<'a>(src: &'a [u8], at: usize) -> LineReader<'a>
-    ensures { (result.src ≡ src.entry) × (result.at ≡ at) }
-{
-    LineReader { src, at }
+impl<'a> LineReader<'a> {
+    pub fn new(src: &'a [u8], at: usize) -> LineReader<'a>
+        ensures { (result.src ≡ src.entry) × (result.at ≡ at) }
+    {
+        LineReader { src, at }
+    }
+
+    // The line at the reader's place.
+    pub fn line(self) -> Option<Line>
+        ensures { result ≡ line_at self.entry.src.now self.entry.at }
+    {
+        find_line(self.src, self.at)
+    }
+
+    // The reader of the same sheet at another place, where its line says that the next one starts.
+    pub fn advance(self, at: usize) -> LineReader<'a>
+        ensures { (result.src ≡ self.entry.src) × (result.at ≡ at) }
+    {
+        LineReader { src: self.src, at }
+    }
 }
 
-// The line at the reader's place.
-pub fn next<'a>(r: LineReader<'a>) -> Line
-    ensures { result ≡ line_at r.entry.src.now r.entry.at }
-{
-    find_line(r.src, r.at)
-}
-
-// The reader of the same sheet at another place, where its line says that the next one starts.
-pub fn advance<'a>(r: LineReader<'a>, at: usize) -> LineReader<'a>
-    ensures { (result.src ≡ r.entry.src) × (result.at ≡ at) }
-{
-    LineReader { src: r.src, at }
-}
-
-// The line that starts at a place, and where the reader stands after it.
-pub fn line_at(sheet: &[u8], at: usize) -> Line
+// The line that starts at a place.
+pub fn line_at(sheet: &[u8], at: usize) -> Option<Line>
     ensures { result ≡ line_at sheet.now at }
 {
-    let r = new(sheet, at);
-    let line = next(r);
-    let after = advance(r, line.next);
-    Line {
-        ok: line.ok,
-        warp: line.warp,
-        start: line.start,
-        end: line.end,
-        next: after.at,
-    }
+    LineReader::new(sheet, at).line()
 }

@@ -1,6 +1,6 @@
 -- Runs of bytes that pass a test. Assumes nothing.
 use Prim.Native.Nat.{ℕ, zero, suc, ◌+◌, ◌<◌, ◌≤◌}
-use native.Mathlib.Numerals.{add-one}
+use native.Mathlib.Numerals.{add-one, one-add}
 use native.Mathlib.Nat.{add-zero, zero-add, suc-add}
 use native.Mathlib.Omega.{arith}
 use mathlib.Core.Path.{◌≡◌, refl, sym, ◌∙◌}
@@ -8,6 +8,7 @@ use mathlib.Core.List.{List, [], ◌∷◌, ◌++◌}
 use mathlib.Core.Bool.{Bool, true, false, cond}
 use lib.ListN.{length, get_or, take, drop, drop_of_length-le}
 use lib.Seq.{drop-cons}
+use Rattle.std.specs.List.{prefix_len}
 use Rattle.laws.proofs.BoolLaws.{and_split}
 use Rattle.tokens.specs.Bytes.{run_len, all}
 
@@ -29,6 +30,11 @@ run_le f (x ∷ l) = by (f x) (run_le f l)
     by : (b : Bool) → run_len f l ≤ length l → cond b (suc (run_len f l)) 0 ≤ suc (length l)
     by true h = omega arith
     by false h = omega arith
+
+-- a run is what `take_while` gives
+pub run_prefix : (f : ℕ → Bool) (l : List ℕ) → prefix_len f l ≡ run_len f l
+run_prefix f [] = refl
+run_prefix f (x ∷ l) = let e = run_prefix f l in rw (one-add, e) refl
 
 -- after a run no byte passes
 pub run_ends : (f : ℕ → Bool) (l : List ℕ) → run_len f (drop (run_len f l) l) ≡ 0

@@ -1,14 +1,12 @@
--- `lines::count_lfs` meets its contract: what is counted so far and the LFs from here on are together the LFs of all. Assumes nothing.
-use Prim.Native.Nat.{◌+◌, ◌-◌, ◌≤◌}
-use mathlib.Core.Path.{◌≡◌}
-use lib.ListN.{length, drop}
+-- `lines::count_lfs` meets its contract: what is counted so far and the LFs that are left are together the LFs of all. Assumes nothing.
+use Rattle.std.proofs.Common.{◌≡◌, ◌+◌, ◌≤◌, length}
 use Rattle.lines.specs.Sheet.{lfs}
 use Rattle.lines.proofs.count_lfs.Given as goal
 
--- the place is inside, the count is at most the place, and the count and the LFs from here on are those of all
-abbrev pub invariant-loop-i : goal.invariant-loop-i
-invariant-loop-i l = (l.i ≤ length l.s) × (l.n ≤ l.i) × (l.n + lfs (drop l.i l.s) ≡ lfs l.s)
+-- the count is at most the bytes looked at, and it and the LFs that are left are those of all
+abbrev pub invariant-loop-block : goal.invariant-loop-block
+invariant-loop-block l = (l.n + length l.rest ≤ length l.s) × (l.n + lfs l.rest ≡ lfs l.s)
 
 -- the bytes left
-abbrev pub decreases-loop-i : goal.decreases-loop-i
-decreases-loop-i l = length l.s - l.i
+abbrev pub decreases-loop-block : goal.decreases-loop-block
+decreases-loop-block l = length l.rest

@@ -1,32 +1,47 @@
--- `lines::find_line` meets its contract: the line at a place is the first line of the slice from there on. Assumes nothing.
-use native.Mathlib.Omega.{arith}
-use Rattle.lines.proofs.SheetLaws.{from_here, find_past, find_none, find_two, find_warp, find-some}
+-- `lines::find_line` meets its contract: the tests made of what is left at the place are those of the layout. Assumes nothing.
+use Rattle.std.proofs.Common.{◌≡◌, ℕ, ◌-◌, Bool, true, false, cond, List, ◌∷◌, Some, None, length, take, drop, refl, sym, ◌∙◌, arith}
+use Rattle.std.proofs.lemmas.Option.{none-some, cond_some}
+use Rattle.std.proofs.lemmas.Slice.{between_to_end}
+use Rattle.lines.specs.Sheet.{warp_byte}
+use Rattle.lines.proofs.SheetLaws.{none_left, none_warp, none_one, none_tests, some_line}
 use Rattle.lines.proofs.find_line.Goals as goal
 
-pub returns-then-s-at : goal.returns-then-s-at
-returns-then-s-at c = find_past c.args.s.now c.args.at c.if-s-at.true
+-- a byte without a warp is no warp byte
+no_mark : (b : Bool) (w : ℕ) → None ≡ cond b (Some w) None → b ≡ false
+no_mark true w e = absurd (none-some w e)
+no_mark false w e = refl
 
-pub returns-then-n-eq0 : goal.returns-then-n-eq0
-returns-then-n-eq0 c =
-    let a = c.args in
-    find_none a.s.now a.at _ _ (from_here a.s.now a.at) c.laid_length-n.ensures c.if-n-eq0.true
+pub returns-in_err-get : goal.returns-in_err-get
+returns-in_err-get c = c.from_residual.ensures ∙ none_left c.args.s.now c.args.at (omega (arith, c.in_err-get.ensures.lookup.0))
 
-pub warp_of-warp-requires : goal.warp_of-warp-requires
-warp_of-warp-requires c =
-    let a = c.args in
-    find_warp a.s.now a.at _ _ (from_here a.s.now a.at) c.laid_length-n.ensures c.if-n-eq0.false
+pub returns-in_err-mark : goal.returns-in_err-mark
+returns-in_err-mark c =
+    c.from_residual-in_err-mark.ensures
+    ∙ none_left c.args.s.now c.args.at (omega (arith, c.in_err-mark.ensures.cases, c.in_ok-get.ensures.lookup.0))
 
-pub overflow_add-end : goal.overflow_add-end
-overflow_add-end c =
-    let a = c.args in
-    omega (arith, (find_two a.s.now a.at _ _ (from_here a.s.now a.at) c.laid_length-n.ensures c.if-n-eq0.false).1)
+-- what is left at the place, by its first byte
+left : (s l m : List ℕ) (at x : ℕ) → l ≡ take (length s - at) (drop at s) → l ≡ x ∷ m → drop at s ≡ x ∷ m
+left s l m at x e d = sym (between_to_end s at (length s) (omega arith)) ∙ sym e ∙ d
 
-pub overflow_add-after : goal.overflow_add-after
-overflow_add-after c =
-    let a = c.args in
-    omega (arith, (find_two a.s.now a.at _ _ (from_here a.s.now a.at) c.laid_length-n.ensures c.if-n-eq0.false).1)
+pub returns-in_err-warp : goal.returns-in_err-warp
+returns-in_err-warp c =
+    let d = left c.args.s.now _ _ c.args.at _ c.in_ok-get.ensures.lookup.0.2 c.in_ok-mark.ensures.cases.0 in
+    c.from_residual-in_err-warp.ensures ∙ none_warp _ c.args.at _ _ d (no_mark _ _ c.in_err-warp.ensures)
 
-pub returns : goal.returns
-returns c =
-    let a = c.args in
-    find-some a.s.now a.at _ _ (from_here a.s.now a.at) c.laid_length-n.ensures c.if-n-eq0.false _ c.warp_of-warp.ensures
+pub returns-in_err-tab : goal.returns-in_err-tab
+returns-in_err-tab c =
+    let d = left c.args.s.now _ _ c.args.at _ c.in_ok-get.ensures.lookup.0.2 c.in_ok-mark.ensures.cases.0 in
+    c.from_residual-in_err-tab.ensures ∙ none_one _ c.args.at _ _ d c.in_err-tab.ensures.cases
+
+pub returns-then-tab-lf_at : goal.returns-then-tab-lf_at
+returns-then-tab-lf_at c =
+    let d = left c.args.s.now _ _ c.args.at _ c.in_ok-get.ensures.lookup.0.2 c.in_ok-mark.ensures.cases.0 in
+    let w = cond_some (warp_byte c.in_ok-mark.mark.now) _ _ (sym c.in_ok-warp.ensures) in
+    rw (← w.1)
+    (some_line _ c.args.at _ _ d _ _ c.in_ok-tab.ensures.cases.0 w.0 _ c.plain_len-n.ensures true (rw c.lf_at.ensures at c.if-tab-lf_at.true) refl)
+
+pub returns-else-tab-lf_at : goal.returns-else-tab-lf_at
+returns-else-tab-lf_at c =
+    let d = left c.args.s.now _ _ c.args.at _ c.in_ok-get.ensures.lookup.0.2 c.in_ok-mark.ensures.cases.0 in
+    let w = cond_some (warp_byte c.in_ok-mark.mark.now) _ _ (sym c.in_ok-warp.ensures) in
+    none_tests _ c.args.at _ _ d _ _ c.in_ok-tab.ensures.cases.0 w.0 _ c.plain_len-n.ensures false (rw c.lf_at.ensures at c.if-tab-lf_at.false) refl
