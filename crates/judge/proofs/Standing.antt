@@ -9,8 +9,10 @@ use lib.Dec.{ltb, eqb}
 use lib.ListN.{length, take, drop}
 use lib.Seq.{sets-eq, length-sets, take-append_seam}
 use borrow.Author.Tests.{eq-eqb, ne_eqb, lt-ltb, le-ltb}
-use Rattle.lines.specs.Sheet.{Content, fault, laid, content_after, after, content_of, line_at, line_count, headed, body_at, After}
-use Rattle.lines.proofs.SheetLaws.{fault-seen, line_seen_lem}
+use Rattle.std.specs.Prelude.{Option, None, Some}
+use Rattle.lines.specs.declared.Line as lines
+use Rattle.lines.specs.Sheet.{Content, fault, laid, content_after, content_seen, after, content_of, line_at, next_of, line_count, headed, body_at, After}
+use Rattle.lines.proofs.SheetLaws.{line_seen_lem}
 use Rattle.lines.proofs.SheetTheorems.{after-header, one_more, all_done, step_more, step_after}
 use Rattle.laws.specs.Rules.{first_broken}
 use Rattle.statement.specs.declared.Position.{Position}
@@ -99,14 +101,14 @@ module _ (s first given : List ℕ) (a : Arrays) (p : Progress) (at : ℕ) (g : 
   column_now q = ap (λ (c : Content). column_in c q) (line_seen_lem s at ∙ ap content_of g.here.here ∙ ap (λ (n : ℕ). content_of (after n s)) g.going.line_is)
 
   -- a layout fault is refused
-  fault_2 : (line_at s at).ok ≡ false → reason_by ours (lines_of s) k ≡ 2
+  fault_2 : None ≡ line_at s at → reason_by ours (lines_of s) k ≡ 2
   unfolding reason_by
-  fault_2 e = ap (λ (x : Line). first_broken (line_rules lowest (state_after (lines_of s) k) (held_after (lines_of s) k) x)) (line_now ∙ ap seen (fault-seen s (line_at s at) e))
+  fault_2 e = ap (λ (x : Line). first_broken (line_rules lowest (state_after (lines_of s) k) (held_after (lines_of s) k) x)) (line_now ∙ ap (λ (o : Option lines.Line). seen (content_seen s o)) (sym e))
 
   -- ---- one line
   module _ (t : at < length s) where
     inside : k < line_count s - 1
-    inside = omega (arith, one_more s p.line at g.here (line_at s at) refl t, g.going.line_is)
+    inside = omega (arith, one_more s p.line at g.here t, g.going.line_is)
 
     pub ready : line_count s ≤ 4096 → length first ≡ 4096 → Ready (line_seen s at) given a p
     ready c e = record {
@@ -152,30 +154,33 @@ module _ (s first given : List ℕ) (a : Arrays) (p : Progress) (at : ℕ) (g : 
 
       -- accepted
       module _ (z : r.reason ≡ 0) where
-        ok : (line_at s at).ok ≡ true
-        ok = by (line_at s at).ok refl
-          where
-            by : (b : Bool) → (line_at s at).ok ≡ b → b ≡ true
-            by true e = refl
-            by false e = absurd (omega (arith, z, gives.reasons, fault_2 e))
+        found : (o : Option lines.Line) → o ≡ line_at s at → (r : lines.Line) × (Some r ≡ line_at s at)
+        found None e = absurd (omega (arith, z, gives.reasons, fault_2 e))
+        found (Some r) e = (r, e)
 
-        pub goes : (n : ℕ) → n ≡ (line_at s at).next → at < n
-        goes n e = omega (arith, e, step_more s p.line at g.here (line_at s at) refl ok)
+        abbrev line : lines.Line
+        line = (found (line_at s at) refl).0
 
-        pub goes_on : (n : ℕ) → n ≡ (line_at s at).next → Standing s first next_given next r.progress n
+        line_is : Some line ≡ line_at s at
+        line_is = (found (line_at s at) refl).1
+
+        pub goes : (n : ℕ) → n ≡ next_of (line_at s at) → at < n
+        goes n e = omega (arith, e ∙ ap next_of (sym line_is), step_more s p.line at g.here line line_is)
+
+        pub goes_on : (n : ℕ) → n ≡ next_of (line_at s at) → Standing s first next_given next r.progress n
         goes_on n e =
             let more = gives.goes_on z in
             let l : p.line + 1 ≡ r.progress.line = omega (arith, g.going.line_is, more.line_is) in
             record {
               done = suc k;
               going = more;
-              here = subst (λ (x : ℕ). After s r.progress.line x) (sym e) (subst (λ (x : ℕ). After s x (line_at s at).next) l (step_after s p.line at g.here (line_at s at) refl ok));
+              here = subst (λ (x : ℕ). After s r.progress.line x) (ap next_of line_is ∙ sym e) (subst (λ (x : ℕ). After s x line.next) l (step_after s p.line at g.here line line_is));
             }
 
   -- ---- at the end
   module _ (t : length s ≤ at) where
     done_all : k ≡ line_count s - 1
-    done_all = omega (arith, all_done s p.line at g.here (line_at s at) refl t, g.going.line_is)
+    done_all = omega (arith, all_done s p.line at g.here t, g.going.line_is)
 
     pub ends-count : p.requests ≡ length (starts_of (sheet_of s))
     ends-count = g.going.requests_is ∙ ap (λ (j : ℕ). length (starts_up_to (lines_of s) j)) done_all

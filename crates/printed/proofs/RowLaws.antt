@@ -22,6 +22,7 @@ use Rattle.statement.specs.Views.{Ask, request_in, request_of, of}
 use Rattle.statement.proofs.Readings.{Unread}
 use Rattle.statement.proofs.Variants.{all_but, at_each}
 use Rattle.lines.specs.Sheet.{Content, laid, content_after, line_count, line_at, headed, body_at, After}
+use Rattle.std.specs.Prelude.{Some}
 use Rattle.lines.specs.declared.Line as found
 use Rattle.lines.proofs.SheetTheorems.{after-header, one_more, all_done, step_laid, step_after}
 use Rattle.rules.specs.Sheet.{Line, act_in, line_of}
@@ -147,28 +148,28 @@ upto_first s starts old from h = record { lines = 0; place = after-header s h; r
 pub upto_last : (s starts old : List ℕ) (from at next k : ℕ) (room : List ℕ) → Upto s starts old from at next k room → length s ≤ at
     → (next ≡ from + length (rows_text (rows_up_to (lines_of s) starts (line_count s - 1)))) × (room ≡ sets old from (rows_text (rows_up_to (lines_of s) starts (line_count s - 1))))
 upto_last s starts old from at next k room u h =
-    let z : u.lines ≡ line_count s - 1 = omega (arith, all_done s (suc u.lines) at u.place (line_at s at) refl h) in
+    let z : u.lines ≡ line_count s - 1 = omega (arith, all_done s (suc u.lines) at u.place h) in
     subst (λ (n : ℕ). (next ≡ from + length (rows_text (rows_up_to (lines_of s) starts n))) × (room ≡ sets old from (rows_text (rows_up_to (lines_of s) starts n)))) z (u.ends, u.holds)
 
-module _ (s starts old room : List ℕ) (from at next k : ℕ) (u : Upto s starts old from at next k room) (r : found.Line) (e : r ≡ line_at s at) where
+module _ (s starts old room : List ℕ) (from at next k : ℕ) (u : Upto s starts old from at next k room) where
   abbrev done : List Reported
   done = rows_up_to (lines_of s) starts u.lines
 
   pub lines_below : at < length s → u.lines < line_count s - 1
-  lines_below h = omega (arith, one_more s (suc u.lines) at u.place r e h)
+  lines_below h = omega (arith, one_more s (suc u.lines) at u.place h)
 
   -- rows so far are fewer than the lines
   pub rows-below : at < length s → k < line_count s - 1
   rows-below h = omega (arith, u.rows, rows-count (lines_of s) starts u.lines, lines_below h)
 
-  module _ (ok : r.ok ≡ true) (a : Asked) (f : a ≡ alloc_in (read_of (take (r.end - r.start) (drop r.start s)))) where
+  module _ (r : found.Line) (e : Some r ≡ line_at s at) (a : Asked) (f : a ≡ alloc_in (read_of (take (r.end - r.start) (drop r.start s)))) where
     here : (x : ℕ) → row_of (lines_of s u.lines) x ≡ row_by a x
     here x =
-        content_row s u.lines r.warp (take (r.end - r.start) (drop r.start s)) x (step_laid s (suc u.lines) at u.place r e ok)
+        content_row s u.lines r.warp (take (r.end - r.start) (drop r.start s)) x (step_laid s (suc u.lines) at u.place r e)
         ∙ ap (λ (b : Asked). row_by b x) (sym f)
 
     next_place : After s (suc (suc u.lines)) r.next
-    next_place = subst (λ (n : ℕ). After s n r.next) (add-one (suc u.lines)) (step_after s (suc u.lines) at u.place r e ok)
+    next_place = subst (λ (n : ℕ). After s n r.next) (add-one (suc u.lines)) (step_after s (suc u.lines) at u.place r e)
 
     -- no alloc: nothing is put
     pub upto_other : a.ok ≡ false → Upto s starts old from r.next next k room

@@ -88,10 +88,9 @@ fn rows(sheet: &[u8], starts: &[u16], room: &mut [u8], from: usize) -> usize
     let mut next = from;
     let mut k: usize = 0;
     while at < sheet.len() {
-        let l = lines::line_at(sheet, at);
-        if !l.ok {
+        let Some(l) = lines::line_at(sheet, at) else {
             return next;
-        }
+        };
         let begin = l.start;
         let end = l.end;
         let a = alloc_in(&sheet[begin..end]);

@@ -8,8 +8,9 @@ use lib.ListN.{length, take, drop}
 use lib.Dec.{eqb}
 use borrow.Author.Tests.{lt-ltb, eqb-true, eqb-false}
 use Rattle.lines.specs.declared.Line as lines
-use Rattle.lines.specs.Sheet.{Content, laid, content_seen, line_at}
-use Rattle.lines.proofs.SheetLaws.{fault-seen, laid-seen, line_seen_lem, line_inside, line_next}
+use Rattle.std.specs.Prelude.{Option, None, Some}
+use Rattle.lines.specs.Sheet.{Content, laid, content_seen, line_at, next_of}
+use Rattle.lines.proofs.SheetLaws.{line_seen_lem, line_inside, line_next}
 use Rattle.lines.proofs.SheetTheorems.{read_written, warp_below}
 use Rattle.laws.specs.Rules.{first_broken}
 use Rattle.statement.specs.declared.Statement.{Statement}
@@ -97,39 +98,34 @@ module _ (s : State) (held w : ℕ) (t : Statement) (h : w < 4) where
       ∙ sym after_warp.1
       ∙ sym (ap (λ (x : Line). first_position (line_rows lowest s held x)) z))
 
-module _ (s : List ℕ) (at held : ℕ) (l : lines.Line) (e : l ≡ line_at s at) where
-  abbrev text : List ℕ
-  text = take (l.end - l.start) (drop l.start s)
-
-  pub next-is : (n : ℕ) → n ≡ l.next → n ≡ (line_at s at).next
-  next-is n f = f ∙ ap (λ (x : lines.Line). x.next) e
-
+module _ (s : List ℕ) (at held : ℕ) where
   -- its layout is wrong
-  pub fault-done : l.ok ≡ false → (a : Arrays) (status : Status) (r : Step) → r ≡ only status 2 → LineDone held (line_seen s at) a status r a
-  fault-done h a status r f =
-      let q : bad_layout ≡ line_seen s at = ap seen (sym (fault-seen s l h) ∙ ap (content_seen s) e) in
-      subst (λ (x : Line). LineDone held x a status r a) q (refused_done held bad_layout 2 (λ s. refl) (λ z. omega (arith, z)) a status r f)
+  module _ (e : None ≡ line_at s at) where
+    pub fault-done : (a : Arrays) (status : Status) (r : Step) → r ≡ only status 2 → LineDone held (line_seen s at) a status r a
+    fault-done a status r f =
+        let q : bad_layout ≡ line_seen s at = ap (λ (o : Option lines.Line). seen (content_seen s o)) e in
+        subst (λ (x : Line). LineDone held x a status r a) q (refused_done held bad_layout 2 (λ s. refl) (λ z. omega (arith, z)) a status r f)
 
-  -- it is refused at its start, whatever the position
-  fault_column : l.ok ≡ false → (p : Position) → 1 ≡ column_seen s at p
-  fault_column h p = ap (λ (x : Content). column_in x p) (sym (fault-seen s l h) ∙ ap (content_seen s) e)
+    -- it is refused at its start, whatever the position
+    pub fault_points : (a : Arrays) (status : Status) (r : Step) → r ≡ only status 2 → (c : ℕ) → c ≡ 1
+        → ColumnDone held (line_seen s at) (column_seen s at) a status r.reason c
+    fault_points a status r f c q state k =
+        let z : r.reason ≡ 2 = ap (λ (x : Step). x.reason) f in
+        rw z (q ∙ ap (λ (o : Option lines.Line). column_in (content_seen s o) (first_position (line_rows lowest state held (line_seen s at)))) e)
 
-  pub fault_points : l.ok ≡ false → (a : Arrays) (status : Status) (r : Step) → r ≡ only status 2 → (c : ℕ) → c ≡ 1
-      → ColumnDone held (line_seen s at) (column_seen s at) a status r.reason c
-  fault_points h a status r f c q state k =
-      let z : r.reason ≡ 2 = ap (λ (x : Step). x.reason) f in
-      rw z (q ∙ fault_column h (first_position (line_rows lowest state held (line_seen s at))))
+  module _ (l : lines.Line) (e : Some l ≡ line_at s at) where
+    abbrev text : List ℕ
+    text = take (l.end - l.start) (drop l.start s)
 
-  module _ (h : l.ok ≡ true) where
-    ok_there : (line_at s at).ok ≡ true
-    ok_there = ap (λ (x : lines.Line). x.ok) (sym e) ∙ h
+    pub next-is : (n : ℕ) → n ≡ l.next → n ≡ next_of (line_at s at)
+    next-is n f = f ∙ ap next_of e
 
     -- its statement is a part of the sheet
     pub part : (l.start ≤ l.end) × (l.end ≤ length s)
-    part = let a = line_inside s at ok_there in let b = line_next s at ok_there in rw e (a.0, omega (arith, a.2, b))
+    part = let a = line_inside s at l e in (a.0, omega (arith, a.2, line_next s at l e))
 
     content_is : content_seen s (line_at s at) ≡ laid l.warp text
-    content_is = ap (content_seen s) (sym e) ∙ laid-seen s l h
+    content_is = ap (content_seen s) (sym e)
 
     line_is : (reading : Reading) → reading ≡ read_of text → line_of l.warp reading ≡ line_seen s at
     line_is reading f = ap (line_of l.warp) f ∙ ap seen (sym content_is)

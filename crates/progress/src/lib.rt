@@ -2,7 +2,7 @@
 #![tactic(auto)]
 
 ghost use Rattle.std.specs.Prelude.{◌≡◌, cond, ◌+◌, ◌-◌, ◌%◌, ◌≤◌, ◌<◌, max, eqb, length, set};
-ghost use Rattle.lines.specs.Sheet.{most_lines, line_at};
+ghost use Rattle.lines.specs.Sheet.{most_lines, line_at, next_of};
 ghost use Rattle.steps.specs.Steps.{arrays_now, arrays_in, arrays_out, only, Sized, LineDone};
 ghost use Rattle.progress.specs.Going.{opening, line_seen, column_seen, TextBlamed, ColumnDone, passed_by, counted_of, Small, Ready, Went};
 
@@ -121,12 +121,11 @@ fn step(
         (arrays_out hi lo columns value_hi value_lo numbers widths words.new) }
     ensures column { ColumnDone held (line_seen sheet.now at) (column_seen sheet.now at) (arrays_in hi lo columns value_hi value_lo numbers widths words.old) status
         result.step.reason result.column }
-    ensures next { result.next ≡ (line_at sheet.now at).next }
+    ensures next { result.next ≡ next_of (line_at sheet.now at) }
 {
-    let line = lines::line_at(sheet, at);
-    if !line.ok {
-        return refused(reasons::LAYOUT, 1, status, line.next);
-    }
+    let Some(line) = lines::line_at(sheet, at) else {
+        return refused(reasons::LAYOUT, 1, status, 0);
+    };
     let start = line.start;
     let end = line.end;
     let reading = reader::read(&sheet[start..end]);
@@ -239,7 +238,7 @@ pub fn advance(
     requires { Ready (line_seen sheet.now at) given.old (arrays_now hi lo columns value_hi value_lo numbers widths words.old) p }
     ensures went { Went (line_seen sheet.now at) (column_seen sheet.now at) given.old (arrays_in hi lo columns value_hi value_lo numbers widths words.old) p result given.new
         (arrays_out hi lo columns value_hi value_lo numbers widths words.new) }
-    ensures next { result.next ≡ (line_at sheet.now at).next }
+    ensures next { result.next ≡ next_of (line_at sheet.now at) }
 {
     let status = p.status;
     let done = step(
