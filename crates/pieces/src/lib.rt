@@ -1,10 +1,14 @@
 // Pieces of a text that is written: bytes stored in a buffer, and the digits of a number, decimal or at base 256.
 #![tactic(auto)]
 
+mod text;
+
 ghost use Rattle.std.specs.Prelude.{◌≡◌, ◌+◌, ◌≤◌, length, take, drop};
 ghost use Rattle.std.proofs.lemmas.List.Edits.{sets};
 ghost use Rattle.tokens.specs.Names.{low_bytes, strip};
 ghost use Rattle.tokens.specs.Numbers.{decimal};
+
+pub use text::Text;
 
 // The bytes w, from a place on; answers the place after them.
 pub fn fill(room: &mut [u8], at: usize, w: &[u8]) -> usize

@@ -121,19 +121,14 @@ pub fn print(sheet: &[u8], room: &mut [u8]) -> Printed
     let mut starts = [0u16; lines::LINES];
     let judged = judge::judge(sheet, &mut starts);
     let reason = judged.answer.reason;
-    let line = judged.answer.line as u64;
-    let column = judged.answer.column as u64;
-    let held = judged.answer.held;
-    let peak = judged.answer.peak;
-    let at = report::head(
-        &mut *room,
-        0,
-        wider(reason),
-        line,
-        column,
-        wider(held),
-        wider(peak),
-    );
+    let figures = report::Figures {
+        reason: wider(reason),
+        line: judged.answer.line as u64,
+        column: judged.answer.column as u64,
+        held: wider(judged.answer.held),
+        peak: wider(judged.answer.peak),
+    };
+    let at = report::head(&mut *room, 0, figures);
     if reason != reasons::PASSED {
         return Printed { reason, length: at };
     }
