@@ -1,5 +1,6 @@
 -- The names that reading leaves in two arrays are those of the registers: their count is the statement's, and at most 128, since what reads can be
 -- written. Assumes nothing.
+use Rattle.std.specs.Prelude.{Ok}
 use Prim.Native.Nat.{ℕ, ◌+◌, ◌≤◌}
 use mathlib.Core.Path.{◌≡◌, refl, ap, ap₂, sym, ◌∙◌}
 use mathlib.Core.List.{List, [], ◌∷◌, map}
@@ -15,7 +16,6 @@ use Rattle.tokens.specs.declared.Name.{Name}
 use Rattle.statement.specs.declared.Access.{Access}
 use Rattle.statement.specs.declared.Statement.{Statement}
 use Rattle.statement.specs.declared.Statement.TheVariants as s
-use Rattle.statement.specs.declared.Reading.TheVariants.{Got}
 use Rattle.statement.specs.Canonical.{count_of, given, row_given, slot_given, address_given}
 use Rattle.statement.specs.Forms.{names}
 use Rattle.statement.proofs.Bound.{names_few}
@@ -60,7 +60,7 @@ unfolding Few
 most t = all_few t
 
 -- what reads can be written
-can : (text : List ℕ) (t : Statement) → read_of text ≡ Got t → given t (registers_of text) ≡ true
+can : (text : List ℕ) (t : Statement) → read_of text ≡ Ok t → given t (registers_of text) ≡ true
 can text t e = (writable t (registers_of text)).exactly.1 (text, (e, refl))
 
 -- one number of each name, found in an array that they were written to
@@ -68,7 +68,7 @@ half : (f : Name → ℕ) (ns : List Name) (x xs : List ℕ) (k : ℕ) → k ≡
 half f ns x xs k c m p e = ap₂ take (c ∙ sym (length-map ns f)) e ∙ front x (map f ns) (rw (length-map ns f, p) m)
 
 -- the names found in the arrays, as many as the statement says
-pub found : (text : List ℕ) (t : Statement) (x y hs ls : List ℕ) → read_of text ≡ Got t → length x ≡ 128 → length y ≡ 128
+pub found : (text : List ℕ) (t : Statement) (x y hs ls : List ℕ) → read_of text ≡ Ok t → length x ≡ 128 → length y ≡ 128
     → hs ≡ sets x 0 (his (registers_of text)) → ls ≡ sets y 0 (los (registers_of text))
     → paired (take (count_of t) hs) (take (count_of t) ls) ≡ registers_of text
 found text t x y hs ls e p q h l =

@@ -3,56 +3,45 @@
 
 ghost use Rattle.std.specs.Prelude.{◌≡◌, length};
 ghost use Rattle.statement.specs.Reading.{read_of, registers_of};
-ghost use Rattle.statement.specs.declared.Reading.{Reading};
 ghost use Rattle.writer.specs.Outputs.{written_of, left_by};
-ghost use Rattle.canonical.specs.Alone.{alone_of, rewritten, left_of};
+ghost use Rattle.canonical.specs.Alone.{alone_of, alone_in, rewritten, left_of};
 
-use statement::{Reading, Statement, Written};
+use reasons::Reason;
+use statement::{Misread, Statement};
 
-// The reason of a text, and the column that it is found in, from 1; 0 and 0 for a good one.
-#[derive(Clone, Copy)]
-pub struct Alone {
-    pub reason: u32,
+// Why a text is refused, and the column that it is found in, from 1.
+#[derive(Clone, Copy, Debug, PartialEq, Eq)]
+pub struct Refusal {
+    pub reason: Reason,
     pub column: usize,
 }
 
 // Of a statement: 5 at the opcode for a load or a store whose N or count of registers is wrong.
-fn judge_count(t: Statement) -> Alone
-    ensures { result ≡ alone_of (Reading.Got t) }
+fn judge_count(t: Statement) -> Result<(), Refusal>
+    ensures { alone_in result ≡ alone_of (Ok t) }
 {
     if cells::is_counted(t) {
-        Alone {
-            reason: reasons::PASSED,
-            column: 0,
-        }
+        Ok(())
     } else {
-        Alone {
-            reason: reasons::REGISTERS,
+        Err(Refusal {
+            reason: Reason::Registers,
             column: 1,
-        }
+        })
     }
 }
 
 // Of a text: 3 or 4 if it does not read, with the place of the token or of the number.
-pub fn judge_text(text: &[u8]) -> Alone
-    ensures { result ≡ alone_of (read_of text.now) }
+pub fn judge_text(text: &[u8]) -> Result<(), Refusal>
+    ensures { alone_in result ≡ alone_of (read_of text.now) }
 {
-    let t = reader::read(text);
-    match t {
-        Reading::Got(s) => judge_count(s),
-        Reading::NoForm(at) => {
-            let column = at + 1;
-            Alone {
-                reason: reasons::FORM,
+    match reader::read(text) {
+        Ok(t) => judge_count(t),
+        Err(misread) => {
+            let column = misread.place() + 1;
+            Err(Refusal {
+                reason: misread.reason(),
                 column,
-            }
-        }
-        Reading::TooLarge(at) => {
-            let column = at + 1;
-            Alone {
-                reason: reasons::NUMBER,
-                column,
-            }
+            })
         }
     }
 }
@@ -64,8 +53,8 @@ fn rewrite_in(
     hi: &mut [u64; 128],
     lo: &mut [u64; 128],
     room: &mut [u8],
-) -> Written
-    requires { (read_of text.now ≡ Reading.Got t) × (length hi.old ≡ 128) × (length lo.old ≡ 128) }
+) -> Result<usize, Reason>
+    requires { (read_of text.now ≡ Ok t) × (length hi.old ≡ 128) × (length lo.old ≡ 128) }
     ensures answer { result ≡ written_of (length room.old) t (registers_of text.now) }
     ensures left { room.new ≡ left_by room.old t (registers_of text.now) }
 {
@@ -75,15 +64,12 @@ fn rewrite_in(
 
 // The canonical text of a statement in the first places of a room, and how long it is; a text that does not read gives
 // its reason, too little room 19, and the room is unchanged then.
-pub fn rewrite(text: &[u8], room: &mut [u8]) -> Written
+pub fn rewrite(text: &[u8], room: &mut [u8]) -> Result<usize, Reason>
     ensures answer { result ≡ rewritten (length room.old) (read_of text.now) (registers_of text.now) }
     ensures left { room.new ≡ left_of room.old (read_of text.now) (registers_of text.now) }
 {
-    let t = reader::read(text);
-    let Reading::Got(s) = t else {
-        return Written::Refused(reader::reason(t));
-    };
+    let t = reader::read(text).map_err(Misread::reason)?;
     let mut hi = [0u64; 128];
     let mut lo = [0u64; 128];
-    rewrite_in(text, s, &mut hi, &mut lo, room)
+    rewrite_in(text, t, &mut hi, &mut lo, room)
 }

@@ -1,5 +1,5 @@
 -- A text reads as a statement exactly where it spells it: its opcode's word is recognised, and its row of operands is read to its end. Assumes nothing.
-use Rattle.std.specs.Prelude.{Option, Some, None}
+use Rattle.std.specs.Prelude.{Option, Some, None, Ok, Err}
 use Prim.Native.Nat.{ℕ, ◌-◌, ◌≤◌, ◌<◌}
 use native.Mathlib.Omega.{arith}
 use mathlib.Core.Path.{◌≡◌, refl, sym, ap, ◌∙◌, path_j}
@@ -15,10 +15,10 @@ use Rattle.tokens.specs.Cursors.{Rest, Took}
 use Rattle.statement.specs.declared.Operand.TheVariants as operand
 use Rattle.statement.specs.declared.Statement.{Statement}
 use Rattle.statement.specs.declared.Opcode.{Opcode}
-use Rattle.statement.specs.declared.Reading.TheVariants.{Got, NoForm}
+use Rattle.statement.specs.declared.Misread.TheVariants.{NoForm}
 use Rattle.statement.specs.Forms.{word, Slot, name, number, in_brackets, address, operand, names, Value, Values, max_offset, row, Whole, make}
 use Rattle.statement.specs.Opcodes.{recognise}
-use Rattle.statement.specs.Reading.{operands_c, start, whole_by, opcode_len, whole_c, answer_of, read_of, reason_of, registers_of}
+use Rattle.statement.specs.Reading.{Reading, operands_c, start, whole_by, opcode_len, whole_c, answer_of, read_of, reason_of, registers_of}
 use Rattle.grammar.specs.Spells.{RowText, Spells, sized_slot, sized_row, sized}
 use Rattle.grammar.specs.Claims.{Exact}
 use Rattle.statement.proofs.Words.{recognised, recognises, clean}
@@ -149,7 +149,7 @@ Over w text = Spells w text × (sized w.statement ≡ false) × (length text ≤
 abbrev NoStatement : List ℕ → Type 0
 NoStatement text = length text ≤ 4096 → (w : Whole) → Spells w text → ⊥
 
-fits_got : (w : Whole) (text : List ℕ) → Fits w text → (read_of text ≡ Got w.statement) × (registers_of text ≡ w.registers)
+fits_got : (w : Whole) (text : List ℕ) → Fits w text → (read_of text ≡ Ok w.statement) × (registers_of text ≡ w.registers)
 unfolding read_of answer_of registers_of
 fits_got w text h =
     let m = spells_met w text h.0 in
@@ -163,11 +163,11 @@ over_four w text h =
     rw (le-leb (length text) 4096 h.2, m.next, h.1)
 
 -- reason 3, where reading stopped, and past the end of a longer text
-pub stopped_three : (text : List ℕ) → (whole_c text).next.ok ≡ false → read_of text ≡ NoForm (length text - length (whole_c text).next.rest)
+pub stopped_three : (text : List ℕ) → (whole_c text).next.ok ≡ false → read_of text ≡ Err (NoForm (length text - length (whole_c text).next.rest))
 unfolding read_of answer_of
 stopped_three text e = rw e
 
-long_three : (text : List ℕ) → (whole_c text).next.ok ≡ true → leb (length text) 4096 ≡ false → read_of text ≡ NoForm (length text)
+long_three : (text : List ℕ) → (whole_c text).next.ok ≡ true → leb (length text) 4096 ≡ false → read_of text ≡ Err (NoForm (length text))
 unfolding read_of answer_of
 long_three text e n = rw (e, n)
 
@@ -179,7 +179,7 @@ none_three text h = go (leb (length text) 4096) (whole_c text).next.ok refl refl
     go false true p q = ap reason_of (long_three text q p)
     go b false p q = ap reason_of (stopped_three text q)
 
-pub long : (text : List ℕ) (w : Whole) → Spells w text → 4096 < length text → read_of text ≡ NoForm (length text)
+pub long : (text : List ℕ) (w : Whole) → Spells w text → 4096 < length text → read_of text ≡ Err (NoForm (length text))
 long text w s h = long_three text (ap (λ (r : Rest). r.ok) (spells_met w text s).next) (lt-leb (length text) 4096 h)
 
 -- every text has one of them
@@ -207,13 +207,13 @@ verdict text = go (leb (length text) 4096) (whole_c text).next.ok refl refl
     go false c p q = none (long_none text p)
 
 -- ---- the theorems
-reason_got : (text : List ℕ) (w : Whole) (n : ℕ) → read_of text ≡ Got w.statement → reason_of (read_of text) ≡ n → 0 ≡ n
+reason_got : (text : List ℕ) (w : Whole) (n : ℕ) → read_of text ≡ Ok w.statement → reason_of (read_of text) ≡ n → 0 ≡ n
 reason_got text w n h e = sym (ap reason_of h) ∙ e
 
-pub got_same : (a b : Statement) → Got a ≡ Got b → a ≡ b
+pub got_same : (a b : Statement) → ◌≡◌ {A = Reading} (Ok a) (Ok b) → a ≡ b
 got_same a b h = cc
 
-got_fits : (text : List ℕ) (w : Whole) → Verdict text → (read_of text ≡ Got w.statement) × (registers_of text ≡ w.registers) → Fits w text
+got_fits : (text : List ℕ) (w : Whole) → Verdict text → (read_of text ≡ Ok w.statement) × (registers_of text ≡ w.registers) → Fits w text
 got_fits text w (fits v h) g =
     let k = fits_got v text h in
     let p : v.statement ≡ w.statement = got_same v.statement w.statement (sym k.0 ∙ g.0) in

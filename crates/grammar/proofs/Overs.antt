@@ -1,5 +1,6 @@
 -- The place of reason 4 is where the first number or expression that is out of range starts: the reader of quantities marks it there, and what is read after it, and marks
 -- and names, keep it. Assumes nothing.
+use Rattle.std.specs.Prelude.{Ok, Err}
 use Prim.Native.Nat.{ℕ, ◌-◌}
 use native.Mathlib.Omega.{arith}
 use mathlib.Core.Path.{◌≡◌, refl, sym, ap, ◌∙◌}
@@ -18,7 +19,7 @@ use Rattle.statement.specs.declared.Address.{Address}
 use Rattle.statement.specs.declared.Operand.TheVariants as operand
 use Rattle.statement.specs.declared.Statement.{Statement}
 use Rattle.statement.specs.declared.Opcode.{Opcode}
-use Rattle.statement.specs.declared.Reading.TheVariants.{Got, NoForm, TooLarge}
+use Rattle.statement.specs.declared.Misread.TheVariants.{NoForm, TooLarge}
 use Rattle.statement.specs.Forms.{word, Slot, name, number, in_brackets, address, operand, names, Value, Values, max_offset, row, Whole}
 use Rattle.statement.specs.Reading.{in_brackets_c, offset_c, inside_c, address_c, operand_c, slot_c, more_row_c, row_c, operands_c, start, whole_c, answer_of, read_of}
 use Rattle.expression.specs.Integers.{Result}
@@ -181,13 +182,13 @@ far_first (p ∷ ps) f h = go (sized_slot p.slot p.value) refl h (far_first ps f
         (s.0, s.1, far_stays ps (start_of n) ∙ ap start_of s.1)
 
 -- ---- the answer
-four_by : (a b o : Bool) (k n q p : ℕ) (t : Statement) → cond b (cond a (cond o (TooLarge k) (Got t)) (NoForm n)) (NoForm q) ≡ TooLarge p → (b ≡ true) × (o ≡ true) × (p ≡ k)
+four_by : (a b o : Bool) (k n q p : ℕ) (t : Statement) → cond b (cond a (cond o (Err (TooLarge k)) (Ok t)) (Err (NoForm n))) (Err (NoForm q)) ≡ Err (TooLarge p) → (b ≡ true) × (o ≡ true) × (p ≡ k)
 four_by true true true k n q p t h = (refl, refl, cc)
 four_by true true false k n q p t h = absurd (let z : ◌≡◌ {A = ℕ} 0 1 = cc in omega arith)
 four_by false true o k n q p t h = absurd (let z : ◌≡◌ {A = ℕ} 0 1 = cc in omega arith)
 four_by a false o k n q p t h = absurd (let z : ◌≡◌ {A = ℕ} 0 1 = cc in omega arith)
 
-over-at : (text : List ℕ) (p : ℕ) → read_of text ≡ TooLarge p → ((whole_c text).next.ok ≡ true) × ((whole_c text).next.over ≡ true) × (p ≡ length text - length (whole_c text).next.far)
+over-at : (text : List ℕ) (p : ℕ) → read_of text ≡ Err (TooLarge p) → ((whole_c text).next.ok ≡ true) × ((whole_c text).next.over ≡ true) × (p ≡ length text - length (whole_c text).next.far)
 unfolding read_of answer_of
 over-at text p h =
     let r = (whole_c text).next in
@@ -306,7 +307,7 @@ row_ends (k ∷ ks) vs l t m e = go (sized_slot k vs.0) e (more_row-ends ks vs.1
     go true h i = ends_trans l t.0 m (slot-ends k vs.0 l t.0 t.1) (i h)
     go false h i = to_number k vs.0 l t.0 t.1 m h
 
-pub overs : (text : List ℕ) (p : ℕ) → read_of text ≡ TooLarge p → Over text p
+pub overs : (text : List ℕ) (p : ℕ) → read_of text ≡ Err (TooLarge p) → Over text p
 overs text p h =
     let s = read_spells text (over-at text p h).0 in
     let x = starts-at s.1 in

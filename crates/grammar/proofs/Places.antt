@@ -1,5 +1,5 @@
 -- The place of reason 3 is that of the first token at which no statement can go on: an opcode's operands are read as a row of tokens is, and such a row stops there. Assumes nothing.
-use Rattle.std.specs.Prelude.{Option, Some, None}
+use Rattle.std.specs.Prelude.{Option, Some, None, Err}
 use Prim.Native.Nat.{ℕ, ◌-◌}
 use native.Mathlib.Omega.{arith}
 use mathlib.Core.Path.{◌≡◌, refl, sym, ap, ◌∙◌}
@@ -10,7 +10,7 @@ use lib.Seq.{take-append_seam, drop-append_seam}
 use Rattle.tokens.specs.Bytes.{letter, word_byte, opcode_byte, run_len, token_of}
 use Rattle.tokens.specs.Cursors.{Rest, Took}
 use Rattle.statement.specs.declared.Opcode.{Opcode}
-use Rattle.statement.specs.declared.Reading.TheVariants.{NoForm}
+use Rattle.statement.specs.declared.Misread.TheVariants.{NoForm}
 use Rattle.statement.specs.Forms.{row, Whole, word, make}
 use Rattle.statement.specs.Opcodes.{recognise}
 use Rattle.statement.specs.Reading.{operands_c, start, opcode_len, whole_by, whole_c, read_of}
@@ -98,7 +98,7 @@ unread text none = go (whole_c text).next.ok refl
     go false e = refl
 
 -- and it stopped there
-stopped : (text : List ℕ) (p : ℕ) → (whole_c text).next.ok ≡ false → read_of text ≡ NoForm p → p ≡ length text - length (whole_c text).next.rest
+stopped : (text : List ℕ) (p : ℕ) → (whole_c text).next.ok ≡ false → read_of text ≡ Err (NoForm p) → p ≡ length text - length (whole_c text).next.rest
 stopped text p e h = let z = sym h ∙ stopped_three text e in cc
 
 no_opcode : (text : List ℕ) (found : Option Opcode) → recognise (take (opcode_len text) text) ≡ found → ((o : Opcode) → take (opcode_len text) text ≡ word o → ⊥) → (whole_by text (drop (opcode_len text) text) found).next.rest ≡ text
@@ -109,7 +109,7 @@ first_place : (text : List ℕ) → ((o : Opcode) → take (opcode_len text) tex
 unfolding whole_c
 first_place text h = no_opcode text (recognise (take (opcode_len text) text)) refl h
 
-pub places : (text : List ℕ) (p : ℕ) → ((w : Whole) → Spells w text → ⊥) → read_of text ≡ NoForm p → Place text p
+pub places : (text : List ℕ) (p : ℕ) → ((w : Whole) → Spells w text → ⊥) → read_of text ≡ Err (NoForm p) → Place text p
 places text p none h =
     let n = unread text none in
     let z = stopped text p n h in

@@ -1,4 +1,5 @@
 -- The canonical text of a statement spells it, so it reads back as it was; and what reads can be written. One induction over the row of operands each way, with one law for each operand. Assumes nothing.
+use Rattle.std.specs.Prelude.{Ok}
 use Prim.Native.Nat.{ℕ, suc, ◌^◌, ◌<◌, ◌≤◌}
 use native.Mathlib.Omega.{arith}
 use mathlib.Core.Path.{◌≡◌, refl, sym, ap, ◌∙◌}
@@ -24,7 +25,6 @@ use Rattle.statement.specs.declared.Statement.{Statement}
 use Rattle.statement.specs.declared.Statement.TheVariants as s
 use Rattle.statement.specs.declared.Opcode.{Opcode}
 use Rattle.statement.specs.declared.Opcode.TheVariants.{Multiply}
-use Rattle.statement.specs.declared.Reading.TheVariants.{Got}
 use Rattle.statement.specs.Forms.{Slot, name, number, in_brackets, address, operand, names, Value, Values, max_offset, row, Whole, plain, access, make}
 use Rattle.statement.specs.Reading.{read_of, registers_of}
 use Rattle.grammar.proofs.Quantities.{ended_by}
@@ -334,7 +334,7 @@ reads-given text t regs h =
 pub writable : (t : Statement) (regs : List Name) → Writable t regs
 writable t regs = record { exactly = (λ h. (text_of t regs, text_back t regs h), λ h. reads-given h.0 t regs h.1) }
 
-pub canonical : (text : List ℕ) (t : Statement) → read_of text ≡ Got t → Canonical text t
+pub canonical : (text : List ℕ) (t : Statement) → read_of text ≡ Ok t → Canonical text t
 canonical text t h =
     let regs = registers_of text in
     let b = text_back t regs (reads-given text t regs (h, refl)) in

@@ -1,5 +1,5 @@
 -- What is shown of reading and writing: a record for each theorem, a field for each sentence of it, and last, in `Theorems`, of which texts and statements each is shown. Assumes nothing.
-use Rattle.std.specs.Prelude.{ℕ, ◌<◌, ◌≤◌, ◌≡◌, ◌↔◌, List, ◌++◌, true, false, length, take, drop}
+use Rattle.std.specs.Prelude.{ℕ, ◌<◌, ◌≤◌, ◌≡◌, ◌↔◌, List, ◌++◌, true, false, length, take, drop, Ok, Err}
 use Rattle.std.proofs.Math.Option.{some}
 use Rattle.tokens.specs.declared.Name.{Name}
 use Rattle.tokens.specs.Bytes.{word_byte, run_len, after_blanks, token_of, after_token}
@@ -7,7 +7,7 @@ use Rattle.tokens.specs.Names.{is_name, packed}
 use Rattle.tokens.specs.Numbers.{decimal}
 use Rattle.statement.specs.declared.Statement.{Statement}
 use Rattle.statement.specs.declared.Opcode.{Opcode}
-use Rattle.statement.specs.declared.Reading.TheVariants.{Got, NoForm, TooLarge}
+use Rattle.statement.specs.declared.Misread.TheVariants.{NoForm, TooLarge}
 use Rattle.statement.specs.declared.Num.{Num}
 use Rattle.tokens.specs.Text.{bytes}
 use Rattle.statement.specs.Forms.{num_text, word, Whole}
@@ -20,7 +20,7 @@ use Rattle.statement.specs.Canonical.{text_of, given}
 -- ---- reading is exact
 pub record Exact (text : List ℕ) : Type 0 where
   -- A text reads as a statement, with the names of its registers, if and only if it spells it, its numbers are in range and it has at most 4,096 bytes.
-  pub got : (w : Whole) → ((read_of text ≡ Got w.statement) × (registers_of text ≡ w.registers)) ↔ (Spells w text × (sized w.statement ≡ true) × (length text ≤ 4096))
+  pub got : (w : Whole) → ((read_of text ≡ Ok w.statement) × (registers_of text ≡ w.registers)) ↔ (Spells w text × (sized w.statement ≡ true) × (length text ≤ 4096))
   -- Reason 4 is given if and only if it spells a statement with a number or an expression out of range, in at most 4,096 bytes.
   pub four : (reason_of (read_of text) ≡ 4) ↔ ((w : Whole) × Spells w text × (sized w.statement ≡ false) × (length text ≤ 4096))
   -- Reason 3 is given if and only if it spells no statement in at most 4,096 bytes.
@@ -32,7 +32,7 @@ pub record Exact (text : List ℕ) : Type 0 where
 
 -- a text reads as a statement with the names of its registers
 abbrev pub Reads : List ℕ → Statement → List Name → Type 0
-Reads text t regs = (read_of text ≡ Got t) × (registers_of text ≡ regs)
+Reads text t regs = (read_of text ≡ Ok t) × (registers_of text ≡ regs)
 
 -- ---- what is written reads back the same: of a statement that can be written
 pub record Trip (t : Statement) (regs : List Name) : Type 0 where
@@ -55,7 +55,7 @@ pub record Canonical (text : List ℕ) (t : Statement) : Type 0 where
   -- Its canonical text reads as the same statement with the same registers,
   pub same : Reads (text_of t (registers_of text)) t (registers_of text)
   -- and the canonical text of that is itself.
-  pub again : (u : Statement) → read_of (text_of t (registers_of text)) ≡ Got u → text_of u (registers_of (text_of t (registers_of text))) ≡ text_of t (registers_of text)
+  pub again : (u : Statement) → read_of (text_of t (registers_of text)) ≡ Ok u → text_of u (registers_of (text_of t (registers_of text))) ≡ text_of t (registers_of text)
 
 -- ---- places
 -- l is what is left of s after some tokens, and bytes that start none, such as spaces
@@ -101,12 +101,12 @@ pub record Theorems : Type 0 where
   pub exact : (text : List ℕ) → Exact text
   pub trip : (t : Statement) (regs : List Name) → given t regs ≡ true → Trip t regs
   pub writable : (t : Statement) (regs : List Name) → Writable t regs
-  pub canonical : (text : List ℕ) (t : Statement) → read_of text ≡ Got t → Canonical text t
+  pub canonical : (text : List ℕ) (t : Statement) → read_of text ≡ Ok t → Canonical text t
   -- The place of reason 3 in a text of any length that spells no statement,
-  pub three : (text : List ℕ) (place : ℕ) → ((w : Whole) → Spells w text → ⊥) → read_of text ≡ NoForm place → Place text place
+  pub three : (text : List ℕ) (place : ℕ) → ((w : Whole) → Spells w text → ⊥) → read_of text ≡ Err (NoForm place) → Place text place
   -- and in one that spells one in over 4,096 bytes: its end.
-  pub long : (text : List ℕ) (w : Whole) → Spells w text → 4096 < length text → read_of text ≡ NoForm (length text)
-  pub four : (text : List ℕ) (place : ℕ) → read_of text ≡ TooLarge place → Over text place
+  pub long : (text : List ℕ) (w : Whole) → Spells w text → 4096 < length text → read_of text ≡ Err (NoForm (length text))
+  pub four : (text : List ℕ) (place : ℕ) → read_of text ≡ Err (TooLarge place) → Over text place
   pub one : (text : List ℕ) → One text
   -- The places of operands and of their names, which columns are counted from, are those of the spelling, wherever spaces stand.
   pub operands : (text : List ℕ) → OperandsPlaced text

@@ -1,6 +1,6 @@
 -- Worked examples, as tables: texts with their reasons, with the typed statements that they read as, with places, with those of their operands, and with
 -- canonical texts. Assumes nothing.
-use Rattle.std.specs.Prelude.{ℕ, List, [], ◌∷◌, ◌++◌, map, Bool, true, false, drop}
+use Rattle.std.specs.Prelude.{ℕ, List, [], ◌∷◌, ◌++◌, map, Bool, true, false, drop, Ok, Err}
 use Prim.Native.String.{String}
 use Rattle.laws.specs.Worked.{Gives}
 use Rattle.instruction.specs.declared.Kind.{Kind}
@@ -18,10 +18,9 @@ use Rattle.statement.specs.declared.Metadata.{Metadata}
 use Rattle.statement.specs.declared.Metadata.TheVariants.{Dense, Sparse}
 use Rattle.statement.specs.declared.Statement.{Statement}
 use Rattle.statement.specs.declared.Statement.TheVariants.{Mov32, Mov64, Alloc, Dealloc, Relinquish, Load, Store, WaitLoad, WaitStore, FenceBefore, FenceAfter, Multiply, Exit}
-use Rattle.statement.specs.declared.Reading.{Reading}
-use Rattle.statement.specs.declared.Reading.TheVariants.{Got, NoForm, TooLarge}
+use Rattle.statement.specs.declared.Misread.TheVariants.{NoForm, TooLarge}
 use Rattle.tokens.specs.Text.{bytes}
-use Rattle.statement.specs.Reading.{read_of, reason_of, registers_of}
+use Rattle.statement.specs.Reading.{Reading, read_of, reason_of, registers_of}
 use Rattle.statement.specs.Positions.{operand_place, name_place}
 use Rattle.statement.specs.Canonical.{text_of}
 use Rattle.grammar.specs.Spells.{spaces}
@@ -42,9 +41,9 @@ AllRead ((text, t, regs) ∷ l) = Reads (bytes text) t regs × AllRead l
 
 -- its canonical text: nothing if it does not read
 abbrev pub written_by : Reading → List Name → List ℕ
-written_by (Got t) regs = text_of t regs
-written_by (NoForm at) regs = []
-written_by (TooLarge at) regs = []
+written_by (Ok t) regs = text_of t regs
+written_by (Err (NoForm at)) regs = []
+written_by (Err (TooLarge at)) regs = []
 
 abbrev pub canonical : String → List ℕ
 canonical text = written_by (reading text) (registers_of (bytes text))
@@ -258,42 +257,42 @@ mmas =
 -- The place of 3 is that of the first token at which no form can go on, of 4 that of the first number out of range.
 abbrev pub places : List (String × Reading)
 places =
-    ("mov.b32 x y", NoForm 10) ∷
-    ("mov.b33 x, 1;", NoForm 0) ∷
-    ("mov.b32 x, 4294967296, 1;", NoForm 21) ∷
-    ("mov.b32 x, 4294967296;", TooLarge 11) ∷
-    ("tcgen05.ld.sync.aligned.32x32b.x1.b32 {r0, 5}, [t];", NoForm 43) ∷
-    ("exit", NoForm 4) ∷
-    ("", NoForm 0) ∷
-    (" exit;", NoForm 0) ∷
-    ("exit; ", NoForm 5) ∷
-    ("exit; exit;", NoForm 5) ∷
-    ("mov.b32 rrrrrrrrrrrrrrrrr, 1;", NoForm 8) ∷
-    ("mov.b32 %, 1;", NoForm 8) ∷
-    ("tcgen05.ld.sync.aligned.32x32b.x128.b32 {r,r,r,r,r,r,r,r,r,r,r,r,r,r,r,r,r,r,r,r,r,r,r,r,r,r,r,r,r,r,r,r,r,r,r,r,r,r,r,r,r,r,r,r,r,r,r,r,r,r,r,r,r,r,r,r,r,r,r,r,r,r,r,r,r,r,r,r,r,r,r,r,r,r,r,r,r,r,r,r,r,r,r,r,r,r,r,r,r,r,r,r,r,r,r,r,r,r,r,r,r,r,r,r,r,r,r,r,r,r,r,r,r,r,r,r,r,r,r,r,r,r,r,r,r,r,r,r,r}, [t];", NoForm 296) ∷
+    ("mov.b32 x y", Err (NoForm 10)) ∷
+    ("mov.b33 x, 1;", Err (NoForm 0)) ∷
+    ("mov.b32 x, 4294967296, 1;", Err (NoForm 21)) ∷
+    ("mov.b32 x, 4294967296;", Err (TooLarge 11)) ∷
+    ("tcgen05.ld.sync.aligned.32x32b.x1.b32 {r0, 5}, [t];", Err (NoForm 43)) ∷
+    ("exit", Err (NoForm 4)) ∷
+    ("", Err (NoForm 0)) ∷
+    (" exit;", Err (NoForm 0)) ∷
+    ("exit; ", Err (NoForm 5)) ∷
+    ("exit; exit;", Err (NoForm 5)) ∷
+    ("mov.b32 rrrrrrrrrrrrrrrrr, 1;", Err (NoForm 8)) ∷
+    ("mov.b32 %, 1;", Err (NoForm 8)) ∷
+    ("tcgen05.ld.sync.aligned.32x32b.x128.b32 {r,r,r,r,r,r,r,r,r,r,r,r,r,r,r,r,r,r,r,r,r,r,r,r,r,r,r,r,r,r,r,r,r,r,r,r,r,r,r,r,r,r,r,r,r,r,r,r,r,r,r,r,r,r,r,r,r,r,r,r,r,r,r,r,r,r,r,r,r,r,r,r,r,r,r,r,r,r,r,r,r,r,r,r,r,r,r,r,r,r,r,r,r,r,r,r,r,r,r,r,r,r,r,r,r,r,r,r,r,r,r,r,r,r,r,r,r,r,r,r,r,r,r,r,r,r,r,r,r}, [t];", Err (NoForm 296)) ∷
     []
 
 -- The places of 3 and 4 are those of the token's first byte, wherever in it a wrong byte stands (`tokens/specs/Worked.antt` has more tokens). Digits of an opcode are no number.
 abbrev pub number_places : List (String × Reading)
 number_places =
-    ("mov.b32 x, 08;", NoForm 11) ∷
-    ("mov.b32 x, 0b102;", NoForm 11) ∷
-    ("mov.b32 x, 0xU;", NoForm 11) ∷
-    ("mov.b32 x, 64u;", NoForm 11) ∷
-    ("mov.b32 x, 0UU;", NoForm 11) ∷
-    ("mov.b32 x, %0;", NoForm 11) ∷
-    ("mov.b32 x, 0%;", NoForm 12) ∷
-    ("mov.b32 x,   0000000000000008;", NoForm 13) ∷
-    ("tcgen05.alloc.cta_group::1.sync.aligned.b32 [t], 0b2U;", NoForm 49) ∷
-    ("tcgen05.dealloc.cta_group::1.sync.aligned.b32 t, 09;", NoForm 49) ∷
-    ("tcgen05.ld.sync.aligned.32x32b.x1.b32 {r}, [t+0b];", NoForm 46) ∷
-    ("tcgen05.mma.sp.cta_group::1.kind::f16 [d+0], [a+0], b, [m+08], i, p;", NoForm 58) ∷
-    ("mov.b32 x, 040000000000U, 1;", NoForm 24) ∷
-    ("mov.b32 x, 040000000000U;", TooLarge 11) ∷
-    ("tcgen05.ld.sync.aligned.32x32b.x1.b32 {r}, [t+ 0b100000000000000000000000000000000];", TooLarge 47) ∷
-    ("tcgen05.mma.sp.cta_group::1.kind::f16 [d+040000000000U], [a+0x100000000U], b, [m+0], i, p;", TooLarge 41) ∷
-    ("tcgen05.ld.sync.aligned.32x32b.x1U.b32 {r}, [t];", NoForm 0) ∷
-    ("tcgen05.alloc.cta_group::01.sync.aligned.b32 [t], 32;", NoForm 0) ∷
+    ("mov.b32 x, 08;", Err (NoForm 11)) ∷
+    ("mov.b32 x, 0b102;", Err (NoForm 11)) ∷
+    ("mov.b32 x, 0xU;", Err (NoForm 11)) ∷
+    ("mov.b32 x, 64u;", Err (NoForm 11)) ∷
+    ("mov.b32 x, 0UU;", Err (NoForm 11)) ∷
+    ("mov.b32 x, %0;", Err (NoForm 11)) ∷
+    ("mov.b32 x, 0%;", Err (NoForm 12)) ∷
+    ("mov.b32 x,   0000000000000008;", Err (NoForm 13)) ∷
+    ("tcgen05.alloc.cta_group::1.sync.aligned.b32 [t], 0b2U;", Err (NoForm 49)) ∷
+    ("tcgen05.dealloc.cta_group::1.sync.aligned.b32 t, 09;", Err (NoForm 49)) ∷
+    ("tcgen05.ld.sync.aligned.32x32b.x1.b32 {r}, [t+0b];", Err (NoForm 46)) ∷
+    ("tcgen05.mma.sp.cta_group::1.kind::f16 [d+0], [a+0], b, [m+08], i, p;", Err (NoForm 58)) ∷
+    ("mov.b32 x, 040000000000U, 1;", Err (NoForm 24)) ∷
+    ("mov.b32 x, 040000000000U;", Err (TooLarge 11)) ∷
+    ("tcgen05.ld.sync.aligned.32x32b.x1.b32 {r}, [t+ 0b100000000000000000000000000000000];", Err (TooLarge 47)) ∷
+    ("tcgen05.mma.sp.cta_group::1.kind::f16 [d+040000000000U], [a+0x100000000U], b, [m+0], i, p;", Err (TooLarge 41)) ∷
+    ("tcgen05.ld.sync.aligned.32x32b.x1U.b32 {r}, [t];", Err (NoForm 0)) ∷
+    ("tcgen05.alloc.cta_group::01.sync.aligned.b32 [t], 32;", Err (NoForm 0)) ∷
     []
 
 -- In a text of over 4,096 bytes it is that of the token too, or, where there is none, the end. Four texts with n spaces in them.
@@ -307,10 +306,10 @@ spaced n =
 
 abbrev pub lengths : List (ℕ × List Reading)
 lengths =
-    (4074, Got Exit ∷ NoForm 4078 ∷ NoForm 10 ∷ TooLarge 11 ∷ []) ∷
-    (4075, Got Exit ∷ NoForm 4079 ∷ NoForm 10 ∷ NoForm 4097 ∷ []) ∷
-    (4091, Got Exit ∷ NoForm 4095 ∷ NoForm 10 ∷ NoForm 4113 ∷ []) ∷
-    (4092, NoForm 4097 ∷ NoForm 4096 ∷ NoForm 10 ∷ NoForm 4114 ∷ []) ∷
+    (4074, Ok Exit ∷ Err (NoForm 4078) ∷ Err (NoForm 10) ∷ Err (TooLarge 11) ∷ []) ∷
+    (4075, Ok Exit ∷ Err (NoForm 4079) ∷ Err (NoForm 10) ∷ Err (NoForm 4097) ∷ []) ∷
+    (4091, Ok Exit ∷ Err (NoForm 4095) ∷ Err (NoForm 10) ∷ Err (NoForm 4113) ∷ []) ∷
+    (4092, Err (NoForm 4097) ∷ Err (NoForm 4096) ∷ Err (NoForm 10) ∷ Err (NoForm 4114) ∷ []) ∷
     []
 
 -- The place of an operand, and of its name, each with what stands from there on. Only the commas outside of braces part operands.

@@ -1,12 +1,11 @@
 -- Worked expressions, from bytes to numbers: what each text reads as in the place of a number. Assumes nothing.
-use Rattle.std.specs.Prelude.{ℕ, zero, suc, ◌+◌, List, [], ◌∷◌, ◌++◌}
+use Rattle.std.specs.Prelude.{ℕ, zero, suc, ◌+◌, List, [], ◌∷◌, ◌++◌, Ok, Err}
 use Prim.Native.String.{String}
 use Rattle.laws.specs.Worked.{Gives}
 use Rattle.tokens.specs.Text.{bytes}
-use Rattle.statement.specs.declared.Reading.{Reading}
-use Rattle.statement.specs.declared.Reading.TheVariants.{Got, NoForm, TooLarge}
+use Rattle.statement.specs.declared.Misread.TheVariants.{NoForm, TooLarge}
 use Rattle.statement.specs.declared.Statement.TheVariants.{Mov64}
-use Rattle.statement.specs.Reading.{read_of}
+use Rattle.statement.specs.Reading.{Reading, read_of}
 use Rattle.grammar.specs.Examples.{named, canonical, reading}
 
 -- ---- what is moved
@@ -19,15 +18,15 @@ moved text = moved_bytes (bytes text)
 
 -- it moves this number
 abbrev pub is : ℕ → Reading
-is v = Got (Mov64 (named "x") v)
+is v = Ok (Mov64 (named "x") v)
 
 -- the place of a reason, counted from the text's first byte
 abbrev pub no_form : ℕ → Reading
-no_form i = NoForm (11 + i)
+no_form i = Err (NoForm (11 + i))
 
 -- reason 4, which is at the text's first byte
 abbrev pub out_of_range : Reading
-out_of_range = TooLarge 11
+out_of_range = Err (TooLarge 11)
 
 -- * is closer than + and -, a minus in front closer than *; from left to right.
 abbrev pub precedence : List (String × Reading)
@@ -198,24 +197,24 @@ nested =
 -- ---- in every place, and written again
 abbrev pub in_places : List (String × Reading)
 in_places =
-    ("mov.b32 x, 2 * (4294967296);", TooLarge 11) ∷
-    ("mov.b32 x, 65535*65537+1;", TooLarge 11) ∷
-    ("mov.b32 x, (1", NoForm 13) ∷
-    ("mov.b32 x, (1 ", NoForm 14) ∷
-    ("mov.b32 x, 1+", NoForm 13) ∷
-    ("mov.b32 x, -", NoForm 12) ∷
-    ("mov.b32 x, 1-2", NoForm 14) ∷
-    ("tcgen05.alloc.cta_group::1.sync.aligned.b32 [t], -32;", TooLarge 49) ∷
-    ("tcgen05.dealloc.cta_group::1.sync.aligned.b32 t, 32-64;", TooLarge 49) ∷
-    ("tcgen05.ld.sync.aligned.32x32b.x1.b32 {r}, [t+(65536)*65536];", TooLarge 46) ∷
-    ("tcgen05.ld.sync.aligned.32x32b.x1.b32 {r}, [t+ -1];", TooLarge 47) ∷
-    ("tcgen05.ld.sync.aligned.32x32b.x1.b32 {r}, [t-4];", NoForm 45) ∷
-    ("tcgen05.ld.sync.aligned.32x32b.x1.b32 {r}, [t++4];", NoForm 46) ∷
-    ("tcgen05.ld.sync.aligned.32x32b.x1.b32 {r}, [t+(4];", NoForm 48) ∷
-    ("tcgen05.mma.sp.cta_group::1.kind::f16 [d+1-2], [a+(1)], b, [m+1+1], i, p;", TooLarge 41) ∷
-    ("tcgen05.mma.sp.cta_group::1.kind::f16 [d+4294967296], [a+(1)], b, [m+1-2], i, p;", TooLarge 41) ∷
-    ("tcgen05.mma.sp.cta_group::1.kind::f16 [d+2-1], [a+1-2], b, [m+1-2], i, p;", TooLarge 50) ∷
-    ("tcgen05.mma.sp.cta_group::1.kind::f16 [d+2-1], [a+2-1], b, [m+1-2], i, p;", TooLarge 62) ∷
+    ("mov.b32 x, 2 * (4294967296);", Err (TooLarge 11)) ∷
+    ("mov.b32 x, 65535*65537+1;", Err (TooLarge 11)) ∷
+    ("mov.b32 x, (1", Err (NoForm 13)) ∷
+    ("mov.b32 x, (1 ", Err (NoForm 14)) ∷
+    ("mov.b32 x, 1+", Err (NoForm 13)) ∷
+    ("mov.b32 x, -", Err (NoForm 12)) ∷
+    ("mov.b32 x, 1-2", Err (NoForm 14)) ∷
+    ("tcgen05.alloc.cta_group::1.sync.aligned.b32 [t], -32;", Err (TooLarge 49)) ∷
+    ("tcgen05.dealloc.cta_group::1.sync.aligned.b32 t, 32-64;", Err (TooLarge 49)) ∷
+    ("tcgen05.ld.sync.aligned.32x32b.x1.b32 {r}, [t+(65536)*65536];", Err (TooLarge 46)) ∷
+    ("tcgen05.ld.sync.aligned.32x32b.x1.b32 {r}, [t+ -1];", Err (TooLarge 47)) ∷
+    ("tcgen05.ld.sync.aligned.32x32b.x1.b32 {r}, [t-4];", Err (NoForm 45)) ∷
+    ("tcgen05.ld.sync.aligned.32x32b.x1.b32 {r}, [t++4];", Err (NoForm 46)) ∷
+    ("tcgen05.ld.sync.aligned.32x32b.x1.b32 {r}, [t+(4];", Err (NoForm 48)) ∷
+    ("tcgen05.mma.sp.cta_group::1.kind::f16 [d+1-2], [a+(1)], b, [m+1+1], i, p;", Err (TooLarge 41)) ∷
+    ("tcgen05.mma.sp.cta_group::1.kind::f16 [d+4294967296], [a+(1)], b, [m+1-2], i, p;", Err (TooLarge 41)) ∷
+    ("tcgen05.mma.sp.cta_group::1.kind::f16 [d+2-1], [a+1-2], b, [m+1-2], i, p;", Err (TooLarge 50)) ∷
+    ("tcgen05.mma.sp.cta_group::1.kind::f16 [d+2-1], [a+2-1], b, [m+1-2], i, p;", Err (TooLarge 62)) ∷
     []
 
 abbrev pub rewritten : List (String × List ℕ)

@@ -1,5 +1,6 @@
 -- The columns of a sheet are right: a laid line is its mark, a tab and its statement, so a place in the statement is two bytes further on in the line, and what
 -- stands at the place crate grammar says. Assumes nothing.
+use Rattle.std.specs.Prelude.{Ok, Err}
 use Prim.Native.Nat.{ℕ, suc, ◌+◌, ◌-◌, ◌≤◌}
 use native.Mathlib.Omega.{arith}
 use mathlib.Core.Path.{◌≡◌, refl, sym, ap, ◌∙◌}
@@ -10,7 +11,7 @@ use Rattle.lines.specs.Sheet.{after, Content, fault, laid, content_after, warp_o
 use Rattle.lines.specs.Written.{Written}
 use Rattle.lines.proofs.SheetTheorems.{read_written}
 use Rattle.statement.specs.declared.Statement.{Statement}
-use Rattle.statement.specs.declared.Reading.TheVariants.{Got, NoForm}
+use Rattle.statement.specs.declared.Misread.TheVariants.{NoForm}
 use Rattle.statement.specs.declared.Position.{Position}
 use Rattle.statement.specs.declared.Position.TheVariants as position
 use Rattle.statement.specs.Forms.{row, Whole}
@@ -65,10 +66,10 @@ module _ (s : List ℕ) (k warp : ℕ) (text : List ℕ) (e : content_after (suc
   from n column z = from_place written.mark n column (line_text s (suc k)) text written.line z
 
   -- a text that has no form spells nothing: it is not too long
-  spells-none : (place : ℕ) → read_of text ≡ NoForm place → (w : Whole) → Spells w text → ⊥
+  spells-none : (place : ℕ) → read_of text ≡ Err (NoForm place) → (w : Whole) → Spells w text → ⊥
   spells-none place r = (theorems.exact text).three.0 (ap reason_of r) short
 
-  shown : (t : Statement) → read_of text ≡ Got t → AllShown text 0 (row (opcode_of t)) (values_of t (registers_of text))
+  shown : (t : Statement) → read_of text ≡ Ok t → AllShown text 0 (row (opcode_of t)) (values_of t (registers_of text))
   shown t r =
       let w : Whole = record { statement = t; registers = registers_of text } in
       (theorems.operands text).shown w (((theorems.exact text).got w).0 (r, refl)).0

@@ -12,9 +12,8 @@ use borrow.Author.Tests.{eq-eqb, ne_eqb}
 use Rattle.tokens.specs.Text.{byte}
 use Rattle.tokens.specs.Bytes.{blank, run_len}
 use Rattle.lexer.proofs.Laws.{blank_law}
-use Rattle.statement.specs.declared.Reading.{Reading}
 use Rattle.statement.specs.declared.Position.TheVariants.{Token, Name, Operand}
-use Rattle.statement.specs.Reading.{opcode_len, read_of}
+use Rattle.statement.specs.Reading.{Reading, opcode_len, read_of}
 use Rattle.statement.proofs.Stops.{stop_le}
 use Rattle.statement.specs.Positions.{within, after_comma, after_commas, operand_from, after_bracket, name_from, operand_place, name_place, stop_in, statement_column, byte_column}
 

@@ -111,9 +111,8 @@ fn stop_of(t: Reading) -> usize
     ensures { result ≡ stop_in t }
 {
     match t {
-        Reading::Got(_) => 0,
-        Reading::NoForm(at) => at,
-        Reading::TooLarge(at) => at,
+        Ok(_) => 0,
+        Err(misread) => misread.place(),
     }
 }
 

@@ -1,4 +1,5 @@
 -- Rows, line by line: a loop over the lines puts the row of each alloc after those before it. Assumes nothing.
+use Rattle.std.specs.Prelude.{Ok, Err}
 use Prim.Native.Nat.{ℕ, zero, suc, ◌+◌, ◌-◌, ◌<◌, ◌≤◌}
 use native.Mathlib.Numerals.{add-one}
 use native.Mathlib.Omega.{arith}
@@ -14,12 +15,10 @@ use borrow.Author.Tests.{leb-true, leb-false}
 use types.Run.{OneOf}
 use denote.Enum.Declared.{tag_of}
 use Rattle.statement.specs.contracts.Statement.{enum, the_type}
-use Rattle.statement.specs.Reading.{read_of}
-use Rattle.statement.specs.declared.Reading.{Reading}
-use Rattle.statement.specs.declared.Reading.TheVariants.{Got, NoForm, TooLarge}
+use Rattle.statement.specs.Reading.{Reading, read_of}
+use Rattle.statement.specs.declared.Misread.TheVariants.{NoForm, TooLarge}
 use Rattle.statement.specs.declared.Statement.{Statement}
 use Rattle.statement.specs.Views.{Ask, request_in, request_of, of}
-use Rattle.statement.proofs.Readings.{Unread}
 use Rattle.statement.proofs.Variants.{all_but, at_each}
 use Rattle.lines.specs.Sheet.{Content, laid, content_after, line_count, line_at, headed, body_at, After}
 use Rattle.std.specs.Prelude.{Some}
@@ -54,17 +53,11 @@ row_by_lem : (o : Option Ask) (x : ℕ)
 row_by_lem none x = refl
 row_by_lem (some r) x = refl
 
--- a text that does not read asks for nothing
-pub alloc_unread : (r : Reading) → Unread r → no_alloc ≡ alloc_in r
-alloc_unread (Got t) h = absurd (h t refl)
-alloc_unread (NoForm at) h = refl
-alloc_unread (TooLarge at) h = refl
-
 line_row : (w : ℕ) (r : Reading) (x : ℕ) → row_of (line_of w r) x ≡ row_by (alloc_in r) x
 unfolding row_of alloc_of
-line_row w (Got t) x = row_by_lem (request_of t) x
-line_row w (NoForm at) x = refl
-line_row w (TooLarge at) x = refl
+line_row w (Ok t) x = row_by_lem (request_of t) x
+line_row w (Err (NoForm at)) x = refl
+line_row w (Err (TooLarge at)) x = refl
 
 -- the row of a line by its content
 content_row : (s : List ℕ) (k w : ℕ) (t : List ℕ) (x : ℕ) → content_after (suc k) s ≡ laid w t → row_of (lines_of s k) x ≡ row_by (alloc_in (read_of t)) x

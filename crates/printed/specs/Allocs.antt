@@ -1,7 +1,6 @@
 -- Which statement is an alloc. Assumes nothing.
-use Rattle.std.specs.Prelude.{true, false}
-use Rattle.statement.specs.declared.Reading.{Reading}
-use Rattle.statement.specs.declared.Reading.TheVariants.{Got, NoForm, TooLarge}
+use Rattle.std.specs.Prelude.{true, false, Ok, Err}
+use Rattle.statement.specs.Reading.{Reading}
 use Rattle.statement.specs.declared.Statement.{Statement}
 use Rattle.statement.specs.Views.{request_of, of}
 use Rattle.printed.specs.declared.Asked.{Asked}
@@ -16,6 +15,5 @@ alloc_of t = of (request_of t) (λ r. record { ok = true; name = r.name; columns
 
 -- a text that does not read is no alloc
 abbrev pub alloc_in : Reading → Asked
-alloc_in (Got t) = alloc_of t
-alloc_in (NoForm at) = no_alloc
-alloc_in (TooLarge at) = no_alloc
+alloc_in (Ok t) = alloc_of t
+alloc_in (Err m) = no_alloc

@@ -10,7 +10,7 @@ ghost use Rattle.judge.specs.Judged.{lines_of, judged_of};
 ghost use Rattle.printed.specs.Printed.{rows_up_to, printed_of, room_after, RunPrinted};
 ghost use Rattle.printed.specs.Allocs.{no_alloc, alloc_of, alloc_in};
 
-use statement::{Reading, Statement};
+use statement::Statement;
 use tokens::Name;
 
 // The sheet's reason (0 passed), and how many bytes its report has. Where the room is too short: 19, and 0.
@@ -58,7 +58,7 @@ fn alloc_in(text: &[u8]) -> Asked
     ensures { result ≡ alloc_in (read_of text.now) }
 {
     let r = reader::read(text);
-    let Reading::Got(t) = r else {
+    let Ok(t) = r else {
         return no_alloc();
     };
     alloc_of(t)

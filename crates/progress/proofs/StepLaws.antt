@@ -1,4 +1,5 @@
 -- The line at a place, by each way out of `step`: a layout fault, a statement that did not read, and what the statement gives. Assumes nothing.
+use Rattle.std.specs.Prelude.{Ok, Err}
 use Prim.Native.Nat.{ℕ, ◌-◌, ◌≤◌, ◌<◌}
 use mathlib.Core.Path.{◌≡◌, refl, sym, ap, ◌∙◌, subst}
 use mathlib.Core.Bool.{Bool, true, false, cond}
@@ -14,13 +15,13 @@ use Rattle.lines.proofs.SheetLaws.{line_seen_lem, line_inside, line_next}
 use Rattle.lines.proofs.SheetTheorems.{read_written, warp_below}
 use Rattle.laws.specs.Rules.{first_broken}
 use Rattle.statement.specs.declared.Statement.{Statement}
-use Rattle.statement.specs.declared.Reading.{Reading}
-use Rattle.statement.specs.declared.Reading.TheVariants.{Got, NoForm, TooLarge}
-use Rattle.statement.specs.Reading.{read_of, reason_of}
+use Rattle.statement.specs.declared.Misread.{Misread}
+use Rattle.statement.specs.declared.Misread.TheVariants.{NoForm, TooLarge}
+use Rattle.reasons.specs.Reasons.{number}
+use Rattle.statement.specs.Reading.{Reading, misread_reason, read_of}
 use Rattle.statement.specs.declared.Position.{Position}
 use Rattle.statement.specs.declared.Position.TheVariants.{Token}
 use Rattle.statement.specs.Positions.{byte_column}
-use Rattle.statement.proofs.Readings.{Unread}
 use Rattle.statement.specs.Views.{act_of}
 use Rattle.rules.specs.State.{State, lowest}
 use Rattle.rules.specs.Rows.{rules_of, first_position}
@@ -49,11 +50,9 @@ refused_done : (held : ℕ) (x : Line) (why : ℕ) → ((s : State) → first_br
 refused_done held x why w z a status r e = subst (λ (y : Step). LineDone held x a status y a) (sym e) (only-done held x why w z a status)
 
 -- a statement that did not read
-unread_done : (held w : ℕ) (reading : Reading) → Unread reading → (a : Arrays) (status : Status) (r : Step) → r ≡ only status (reason_of reading)
-    → LineDone held (line_of w reading) a status r a
-unread_done held w (Got t) h a status r e = absurd (h t refl)
-unread_done held w (NoForm at) h a status r e = refused_done held no_form 3 (λ s. refl) (λ z. omega (arith, z)) a status r e
-unread_done held w (TooLarge at) h a status r e = refused_done held too_large 4 (λ s. refl) (λ z. omega (arith, z)) a status r e
+unread_done : (held w : ℕ) (m : Misread) (a : Arrays) (status : Status) (r : Step) → r ≡ only status (number (misread_reason m)) → LineDone held (line_of w (Err m)) a status r a
+unread_done held w (NoForm at) a status r e = refused_done held no_form 3 (λ s. refl) (λ z. omega (arith, z)) a status r e
+unread_done held w (TooLarge at) a status r e = refused_done held too_large 4 (λ s. refl) (λ z. omega (arith, z)) a status r e
 
 -- a statement that was read, of a warp below 4
 read_done : (held w : ℕ) (t : Statement) (a : Arrays) (status : Status) (r : Step) (b : Arrays) → w < 4 → StatementDone held w t a status r b → LineDone held (statement w t) a status r b
@@ -64,20 +63,18 @@ read_done held w t a status r b h d s k =
 
 -- ---- where a refused line is refused
 -- a text that did not read is, where reading stopped
-unread_token : (s : State) (held w : ℕ) (reading : Reading) → Unread reading → first_position (line_rows lowest s held (line_of w reading)) ≡ Token
-unread_token s held w (Got t) h = absurd (h t refl)
-unread_token s held w (NoForm at) h = refl
-unread_token s held w (TooLarge at) h = refl
+unread_token : (s : State) (held w : ℕ) (m : Misread) → first_position (line_rows lowest s held (line_of w (Err m))) ≡ Token
+unread_token s held w (NoForm at) = refl
+unread_token s held w (TooLarge at) = refl
 
-unread_number : (reading : Reading) → Unread reading → eqb (reason_of reading) 0 ≡ false
-unread_number (Got t) h = absurd (h t refl)
-unread_number (NoForm at) h = refl
-unread_number (TooLarge at) h = refl
+unread_number : (m : Misread) → eqb (number (misread_reason m)) 0 ≡ false
+unread_number (NoForm at) = refl
+unread_number (TooLarge at) = refl
 
-pub unread_column : (text : List ℕ) (reading : Reading) → reading ≡ read_of text → Unread reading → (r : ℕ) → r ≡ byte_column text Token
+pub unread_column : (text : List ℕ) (m : Misread) → Err m ≡ read_of text → (r : ℕ) → r ≡ byte_column text Token
     → (s : State) (held w : ℕ) → r ≡ byte_column text (first_position (line_rows lowest s held (line_of w (read_of text))))
-unread_column text reading e h r f s held w =
-    f ∙ ap (byte_column text) (sym (unread_token s held w reading h) ∙ ap (λ (x : Reading). first_position (line_rows lowest s held (line_of w x))) e)
+unread_column text m e r f s held w =
+    f ∙ ap (byte_column text) (sym (unread_token s held w m) ∙ ap (λ (x : Reading). first_position (line_rows lowest s held (line_of w x))) e)
 
 -- one that did, where its statement is, being of a warp below 4
 module _ (s : State) (held w : ℕ) (t : Statement) (h : w < 4) where
@@ -86,7 +83,7 @@ module _ (s : State) (held w : ℕ) (t : Statement) (h : w < 4) where
   unfolding rules
   after_warp = rw (lt-ltb w 4 h) (refl, refl)
 
-  pub read_column : (text : List ℕ) (reading : Reading) → reading ≡ read_of text → reading ≡ Got t → (reason : ℕ)
+  pub read_column : (text : List ℕ) (reading : Reading) → reading ≡ read_of text → reading ≡ Ok t → (reason : ℕ)
       → reason ≡ first_broken (line_rules lowest s held (line_of w (read_of text)))
       → (p : Position) → (reason ≡ first_broken (rules lowest s held w t) → p ≡ first_position (rows lowest s held w t)) → (r : ℕ) → r ≡ byte_column text p
       → r ≡ byte_column text (first_position (line_rows lowest s held (line_of w (read_of text))))
@@ -142,21 +139,19 @@ module _ (s : List ℕ) (at held : ℕ) where
     there : (state : State) (c : ℕ) → Pointed state c (laid l.warp text) → Pointed state c (content_seen s (line_at s at))
     there state c = subst (Pointed state c) (sym content_is)
 
+    -- its statement did not read
+    module _ (m : Misread) (f : Err m ≡ read_of text) (a : Arrays) (status : Status) (r : Step) (i : r ≡ only status (number (misread_reason m))) where
+      pub not_read : LineDone held (line_seen s at) a status r a
+      not_read = subst (λ (x : Line). LineDone held x a status r a) (line_is (Err m) f) (unread_done held l.warp m a status r i)
+
+      pub unread_points : (c : ℕ) → c ≡ byte_column text Token → ColumnDone held (line_seen s at) (column_seen s at) a status r.reason c
+      unread_points c q state k =
+          let z : eqb r.reason 0 ≡ false = ap (λ (x : Step). eqb x.reason 0) i ∙ unread_number m in
+          rw z (there state c (unread_column text m f c q state held l.warp))
+
+    -- its statement was read
     module _ (reading : Reading) (f : reading ≡ read_of text) where
-      -- its statement did not read
-      pub not_read : Unread reading → (a : Arrays) (status : Status) (why : ℕ) → why ≡ reason_of reading → (r : Step) → r ≡ only status why
-          → LineDone held (line_seen s at) a status r a
-      not_read h a status why k r i =
-          subst (λ (x : Line). LineDone held x a status r a) (line_is reading f) (unread_done held l.warp reading h a status r (i ∙ ap (only status) k))
-
-      pub unread_points : Unread reading → (a : Arrays) (status : Status) (why : ℕ) → why ≡ reason_of reading → (r : Step) → r ≡ only status why
-          → (c : ℕ) → c ≡ byte_column text Token → ColumnDone held (line_seen s at) (column_seen s at) a status r.reason c
-      unread_points h a status why k r i c q state m =
-          let z : eqb r.reason 0 ≡ false = ap (λ (x : Step). eqb x.reason 0) i ∙ ap (λ (n : ℕ). eqb n 0) k ∙ unread_number reading h in
-          rw z (there state c (unread_column text reading f h c q state held l.warp))
-
-      -- its statement was read
-      pub was_read : (t : Statement) → reading ≡ Got t → (a : Arrays) (status : Status) (r : Step) (b : Arrays) → StatementDone held l.warp t a status r b
+      pub was_read : (t : Statement) → reading ≡ Ok t → (a : Arrays) (status : Status) (r : Step) (b : Arrays) → StatementDone held l.warp t a status r b
           → LineDone held (line_seen s at) a status r b
       was_read t g a status r b d =
           let q : statement l.warp t ≡ line_seen s at = ap (line_of l.warp) (sym g) ∙ line_is reading f in

@@ -6,7 +6,6 @@ ghost use Rattle.lines.specs.Sheet.{most_lines, line_at, next_of};
 ghost use Rattle.steps.specs.Steps.{arrays_now, arrays_in, arrays_out, only, Sized, LineDone};
 ghost use Rattle.progress.specs.Going.{opening, line_seen, column_seen, TextBlamed, ColumnDone, passed_by, counted_of, Small, Ready, Went};
 
-use statement::Reading;
 use steps::{Status, Step};
 
 // What is known after some accepted lines, beside the arrays and the starts: what is kept, the requests, the columns held and
@@ -92,7 +91,7 @@ fn text_column<'a>(
         return 0;
     }
     let reading = reader::read(text);
-    let Reading::Got(t) = reading else {
+    let Ok(t) = reading else {
         return places::stopped(text, reading);
     };
     let p = blame::position(
@@ -129,9 +128,12 @@ fn step(
     let start = line.start;
     let end = line.end;
     let reading = reader::read(&sheet[start..end]);
-    let Reading::Got(t) = reading else {
-        let column = places::stopped(&sheet[start..end], reading);
-        return refused(reader::reason(reading), column, status, line.next);
+    let t = match reading {
+        Ok(t) => t,
+        Err(misread) => {
+            let column = places::stopped(&sheet[start..end], reading);
+            return refused(misread.reason().number(), column, status, line.next);
+        }
     };
     let step = steps::statement(
         hi, lo, columns, value_hi, value_lo, numbers, widths, words, status, held, line.warp, t,

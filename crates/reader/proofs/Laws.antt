@@ -1,5 +1,5 @@
 -- Laws of numbers, lists of names and answers, in the words of the code. Assumes nothing.
-use Rattle.std.specs.Prelude.{Option, Some, None}
+use Rattle.std.specs.Prelude.{Option, Some, None, Ok, Err}
 use Prim.Native.Nat.{ℕ, zero, suc, ◌+◌, ◌-◌, ◌<◌, ◌≤◌}
 use native.Mathlib.Numerals.{add-one}
 use native.Mathlib.Nat.{sub_self}
@@ -29,12 +29,10 @@ use Rattle.statement.specs.declared.Statement.{Statement}
 use Rattle.statement.specs.declared.Statement.TheVariants.{Exit, Multiply as Multiplied}
 use Rattle.statement.specs.declared.Opcode.{Opcode}
 use Rattle.statement.specs.declared.Opcode.TheVariants.{Multiply}
-use Rattle.statement.specs.declared.Reading.{Reading}
-use Rattle.statement.specs.declared.Reading.TheVariants.{Got, NoForm}
+use Rattle.statement.specs.declared.Misread.TheVariants.{NoForm}
 use Rattle.statement.specs.Forms.{name, number, Values, max_offset, Whole, plain}
 use Rattle.statement.specs.Opcodes.{recognise}
-use Rattle.statement.specs.Reading.{offset_c, address_c, operand_c, more_c, tally, his, los, answer_of, more_row_c, row_c, operands_c, start, opcode_len, whole_by, whole_c, longest_text, read_of, fine, registers_of, told}
-use Rattle.statement.proofs.Readings.{Unread}
+use Rattle.statement.specs.Reading.{Reading, offset_c, address_c, operand_c, more_c, tally, his, los, answer_of, more_row_c, row_c, operands_c, start, opcode_len, whole_by, whole_c, longest_text, read_of, fine, registers_of, told}
 use Rattle.opcode.specs.declared.Head.{Head}
 use Rattle.opcode.specs.Heads.{head_seen, head_by, head_of}
 use Rattle.statement.specs.contracts.Opcode.{enum, the_type}
@@ -184,7 +182,7 @@ module _ (s : List ℕ) where
   whole-none is = head_whole s ∙ rw (← is)
 
 -- ---- the answer
-pub read_none : (s : List ℕ) → whole_c s ≡ record { value = plain Exit; next = off (start s) s } → NoForm 0 ≡ read_of s
+pub read_none : (s : List ℕ) → whole_c s ≡ record { value = plain Exit; next = off (start s) s } → Err (NoForm 0) ≡ read_of s
 unfolding read_of answer_of
 read_none s w = rw (w, sub_self (length s))
 
@@ -196,12 +194,16 @@ read_told s t w = rw w
 abbrev good : List ℕ → Rest → Bool
 good text r = leb (length text) longest_text && fine r
 
-good_by : (text : List ℕ) (r : Rest) (t u : Statement) (short ok over : Bool) → leb (length text) 4096 ≡ short → r.ok ≡ ok → r.over ≡ over → answer_of text r t ≡ Got u → good text r ≡ true
+good_by : (text : List ℕ) (r : Rest) (t u : Statement) (short ok over : Bool) → leb (length text) 4096 ≡ short → r.ok ≡ ok → r.over ≡ over → answer_of text r t ≡ Ok u → good text r ≡ true
 unfolding answer_of
 good_by text r t u true true false n p q h = rw (n, p, q)
 good_by text r t u true true true n p q h = absurd (let g = rw (n, p, q) at h in let z : ◌≡◌ {A = ℕ} 0 1 = cc in omega arith)
 good_by text r t u false true over n p q h = absurd (let g = rw (n, p) at h in let z : ◌≡◌ {A = ℕ} 0 1 = cc in omega arith)
 good_by text r t u short false over n p q h = absurd (let g = rw p at h in let z : ◌≡◌ {A = ℕ} 0 1 = cc in omega arith)
+
+-- what is known in the `else` of a `let Ok(..)`
+abbrev Unread : Reading → Type 0
+Unread r = (t : Statement) → r ≡ Ok t → ⊥
 
 not-good_by : (text : List ℕ) (r : Rest) (t : Statement) (short ok over : Bool) → leb (length text) 4096 ≡ short → r.ok ≡ ok → r.over ≡ over → Unread (answer_of text r t) → good text r ≡ false
 unfolding answer_of
@@ -216,7 +218,7 @@ unfolding registers_of
 registers_none s w = rw (w, and-false (leb (length s) 4096))
 
 module _ (s : List ℕ) (t : Took Whole) (answer : Reading) (whole : whole_c s ≡ t) (told_is : answer ≡ told s t) where
-  pub registers_got : (u : Statement) → answer ≡ Got u → registers_of s ≡ t.value.registers
+  pub registers_got : (u : Statement) → answer ≡ Ok u → registers_of s ≡ t.value.registers
   unfolding registers_of
   registers_got u g =
       rw (whole, good_by s t.next t.value.statement u (leb (length s) 4096) t.next.ok t.next.over refl refl refl (sym told_is ∙ g))

@@ -7,7 +7,7 @@ ghost use Rattle.reader.specs.Rows.{paired_opcode, bracketed_of, limit_of, made_
 
 use crate::{Pair, Paired};
 use instruction::Kind;
-use statement::{Access, Metadata, Mma, Num, Reading, Shape, Statement};
+use statement::{Access, Metadata, Misread, Mma, Num, Reading, Shape, Statement};
 use tokens::{Cursor, Name, Read};
 
 // The most bytes of a text that reads.
@@ -20,15 +20,15 @@ pub fn answer(s: &[u8], k: Cursor, t: Statement) -> Reading
     let at = k.at;
     let far = k.far;
     if !k.ok {
-        return Reading::NoForm(lexer::cursor::place(s, at));
+        return Err(Misread::NoForm(lexer::cursor::place(s, at)));
     }
     if LONGEST < s.len() {
-        return Reading::NoForm(s.len());
+        return Err(Misread::NoForm(s.len()));
     }
     if k.over {
-        return Reading::TooLarge(lexer::cursor::place(s, far));
+        return Err(Misread::TooLarge(lexer::cursor::place(s, far)));
     }
-    Reading::Got(t)
+    Ok(t)
 }
 
 // A form with no operands.

@@ -7,10 +7,10 @@ pub mod operand;
 ghost use Rattle.std.specs.Prelude.{◌≡◌, length};
 ghost use Rattle.std.proofs.lemmas.List.Edits.{sets};
 ghost use Rattle.tokens.specs.Cursors.{seen};
-ghost use Rattle.statement.specs.Reading.{read_of, reason_of, registers_of, his, los, operands_c, told};
+ghost use Rattle.statement.specs.Reading.{read_of, registers_of, his, los, operands_c, told};
 ghost use Rattle.reader.specs.Lists.{list_c};
 
-use statement::{Opcode, Reading, Statement};
+use statement::{Misread, Opcode, Reading, Statement};
 use tokens::{Cursor, Name};
 
 // The forms of a name and a number.
@@ -57,7 +57,7 @@ pub fn read(s: &[u8]) -> Reading
     ensures { result ≡ read_of s.now }
 {
     let Some(head) = opcode::head_of(s) else {
-        return Reading::NoForm(0);
+        return Err(Misread::NoForm(0));
     };
     let k = Cursor {
         at: head.end,
@@ -98,19 +98,8 @@ pub fn registers(s: &[u8], hi: &mut [u64; 128], lo: &mut [u64; 128]) -> usize
         far: head.end,
     };
     let t = operands(s, k, head.opcode);
-    let Reading::Got(_) = t else {
+    let Ok(_) = t else {
         return 0;
     };
     list_of(s, k, head.opcode, hi, lo)
-}
-
-// The number of an answer.
-pub fn reason(t: Reading) -> u32
-    ensures { result ≡ reason_of t }
-{
-    match t {
-        Reading::Got(_) => reasons::PASSED,
-        Reading::NoForm(_) => reasons::FORM,
-        Reading::TooLarge(_) => reasons::NUMBER,
-    }
 }

@@ -1,11 +1,11 @@
 -- A sheet as its lines were read: what its lines do, the figures by line, and the whole answer. Assumes nothing.
-use Rattle.std.specs.Prelude.{ℕ, zero, suc, ◌+◌, ◌-◌, max, Bool, true, not, cond, List, [], ◌∷◌, ◌++◌, ltb, eqb, length}
+use Rattle.std.specs.Prelude.{ℕ, zero, suc, ◌+◌, ◌-◌, max, Bool, true, not, cond, List, [], ◌∷◌, ◌++◌, ltb, eqb, length, Ok, Err}
 use Rattle.std.proofs.Math.Option.{Option, none, some}
 use Rattle.std.proofs.lemmas.List.Edits.{sets}
 use Rattle.laws.specs.Rules.{Rule, first_broken}
 use Rattle.tokens.specs.declared.Name.{Name}
-use Rattle.statement.specs.declared.Reading.{Reading}
-use Rattle.statement.specs.declared.Reading.TheVariants.{Got, NoForm, TooLarge}
+use Rattle.statement.specs.Reading.{Reading}
+use Rattle.statement.specs.declared.Misread.TheVariants.{NoForm, TooLarge}
 use Rattle.statement.specs.declared.Statement.{Statement}
 use Rattle.statement.specs.declared.Position.{Position}
 use Rattle.statement.specs.declared.Position.TheVariants.{Start}
@@ -27,9 +27,9 @@ pub data Line : Type 0 where
 
 -- the line of a text that was read beside a warp
 abbrev pub line_of : ℕ → Reading → Line
-line_of w (Got t) = statement w t
-line_of w (NoForm at) = no_form
-line_of w (TooLarge at) = too_large
+line_of w (Ok t) = statement w t
+line_of w (Err (NoForm at)) = no_form
+line_of w (Err (TooLarge at)) = too_large
 
 -- what a line does, and by which warp; a line that gives no statement does nothing
 abbrev pub turn_of : Line → Turn

@@ -1,12 +1,13 @@
 -- What the functions on statements answer in numbers. Assumes nothing.
-use Rattle.std.specs.Prelude.{ℕ}
-use Rattle.statement.specs.declared.Written.{Written}
+use Rattle.std.specs.Prelude.{ℕ, Result, Ok, Err}
+use Rattle.reasons.specs.declared.Reason.{Reason}
+use Rattle.reasons.specs.Reasons.{answered}
 
--- the reason of a writing, 0 for a text, and the length, 0 for a refusal
-abbrev pub written_reason : Written → ℕ
-written_reason (Written.Length n) = 0
-written_reason (Written.Refused reason) = reason
+-- the reason of a writing, 0 for a text
+abbrev pub written_reason : Result ℕ Reason → ℕ
+written_reason w = answered w
 
-abbrev pub written_length : Written → ℕ
-written_length (Written.Length n) = n
-written_length (Written.Refused reason) = 0
+-- its length, 0 for a refusal
+abbrev pub written_length : Result ℕ Reason → ℕ
+written_length (Ok n) = n
+written_length (Err reason) = 0

@@ -4,33 +4,20 @@ ghost use Rattle.statement.specs.Reading.{read_of, registers_of};
 ghost use Rattle.canonical.specs.Alone.{alone_reason, alone_column, rewritten, left_of};
 ghost use Rattle.staplehorn.specs.Statements.{written_reason, written_length};
 
-use statement::Written;
-
 // The reason of a statement's text: 3, 4 or 5, else 0; and the column that it is found in, from 1, or 0.
 pub fn staplehorn_statement_reason(text: &[u8], column: &mut usize) -> u32
     ensures reason { result ≡ alone_reason (read_of text.now) }
     ensures column { column.new ≡ alone_column (read_of text.now) }
 {
-    let r = canonical::judge_text(text);
-    *column = r.column;
-    r.reason
-}
-
-fn reason_of(w: Written) -> u32
-    ensures { result ≡ written_reason w }
-{
-    match w {
-        Written::Length(_) => 0,
-        Written::Refused(n) => n,
-    }
-}
-
-fn length_of(w: Written) -> usize
-    ensures { result ≡ written_length w }
-{
-    match w {
-        Written::Length(n) => n,
-        Written::Refused(_) => 0,
+    match canonical::judge_text(text) {
+        Ok(()) => {
+            *column = 0;
+            0
+        }
+        Err(refusal) => {
+            *column = refusal.column;
+            refusal.reason.number()
+        }
     }
 }
 
@@ -40,7 +27,14 @@ pub fn staplehorn_statement_canonical(text: &[u8], room: &mut [u8], size: &mut u
     ensures size { size.new ≡ written_length (rewritten (length room.old) (read_of text.now) (registers_of text.now)) }
     ensures room { room.new ≡ left_of room.old (read_of text.now) (registers_of text.now) }
 {
-    let w = canonical::rewrite(text, room);
-    *size = length_of(w);
-    reason_of(w)
+    match canonical::rewrite(text, room) {
+        Ok(length) => {
+            *size = length;
+            0
+        }
+        Err(reason) => {
+            *size = 0;
+            reason.number()
+        }
+    }
 }

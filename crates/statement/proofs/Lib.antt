@@ -1,5 +1,4 @@
 pub mod Every
-pub mod Readings
 pub mod Stops
 pub mod Words
 pub mod Bound

@@ -1,11 +1,9 @@
 -- Where the parts of a statement stand. A position is what is pointed at, as the opcode or an operand's name; its place is how many bytes of the statement's text
 -- stand before it; its column is counted in its line, from 1. `OperandsPlaced` of crate grammar ties places to the spellings. Assumes nothing.
-use Rattle.std.specs.Prelude.{ℕ, zero, suc, ◌+◌, ◌-◌, List, [], ◌∷◌, Bool, true, false, not, ◌&&◌, ◌||◌, cond, length, drop, eqb}
+use Rattle.std.specs.Prelude.{ℕ, zero, suc, ◌+◌, ◌-◌, List, [], ◌∷◌, Bool, true, false, not, ◌&&◌, ◌||◌, cond, length, drop, eqb, Ok, Err}
 use Rattle.std.proofs.Math.Option.{Option, none, some}
 use Rattle.tokens.specs.Text.{byte}
 use Rattle.tokens.specs.Bytes.{after_blanks}
-use Rattle.statement.specs.declared.Reading.{Reading}
-use Rattle.statement.specs.declared.Reading.TheVariants.{Got, NoForm, TooLarge}
 use Rattle.statement.specs.declared.Position.{Position}
 use Rattle.statement.specs.declared.Position.TheVariants as position
 use Rattle.tokens.specs.declared.Name.{Name}
@@ -14,7 +12,7 @@ use Rattle.statement.specs.declared.Operand.TheVariants as operands
 use Rattle.statement.specs.declared.Mma.{Mma}
 use Rattle.statement.specs.declared.Statement.{Statement}
 use Rattle.statement.specs.Forms.{Slot, name, number, in_brackets, address, operand, names, Value, Values, row}
-use Rattle.statement.specs.Reading.{opcode_len, read_of}
+use Rattle.statement.specs.Reading.{Reading, misread_place, opcode_len, read_of}
 use Rattle.statement.specs.Canonical.{sparse, opcode_of, values_of}
 
 -- ---- operands in a text
@@ -99,9 +97,8 @@ names_of t = row_names (row (opcode_of t)) (values_of t [])
 -- ---- columns
 -- the place of the token that no form has there, or of the number that is out of range; 0 for a text that reads
 abbrev pub stop_in : Reading → ℕ
-stop_in (Got t) = 0
-stop_in (NoForm at) = at
-stop_in (TooLarge at) = at
+stop_in (Ok t) = 0
+stop_in (Err m) = misread_place m
 
 -- a line has its warp in column 1, a tab in 2, and its statement from 3 on
 abbrev pub start_column : ℕ

@@ -1,6 +1,6 @@
 -- How a statement is read: the opcode, its row of operands, the answer. Assumes nothing.
 use Rattle.tokens.specs.Text.{byte}
-use Rattle.std.specs.Prelude.{ℕ, zero, suc, ◌-◌, List, [], ◌∷◌, map, Bool, true, false, ◌&&◌, cond, length, take, drop, leb, Option, Some, None}
+use Rattle.std.specs.Prelude.{ℕ, zero, suc, ◌-◌, List, [], ◌∷◌, map, Bool, true, false, ◌&&◌, cond, length, take, drop, leb, Option, Some, None, Result, Ok, Err}
 use Rattle.tokens.specs.declared.Name.{Name}
 use Rattle.tokens.specs.Bytes.{opcode_byte, run_len}
 use Rattle.tokens.specs.Cursors.{Rest, off, Took, mark_c, end_c, name_c}
@@ -11,8 +11,11 @@ use Rattle.statement.specs.declared.Operand.TheVariants as operand
 use Rattle.statement.specs.declared.Statement.{Statement}
 use Rattle.statement.specs.declared.Statement.TheVariants as s
 use Rattle.statement.specs.declared.Opcode.{Opcode}
-use Rattle.statement.specs.declared.Reading.{Reading}
-use Rattle.statement.specs.declared.Reading.TheVariants.{Got, NoForm, TooLarge}
+use Rattle.statement.specs.declared.Misread.{Misread}
+use Rattle.statement.specs.declared.Misread.TheVariants.{NoForm, TooLarge}
+use Rattle.reasons.specs.declared.Reason.{Reason}
+use Rattle.reasons.specs.declared.Reason.TheVariants as reason
+use Rattle.reasons.specs.Reasons.{number as number_of}
 use Rattle.statement.specs.Forms.{Slot, name, number, in_brackets, address, operand, names, Value, Values, max_offset, row, Whole, plain, make}
 use Rattle.statement.specs.Opcodes.{recognise}
 
@@ -84,6 +87,20 @@ row_c (k ∷ ks) r =
     record { value = (v.value, m.value); next = m.next }
 
 -- ---- the answer
+-- a statement, or why a text is none
+abbrev pub Reading : Type 0
+Reading = Result Statement Misread
+
+-- the reason that a text is refused for: no form, or a number out of range
+abbrev pub misread_reason : Misread → Reason
+misread_reason (NoForm at) = reason.Form
+misread_reason (TooLarge at) = reason.Number
+
+-- where that was seen
+abbrev pub misread_place : Misread → ℕ
+misread_place (NoForm at) = at
+misread_place (TooLarge at) = at
+
 -- the most bytes of a text that reads
 abbrev pub longest_text : ℕ
 longest_text = 4096
@@ -92,8 +109,8 @@ longest_text = 4096
 unfoldable pub answer_of : List ℕ → Rest → Statement → Reading
 answer_of text r t =
     cond r.ok
-    (cond (leb (length text) longest_text) (cond r.over (TooLarge (length text - length r.far)) (Got t)) (NoForm (length text)))
-    (NoForm (length text - length r.rest))
+    (cond (leb (length text) longest_text) (cond r.over (Err (TooLarge (length text - length r.far))) (Ok t)) (Err (NoForm (length text))))
+    (Err (NoForm (length text - length r.rest)))
 
 -- the operands of an opcode, read from r on
 unfoldable pub operands_c : Opcode → Rest → Took Whole
@@ -119,9 +136,8 @@ read_of text = answer_of text (whole_c text).next (whole_c text).value.statement
 
 -- the number of an answer
 abbrev pub reason_of : Reading → ℕ
-reason_of (Got t) = 0
-reason_of (NoForm at) = 3
-reason_of (TooLarge at) = 4
+reason_of (Ok t) = 0
+reason_of (Err m) = number_of (misread_reason m)
 
 -- reading ended well, with every number in range
 abbrev pub fine : Rest → Bool

@@ -1,7 +1,11 @@
-// The typed statement. Types and limits alone; what they mean, how they are read and written stands in specs/.
+// The typed statement, and why a text is none; what they mean, how they are read and written stands in specs/.
 #![tactic(auto)]
 
+ghost use Rattle.std.specs.Prelude.{◌≡◌};
+ghost use Rattle.statement.specs.Reading.{misread_reason, misread_place};
+
 use instruction::Kind;
+use reasons::Reason;
 use tokens::Name;
 
 // The largest numbers.
@@ -118,13 +122,38 @@ pub enum Opcode {
     Exit,
 }
 
-// A statement; or the position of the token at which no form can go on, or that of a number that is out of range.
-#[derive(Clone, Copy)]
-pub enum Reading {
-    Got(Statement),
+// Why a text is no statement.
+#[derive(Clone, Copy, Debug, PartialEq, Eq)]
+pub enum Misread {
+    // no form can go on at the token at this position
     NoForm(usize),
+    // the number at this position is out of range
     TooLarge(usize),
 }
+
+impl Misread {
+    // The reason that it is refused for.
+    pub fn reason(self) -> Reason
+        ensures { result ≡ misread_reason self }
+    {
+        match self {
+            Misread::NoForm(_) => Reason::Form,
+            Misread::TooLarge(_) => Reason::Number,
+        }
+    }
+
+    // Where it was seen.
+    pub fn place(self) -> usize
+        ensures { result ≡ misread_place self }
+    {
+        match self {
+            Misread::NoForm(at) | Misread::TooLarge(at) => at,
+        }
+    }
+}
+
+// A statement, or why a text is none.
+pub type Reading = Result<Statement, Misread>;
 
 // What a column points at: the line's first byte, where its warp stands; the token that no form has there, or the number that is out of range; the opcode; the name of an
 // operand, inside its bracket where it has one; an operand's first byte. Operands are counted from 0.
@@ -135,11 +164,4 @@ pub enum Position {
     Opcode,
     Name(usize),
     Operand(usize),
-}
-
-// The length written, or the reason that there is none.
-#[derive(Clone, Copy)]
-pub enum Written {
-    Length(usize),
-    Refused(u32),
 }

@@ -1,4 +1,5 @@
 -- What a buffer shows after a statement was composed in it: its canonical text exactly where the statement is such as reading gives. Assumes nothing.
+use Rattle.std.specs.Prelude.{Ok, Err}
 use Prim.Native.Nat.{ℕ, ◌+◌, ◌<◌, ◌≤◌}
 use native.Mathlib.Omega.{arith}
 use mathlib.Core.Path.{◌≡◌, refl, sym, ap, ◌∙◌}
@@ -10,7 +11,7 @@ use lib.Dec.{eqb}
 use borrow.Author.Tests.{le-leb, lt-leb, eqb-true, eqb-false}
 use Rattle.tokens.specs.declared.Name.{Name}
 use Rattle.statement.specs.declared.Statement.{Statement}
-use Rattle.statement.specs.declared.Written.TheVariants.{Length, Refused}
+use Rattle.reasons.specs.declared.Reason.TheVariants.{Room}
 use Rattle.statement.specs.Canonical.{text_of, given}
 use Rattle.writer.specs.Outputs.{capacity, Out, wrote, failed, out_seen, add_c, written_of, left_by}
 use Rattle.writer.proofs.Laws.{add-fits, add_refused, seen-over, seen_other, seen-wrote}
@@ -70,18 +71,18 @@ module _ (z u : List ℕ) (n : ℕ) (t : Statement) (regs : List Name) (start : 
 
 -- ---- answers
 module _ (room : List ℕ) (t : Statement) (regs : List Name) where
-  pub not-given : given t regs ≡ false → (Refused 19 ≡ written_of (length room) t regs) × (room ≡ left_by room t regs)
+  pub not-given : given t regs ≡ false → (Err Room ≡ written_of (length room) t regs) × (room ≡ left_by room t regs)
   unfolding written_of left_by
   not-given g = (rw g, rw g)
 
   module _ (u : List ℕ) (n : ℕ) (k : Composed u n t regs) where
-    pub no_room : length room < n → (Refused 19 ≡ written_of (length room) t regs) × (room ≡ left_by room t regs)
+    pub no_room : length room < n → (Err Room ≡ written_of (length room) t regs) × (room ≡ left_by room t regs)
     unfolding written_of left_by
     no_room h =
         let l : length room < length (text_of t regs) = omega (arith, k.size) in
         (rw (k.is-given, lt-leb (length (text_of t regs)) (length room) l), rw (k.is-given, lt-leb (length (text_of t regs)) (length room) l))
 
-    pub all-written : (r : List ℕ) → n ≤ length room → r ≡ sets room 0 (take n u) → (Length n ≡ written_of (length room) t regs) × (r ≡ left_by room t regs)
+    pub all-written : (r : List ℕ) → n ≤ length room → r ≡ sets room 0 (take n u) → (Ok n ≡ written_of (length room) t regs) × (r ≡ left_by room t regs)
     unfolding written_of left_by
     all-written r h c =
         let l : length (text_of t regs) ≤ length room = omega (arith, k.size) in

@@ -1,12 +1,12 @@
 -- Writing, step by step, into a buffer. Assumes nothing.
-use Rattle.std.specs.Prelude.{ℕ, ◌+◌, List, [], ◌∷◌, ◌++◌, Bool, true, ◌&&◌, ◌||◌, cond, length, take, drop, leb, eqb}
+use Rattle.std.specs.Prelude.{ℕ, ◌+◌, List, [], ◌∷◌, ◌++◌, Bool, true, ◌&&◌, ◌||◌, cond, length, take, drop, leb, eqb, Result, Ok, Err}
 use Rattle.std.proofs.lemmas.List.Edits.{sets}
 use Rattle.tokens.specs.declared.Name.{Name}
 use Rattle.tokens.specs.Names.{is_name, name_bytes}
 use Rattle.statement.specs.declared.Statement.{Statement}
 use Rattle.statement.specs.declared.Opcode.{Opcode}
-use Rattle.statement.specs.declared.Written.{Written}
-use Rattle.statement.specs.declared.Written.TheVariants.{Length, Refused}
+use Rattle.reasons.specs.declared.Reason.{Reason}
+use Rattle.reasons.specs.declared.Reason.TheVariants.{Room}
 use Rattle.tokens.specs.Text.{bytes}
 use Rattle.statement.specs.Forms.{word, Slot, in_brackets, names, Values, row}
 use Rattle.statement.specs.Reading.{paired}
@@ -64,8 +64,8 @@ unfoldable pub halves_given : List ℕ → List ℕ → Bool
 halves_given x y = (eqb (length x) 8 || eqb (length y) 0) && is_name (x ++ y)
 
 -- ---- what the writer answers, and what the room holds then
-unfoldable pub written_of : ℕ → Statement → List Name → Written
-written_of n t regs = cond (given t regs && leb (length (text_of t regs)) n) (Length (length (text_of t regs))) (Refused 19)
+unfoldable pub written_of : ℕ → Statement → List Name → Result ℕ Reason
+written_of n t regs = cond (given t regs && leb (length (text_of t regs)) n) (Ok (length (text_of t regs))) (Err Room)
 
 unfoldable pub left_by : List ℕ → Statement → List Name → List ℕ
 left_by old t regs = cond (given t regs && leb (length (text_of t regs)) (length old)) (sets old 0 (text_of t regs)) old

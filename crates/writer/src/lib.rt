@@ -11,7 +11,8 @@ ghost use Rattle.statement.specs.Reading.{paired};
 ghost use Rattle.writer.specs.Outputs.{out_seen, add_c, written_of, left_by};
 
 use output::{Buffer, CAPACITY};
-use statement::{MAX32, MAX64, Statement, Written};
+use reasons::Reason;
+use statement::{MAX32, MAX64, Statement};
 
 // A statement's text in a buffer.
 fn compose(t: &mut Buffer, statement: Statement, hi: &[u64], lo: &[u64]) -> usize
@@ -54,18 +55,18 @@ fn compose(t: &mut Buffer, statement: Statement, hi: &[u64], lo: &[u64]) -> usiz
 
 // The canonical text of a statement, and how long it is; 19, and the room is unchanged, where it is too short or the
 // statement or its registers' names are not such as reading gives.
-pub fn write(statement: Statement, hi: &[u64], lo: &[u64], room: &mut [u8]) -> Written
+pub fn write(statement: Statement, hi: &[u64], lo: &[u64], room: &mut [u8]) -> Result<usize, Reason>
     ensures answer { result ≡ written_of (length room.old) statement (paired (take (count_of statement) hi.now) (take (count_of statement) lo.now)) }
     ensures left { room.new ≡ left_by room.old statement (paired (take (count_of statement) hi.now) (take (count_of statement) lo.now)) }
 {
     let mut t = [0u8; CAPACITY];
     let n = compose(&mut t, statement, hi, lo);
     if CAPACITY < n {
-        return Written::Refused(reasons::ROOM);
+        return Err(Reason::Room);
     }
     if room.len() < n {
-        return Written::Refused(reasons::ROOM);
+        return Err(Reason::Room);
     }
     pieces::fill(room, 0, &t[..n]);
-    Written::Length(n)
+    Ok(n)
 }

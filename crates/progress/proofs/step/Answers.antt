@@ -1,6 +1,8 @@
 -- `progress::step` meets its contract: one law for each way out, a layout fault, a statement that did not read, and what the statement gives. Assumes
 -- nothing.
-use mathlib.Core.Path.{refl, ap, ◌∙◌}
+use mathlib.Core.Path.{refl, sym, ap, ◌∙◌}
+use Rattle.reasons.specs.Reasons.{number}
+use Rattle.steps.specs.Steps.{only}
 use Rattle.lines.specs.Sheet.{next_of}
 use Rattle.progress.proofs.StepLaws.{next-is, fault-done, fault_points, part, warp_small, not_read, unread_points, was_read, read_points}
 use Rattle.progress.proofs.step.Goals as goal
@@ -29,16 +31,20 @@ slice_bounds-stopped-count c =
     (part a.sheet.now a.at a.held l.line l.ensures).0
 
 pub stopped-column-requires : goal.stopped-column-requires
-stopped-column-requires c = c.read-reading.ensures
+stopped-column-requires c = sym c.in-Err.is ∙ c.read-reading.ensures
 
-pub returns-in_default-reading : goal.returns-in_default-reading
-returns-in_default-reading c =
+pub returns-in-Err : goal.returns-in-Err
+returns-in-Err c =
     let a = c.args in
     let l = c.in-Some in
-    let x = c.read-reading in
-    let r = c.refused-in_default-reading.ensures in
-    let u = c.in_default-reading.not-Got in
-    let why = c.reason.ensures in (record { done = not_read a.sheet.now a.at a.held l.line l.ensures x.result x.ensures u _ _ _ why _ r.0; column = unread_points a.sheet.now a.at a.held l.line l.ensures x.result x.ensures u _ _ _ why _ r.0 _ (r.1 ∙ c.stopped-column.ensures); next = next-is a.sheet.now a.at a.held l.line l.ensures _ r.2 })
+    let r = c.refused-in-Err.ensures in
+    let e = sym c.in-Err.is ∙ c.read-reading.ensures in
+    let i = r.0 ∙ ap (only a.status) (c.number.ensures ∙ ap number c.reason.ensures) in
+    record {
+      done = not_read a.sheet.now a.at a.held l.line l.ensures _ e _ _ _ i;
+      column = unread_points a.sheet.now a.at a.held l.line l.ensures _ e _ _ _ i _ (r.1 ∙ c.stopped-column.ensures);
+      next = next-is a.sheet.now a.at a.held l.line l.ensures _ r.2;
+    }
 
 pub statement-step-requires : goal.statement-step-requires
 statement-step-requires c =
@@ -58,7 +64,7 @@ returns c =
     let x = q.read-reading in
     let a = q.args in
     let l = q.in-Some in
-    let w = was_read a.sheet.now a.at a.held l.line l.ensures x.result x.ensures _ q.in-Got.is _ _ _ _ q.statement-step.ensures in
+    let w = was_read a.sheet.now a.at a.held l.line l.ensures x.result x.ensures _ q.in-Ok.is _ _ _ _ q.statement-step.ensures in
     let t = c.text_column-column.ensures in (record { done = w; column = read_points a.sheet.now a.at a.held l.line l.ensures x.result x.ensures _ _ _ _ w _ t.passed t.refused; next = next-is a.sheet.now a.at a.held l.line l.ensures _ refl })
 
 pub slice_bounds-read-start : goal.slice_bounds-read-start

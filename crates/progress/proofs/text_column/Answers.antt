@@ -1,9 +1,7 @@
 -- `progress::text_column` meets its contract: one law for a text that did not read and one for a statement. Assumes nothing.
-use mathlib.Core.Path.{refl}
+use mathlib.Core.Path.{refl, sym, ◌∙◌}
 use native.Mathlib.Omega.{arith}
-use Rattle.statement.proofs.Readings.{unread}
 use Rattle.progress.proofs.StepLaws.{unread_column, read_column}
-use borrow.Enum.Refused.{opened}
 use Rattle.progress.proofs.text_column.Goals as goal
 
 pub returns-then-reason-eq-PASSED : goal.returns-then-reason-eq-PASSED
@@ -15,8 +13,8 @@ stopped-requires c = c.read-reading.ensures
 pub returns-in_default : goal.returns-in_default
 returns-in_default c =
     let x = c.read-reading in
-    (record { passed = (λ z. absurd (c.if-reason-eq-PASSED.false z)); refused = λ s held w h i p e. unread_column _ x.result x.ensures (unread x.result (opened c.in_default.in_default-own.keys2)) _ c.stopped.ensures s held w })
+    (record { passed = (λ z. absurd (c.if-reason-eq-PASSED.false z)); refused = λ s held w h i p e. unread_column _ _ (sym c.in_default.is ∙ x.ensures) _ c.stopped.ensures s held w })
 
 pub returns : goal.returns
 returns c =
-    let x = c.read-reading in (record { passed = (λ z. absurd (c.if-reason-eq-PASSED.false z)); refused = λ s held w h i p e. read_column s held w _ i _ x.result x.ensures c.in-Got.is _ e _ (c.position-p.ensures s held w h p) _ c.column.ensures })
+    let x = c.read-reading in (record { passed = (λ z. absurd (c.if-reason-eq-PASSED.false z)); refused = λ s held w h i p e. read_column s held w _ i _ x.result x.ensures c.in-Ok.is _ e _ (c.position-p.ensures s held w h p) _ c.column.ensures })

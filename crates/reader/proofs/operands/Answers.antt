@@ -6,9 +6,8 @@ use mathlib.Core.Bool.{Bool, false}
 use Rattle.tokens.specs.Cursors.{Rest, seen, Took}
 use Rattle.statement.specs.declared.Opcode.{Opcode}
 use Rattle.statement.specs.declared.Opcode.TheVariants.{Alloc}
-use Rattle.statement.specs.declared.Reading.{Reading}
 use Rattle.statement.specs.Forms.{Whole}
-use Rattle.statement.specs.Reading.{operands_c, row_c, told}
+use Rattle.statement.specs.Reading.{Reading, operands_c, row_c, told}
 use Rattle.reader.specs.declared.Paired.{Paired}
 use Rattle.reader.specs.Rows.{paired_opcode}
 use Rattle.reader.proofs.operands.Goals as goal
