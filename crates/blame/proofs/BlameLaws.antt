@@ -35,8 +35,8 @@ use Rattle.checks.specs.Checks.{tested}
 use Rattle.checks.specs.Tables.{Tables}
 use Rattle.bindings.specs.declared.Value.{Value}
 use Rattle.bindings.specs.Table.{value_in}
+use Rattle.instruction.specs.Descriptor.{JudgedWord}
 use Rattle.instruction.specs.Instruction as instruction
-use Rattle.instruction.specs.declared.Judged.{Judged}
 use Rattle.blame.specs.Blame.{booking_at, access_at, first_or, mma_pointed}
 
 -- ---- of some tests one is broken: it is the first that is, or the last
@@ -54,9 +54,9 @@ width_32 s m e =
 
 pub n_is : (s : State) (hi lo columns value_hi value_lo numbers widths : List ℕ) → Tables hi lo columns value_hi value_lo numbers widths s → (m : Mma)
     → width_of m.idesc s.values ≡ 32 → (v : Value) → v ≡ value_in value_hi value_lo numbers widths m.idesc → (word : ℕ) → word ≡ v.number % 2 ^ 32
-    → (sp : Bool) → sp ≡ sparse m.metadata → (i : Judged) → i ≡ instruction.judged m.kind m.ws sp word → i.n ≡ (instruction_of s m).descriptor.n
+    → (sp : Bool) → sp ≡ sparse m.metadata → (i : JudgedWord) → i ≡ instruction.judged m.kind m.ws sp word → i.n ≡ (instruction_of s m).descriptor.n
 unfolding instruction_of
-n_is s hi lo columns value_hi value_lo numbers widths h m u v pv word pw sp ps i pi = ap (λ (x : Judged). x.n) pi ∙ rw (ps, word-is)
+n_is s hi lo columns value_hi value_lo numbers widths h m u v pv word pw sp ps i pi = ap (λ (x : JudgedWord). x.n) pi ∙ rw (ps, word-is)
   where
     number_is : v.number ≡ number_of m.idesc s.values
     number_is = ap (λ (x : Value). x.number) (pv ∙ h.values.value m.idesc)

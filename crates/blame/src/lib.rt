@@ -7,6 +7,7 @@ ghost use Rattle.rules.specs.Rows.{test};
 ghost use Rattle.blame.specs.Blame.{booking_at, access_at, first_or, mma_pointed, MmaBlamed, Blamed};
 
 use checks::Tested;
+use instruction::Opcode;
 use statement::{Mma, Position, Statement};
 
 // Which operand idesc is.
@@ -70,7 +71,7 @@ fn mma<'a>(
     let v = bindings::lookup_in(value_hi, value_lo, numbers, widths, m.idesc);
     let word = checks::low(v.number);
     let sp = checks::is_sparse(metadata);
-    let i = instruction::judge_word(kind, m.ws, sp, word);
+    let i = Opcode { kind, ws: m.ws, sp }.judge_word(word);
     let d = checks::address_tested(hi, lo, columns, address, i.n);
     let a = checks::operand_tested(
         hi, lo, columns, value_hi, value_lo, numbers, widths, operand,

@@ -6,13 +6,16 @@ use mathlib.Core.Bool.{Bool, true, false, not, ◌&&◌, cond}
 use mathlib.Core.List.{List}
 use lib.Dec.{leb, eqb}
 use borrow.Author.Tests.{eqb-true}
+use Rattle.std.specs.Prelude.{Result, Ok, Err, is_ok}
+use Rattle.reasons.specs.declared.Reason.{Reason}
+use Rattle.reasons.proofs.ReasonLaws.{nonzero}
 use Rattle.laws.specs.Rules.{first_broken}
 use Rattle.tokens.specs.declared.Name.{Name}
-use Rattle.instruction.specs.declared.Judged.{Judged}
-use Rattle.instruction.specs.Descriptor.{InstructionRead}
+use Rattle.instruction.specs.Descriptor.{InstructionRead, JudgedWord}
 use Rattle.instruction.specs.Instruction as instruction
 use Rattle.instruction.proofs.NumberLaws.{judged-reads, judged_lists}
-use Rattle.shared_memory.specs.declared.SharedRead.{SharedRead}
+use Rattle.shared_memory.specs.Shared.{SharedRead, read_answer}
+use Rattle.shared_memory.specs.declared.Shared.{Shared}
 use Rattle.shared_memory.specs.Shared as shared
 use Rattle.statement.specs.declared.Address.{Address}
 use Rattle.statement.specs.declared.Mma.{Mma}
@@ -49,14 +52,18 @@ address-tested s hi lo columns h a needed span p end q =
     (q ∙ ap (λ (x : Span). eqb (lane_of a) 0 && leb (column_of a + needed) x.columns) p
     ∙ ap (λ (x : ℕ). eqb (lane_of a) 0 && leb (column_of a + needed) x) ((finds hi lo columns s.live h).size a.base))
 
+reads : (d : Result Shared Reason) → is_ok d ≡ eqb (read_answer d).reason 0
+reads (Ok _) = refl
+reads (Err r) = sym (nonzero r)
+
 pub descriptor-tested : (s : State) (hi lo numbers widths : List ℕ) (h : bindings.Shows (table hi lo numbers widths) s.values) (n : Name)
     (v : Value) → v ≡ value_in hi lo numbers widths n
-    → (d : SharedRead) → d ≡ shared.decoded v.number
-    → tested (eqb v.width 64) (eqb d.reason 0) true ≡ tested (eqb (width_of n s.values) 64) (shared_reads s n) true
+    → (d : Result Shared Reason) → read_answer d ≡ shared.decoded v.number
+    → tested (eqb v.width 64) (is_ok d) true ≡ tested (eqb (width_of n s.values) 64) (shared_reads s n) true
 descriptor-tested s hi lo numbers widths h n v p d q =
-    tested_path (eqb v.width 64) (eqb d.reason 0) true (eqb (width_of n s.values) 64) (shared_reads s n) true
+    tested_path (eqb v.width 64) (is_ok d) true (eqb (width_of n s.values) 64) (shared_reads s n) true
     (ap (λ (x : Value). eqb x.width 64) (p ∙ h.value n))
-    (ap (λ (x : SharedRead). eqb x.reason 0) q ∙ ap (λ (x : Value). eqb (shared.decoded x.number).reason 0) (p ∙ h.value n))
+    (reads d ∙ ap (λ (x : SharedRead). eqb x.reason 0) q ∙ ap (λ (x : Value). eqb (shared.decoded x.number).reason 0) (p ∙ h.value n))
     refl
 
 -- ---- the rules of an mma
@@ -116,7 +123,7 @@ module _ (s : State) (held w : ℕ) (m : Mma) (columns : ℕ) (a b e : Tested) (
 
   -- reason 12: a 32-bit value is the word
   module _ (n : names ≡ true) (word : ℕ) (pw : word ≡ v.number % 2 ^ 32) (sp : Bool) (ps : sp ≡ sparse m.metadata)
-      (i : Judged) (pi : i ≡ instruction.judged m.kind m.ws sp word) where
+      (i : JudgedWord) (pi : i ≡ instruction.judged m.kind m.ws sp word) where
     small : v.number < 2 ^ 32
     small = o.narrow (eqb-true v.width 32 (and_r (((not (eqb columns 0) && a.named) && b.named) && e.named) (eqb v.width 32) n))
 
@@ -130,7 +137,7 @@ module _ (s : State) (held w : ℕ) (m : Mma) (columns : ℕ) (a b e : Tested) (
     reading-is : not (eqb i.reason 12) ≡ eqb (instruction_of s m).reason 0
     reading-is =
         other_way (eqb i.reason 12) (eqb (instruction_of s m).reason 0)
-        (ap (λ (x : Judged). eqb x.reason 12) pi
+        (ap (λ (x : JudgedWord). eqb x.reason 12) pi
         ∙ judged-reads m.kind m.ws sp word
         ∙ ap (λ (x : InstructionRead). not (eqb x.reason 0)) decoded-is)
 
@@ -163,7 +170,7 @@ module _ (s : State) (held w : ℕ) (m : Mma) (columns : ℕ) (a b e : Tested) (
 
       listing-is : i.reason ≡ listing_of
       listing-is =
-          ap (λ (x : Judged). x.reason) pi
+          ap (λ (x : JudgedWord). x.reason) pi
           ∙ judged_lists m.kind m.ws sp word read_0
           ∙ ap₂ (λ (y : Bool) (x : InstructionRead). first_broken (instruction.listing m.kind m.ws y (instruction.fields x.descriptor))) ps decoded-is
 
@@ -181,7 +188,7 @@ module _ (s : State) (held w : ℕ) (m : Mma) (columns : ℕ) (a b e : Tested) (
         within-is : within ≡ mma_ends s m.d (instruction_of s m).descriptor.n
         within-is =
             q
-            ∙ ap (λ (x : Judged). eqb (lane_of m.d) 0 && leb (column_of m.d + x.n) columns) pi
+            ∙ ap (λ (x : JudgedWord). eqb (lane_of m.d) 0 && leb (column_of m.d + x.n) columns) pi
             ∙ ap (λ (x : InstructionRead). eqb (lane_of m.d) 0 && leb (column_of m.d + x.descriptor.n) columns) decoded-is
             ∙ ap (λ (x : ℕ). eqb (lane_of m.d) 0 && leb (column_of m.d + (instruction_of s m).descriptor.n) x) o.size
 

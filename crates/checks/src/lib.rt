@@ -9,6 +9,7 @@ ghost use Rattle.rules.specs.Reasons.{per_lane, closed_rules};
 ghost use Rattle.checks.specs.Checks.{AccessJudged, start_if, AddressTested, DescriptorTested, OperandTested, MetadataTested, OperandsJudged, MmaJudged};
 
 use bindings::Value;
+use instruction::Opcode;
 use statement::{Access, Address, Metadata, Mma, Num, Operand, Shape, Statement};
 use tokens::Name;
 
@@ -149,10 +150,9 @@ pub fn descriptor_tested<'a>(
     ensures { DescriptorTested hi.now lo.now numbers.now widths.now name result }
 {
     let v = bindings::lookup_in(hi, lo, numbers, widths, name);
-    let d = shared_memory::decode(v.number);
     Tested {
         named: v.width == 64,
-        reads: d.reason == reasons::PASSED,
+        reads: shared_memory::decode(v.number).is_ok(),
         ends: true,
     }
 }
@@ -224,12 +224,13 @@ fn operands_reason(m: Mma, columns: u32, a: Tested, b: Tested, e: Tested, v: Val
     let kind = m.kind;
     let word = low(v.number);
     let sp = is_sparse(metadata);
-    let i = instruction::judge_word(kind, m.ws, sp, word);
-    if !(a.reads & b.reads & (i.reason != reasons::DESCRIPTOR)) {
+    let i = Opcode { kind, ws: m.ws, sp }.judge_word(word);
+    let reason = reasons::answered(i.listed);
+    if !(a.reads & b.reads & (reason != reasons::DESCRIPTOR)) {
         return reasons::DESCRIPTOR;
     }
-    if i.reason != reasons::PASSED {
-        return i.reason;
+    if reason != reasons::PASSED {
+        return reason;
     }
     if mma_within(address.offset, i.n, columns) & a.ends & e.ends {
         reasons::PASSED

@@ -10,10 +10,8 @@ use Rattle.instruction.specs.Instruction.{layout, values, numbers, named, rules,
 use Rattle.instruction.proofs.NumberLaws.{word-numbers, numbers_back}
 use Rattle.instruction.specs.Claims.{InstructionExact}
 use Rattle.instruction.specs.declared.Kind.{Kind}
-use Rattle.instruction.specs.Descriptor.{Instruction, InstructionRead}
-use Rattle.instruction.specs.declared.InstructionWord.{InstructionWord}
+use Rattle.instruction.specs.Descriptor.{Instruction, InstructionRead, FieldsRead, InstructionWord}
 use Rattle.instruction.specs.declared.Fields.{Fields}
-use Rattle.instruction.specs.declared.FieldsRead.{FieldsRead}
 use Rattle.instruction.proofs.NamingLaws.{own, same, fields_at}
 
 module _ (kind : Kind) (ws sp : Bool) where

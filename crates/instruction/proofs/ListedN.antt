@@ -12,10 +12,9 @@ use Rattle.laws.proofs.BoolLaws.{and_l, and_r, chosen}
 use Rattle.laws.proofs.TestLaws.{each, all_of, agree_below, agree_below_lem}
 use Rattle.instruction.specs.Instruction.{layout, fields, values, named, keeps, found, made, no_word, fields_read, decoded, encoded_numbers, n_listed, n_table, n_fits}
 use Rattle.instruction.specs.Claims.{NExact}
-use Rattle.instruction.specs.Descriptor.{Instruction}
+use Rattle.instruction.specs.Descriptor.{Instruction, InstructionWord}
 use Rattle.instruction.specs.declared.Kind.{Kind}
 use Rattle.instruction.specs.declared.Fields.{Fields}
-use Rattle.instruction.specs.declared.InstructionWord.{InstructionWord}
 use Rattle.instruction.proofs.Exact.{instruction_exact}
 
 -- ---- a row of the table is right: it agrees with the rule on every multiple of 8 below 512, and has no other number

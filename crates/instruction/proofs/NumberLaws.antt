@@ -1,7 +1,7 @@
 -- The rules on a descriptor's numbers, before its types are named: the code tests them so. Assumes nothing.
 use Prim.Native.Nat.{ℕ, ◌<◌, ◌^◌}
 use mathlib.Core.Path.{◌≡◌, refl, ap, ap₂, sym, ◌∙◌, subst}
-use mathlib.Core.Bool.{Bool, true, false, ◌&&◌, ◌||◌, not, cond, beq}
+use mathlib.Core.Bool.{Bool, true, false, ◌&&◌, not, cond}
 use mathlib.Core.List.{List, [], ◌∷◌}
 use mathlib.Core.Option
 use mathlib.Core.Option.{Option, none, some}
@@ -13,27 +13,14 @@ use Rattle.laws.specs.Tests.{all, is_some}
 use Rattle.laws.specs.Layout.{says, stands, ranges, pack}
 use Rattle.laws.specs.Rules.{Rule, rule, first_broken}
 use Rattle.laws.proofs.BoolLaws.{never, and_split, and-join, and_l, and_r}
-use Rattle.laws.proofs.TestLaws.{find-passes, never_all}
+use Rattle.laws.proofs.TestLaws.{find-passes}
 use Rattle.laws.proofs.FormatLaws.{read_both, read_none}
 use Rattle.laws.proofs.LayoutLaws.{packed, unpacked}
 use Rattle.instruction.proofs.NamingLaws.{same}
-use Rattle.instruction.specs.Instruction.{layout, fields, values, fields_in, good, fields_read, named3, named, rules, keeps, dtype_of, element_of, of_kind, code, elements, is_i8, zero, found, made, no_descriptor, no_word, decoded, encoded_numbers, listing, fields_reason, judged}
+use Rattle.instruction.specs.Instruction.{layout, fields, values, fields_in, good, fields_read, named3, named, rules, typed, flags, keeps, dtype_of, element_of, of_kind, code, elements, zero, found, made, no_descriptor, no_word, decoded, encoded_numbers, listing, judged}
 use Rattle.instruction.specs.declared.Kind.{Kind}
 use Rattle.instruction.specs.Descriptor.{Dtype, Element, Instruction, InstructionRead}
 use Rattle.instruction.specs.declared.Fields.{Fields}
-use Rattle.instruction.specs.declared.FieldsRead.{FieldsRead}
-use Rattle.instruction.specs.declared.Judged.{Judged}
-use Rattle.instruction.specs.declared.InstructionWord.{InstructionWord}
-
--- the rules that do not look at the types, on numbers
-abbrev pub flags : Kind → Bool → Bool → List ℕ → List Bool
-flags kind ws sp l =
-    beq (eqb (get_or l 1 0) 1) sp
-    ∷ (eqb (get_or l 1 0) 1 || eqb (get_or l 0 0) 0)
-    ∷ (not (eqb (get_or l 2 0) 1) || is_i8 kind)
-    ∷ (not (eqb (get_or l 6 0) 1 || eqb (get_or l 7 0) 1) || not (is_i8 kind))
-    ∷ (eqb (get_or l 12 0) 0 || ws)
-    ∷ []
 
 -- a type that is found is of the kind
 found-of_kind : (kind : Kind) (c : ℕ) (t : Element) → element_of kind c ≡ some t → of_kind kind t ≡ true
@@ -42,16 +29,14 @@ found-of_kind kind c t e = (and_split (of_kind kind t) (eqb c (code t)) (find-pa
 by_options : (kind : Kind) (ws sp : Bool) (l : List ℕ) (x : Option Dtype) (y z : Option Element)
     → ((a : Element) → y ≡ some a → of_kind kind a ≡ true)
     → ((b : Element) → z ≡ some b → of_kind kind b ≡ true)
-    → all (is_some x ∷ is_some y ∷ is_some z ∷ flags kind ws sp l) ≡ keeps kind ws sp (named3 l x y z)
+    → (all (is_some x ∷ is_some y ∷ is_some z ∷ []) && all (flags kind ws sp l)) ≡ keeps kind ws sp (named3 l x y z)
 by_options kind ws sp l (some d) (some a) (some b) p q = rw (p a refl, q b refl)
-by_options kind ws sp l (some d) (some a) none p q = never_all (flags kind ws sp l)
-by_options kind ws sp l (some d) none z p q = never_all (flags kind ws sp l)
-by_options kind ws sp l none y z p q = never_all (flags kind ws sp l)
+by_options kind ws sp l (some d) (some a) none p q = refl
+by_options kind ws sp l (some d) none z p q = refl
+by_options kind ws sp l none y z p q = refl
 
 -- the code's tests on numbers decide whether they name a descriptor that keeps the rules
-pub admitted : (kind : Kind) (ws sp : Bool) (l : List ℕ)
-    → all (is_some (dtype_of (get_or l 3 0)) ∷ is_some (element_of kind (get_or l 4 0)) ∷ is_some (element_of kind (get_or l 5 0)) ∷ flags kind ws sp l)
-    ≡ keeps kind ws sp (named kind l)
+pub admitted : (kind : Kind) (ws sp : Bool) (l : List ℕ) → (typed kind l && all (flags kind ws sp l)) ≡ keeps kind ws sp (named kind l)
 admitted kind ws sp l =
     by_options kind ws sp l (dtype_of (get_or l 3 0)) (element_of kind (get_or l 4 0)) (element_of kind (get_or l 5 0))
     (found-of_kind kind (get_or l 4 0)) (found-of_kind kind (get_or l 5 0))
@@ -86,7 +71,7 @@ read_kept kind ws sp w f h e t =
     ∙ ap good (kept_same kind ws sp f (named kind (values f)) h refl (and_split (all (stands layout w)) (keeps kind ws sp (named kind (values f))) t).1)
 
 -- by the code's two tests
-pub read_fields : (kind : Kind) (ws sp : Bool) (w : ℕ) (f : Fields) (s k : Bool) → w < 2 ^ 32 → values f ≡ says layout w
+read_fields : (kind : Kind) (ws sp : Bool) (w : ℕ) (f : Fields) (s k : Bool) → w < 2 ^ 32 → values f ≡ says layout w
     → s ≡ all (stands layout w) → k ≡ keeps kind ws sp (named kind (values f)) → s && k ≡ true → fields_read (decoded kind ws sp w) ≡ good f
 read_fields kind ws sp w f s k b e p q t =
     let stand : all (stands layout w) ≡ true = sym p ∙ and_l s k t in
@@ -94,9 +79,17 @@ read_fields kind ws sp w f s k b e p q t =
     subst (λ (l : List ℕ). all (ranges layout l) ≡ true) (sym e) (unpacked 32 layout w refl b stand).0 in
     read_kept kind ws sp w f range e (and-join _ _ stand (sym q ∙ and_r s k t))
 
-pub read_refused : (kind : Kind) (ws sp : Bool) (w : ℕ) (f : Fields) (s k : Bool) → values f ≡ says layout w
+read_refused : (kind : Kind) (ws sp : Bool) (w : ℕ) (f : Fields) (s k : Bool) → values f ≡ says layout w
     → s ≡ all (stands layout w) → k ≡ keeps kind ws sp (named kind (values f)) → s && k ≡ false → decoded kind ws sp w ≡ no_descriptor
 read_refused kind ws sp w f s k e p q t = reading kind ws sp w (values f) false e (ap₂ ◌&&◌ (sym p) (sym q) ∙ t)
+
+-- what a word of 32 bits reads as, by the code's two tests
+pub read : (kind : Kind) (ws sp : Bool) (w : ℕ) (f : Fields) (s k : Bool) → w < 2 ^ 32 → f ≡ fields_in (says layout w)
+    → s ≡ all (stands layout w) → k ≡ keeps kind ws sp (named kind (values f))
+    → cond (s && k) (good f) (fields_read no_descriptor) ≡ fields_read (decoded kind ws sp w)
+read kind ws sp w f true true b e p q = sym (read_fields kind ws sp w f true true b (ap values e) p q refl)
+read kind ws sp w f true false b e p q = sym (ap fields_read (read_refused kind ws sp w f true false (ap values e) p q refl))
+read kind ws sp w f false k b e p q = sym (ap fields_read (read_refused kind ws sp w f false k (ap values e) p q refl))
 
 -- a word that is not read has no descriptor
 pub unread : (kind : Kind) (ws sp : Bool) (w : ℕ) → ((decoded kind ws sp w).reason ≡ 0 → ⊥) → decoded kind ws sp w ≡ no_descriptor
@@ -111,21 +104,6 @@ pub word-numbers : (kind : Kind) (ws sp : Bool) (l : List ℕ) (b k t : Bool)
     → b ≡ all (ranges layout l) → k ≡ keeps kind ws sp (named kind l) → b && k ≡ t → encoded_numbers kind ws sp l ≡ cond t (made (pack layout l)) no_word
 unfolding encoded_numbers
 word-numbers kind ws sp l b k t p q e = ap (λ (x : Bool). cond x (made (pack layout l)) no_word) (ap₂ ◌&&◌ (sym p) (sym q) ∙ e)
-
-pub word_made : (kind : Kind) (ws sp : Bool) (l : List ℕ) (w : ℕ) (b k : Bool) → w ≡ pack layout l
-    → b ≡ all (ranges layout l) → k ≡ keeps kind ws sp (named kind l) → b && k ≡ true → made w ≡ encoded_numbers kind ws sp l
-word_made kind ws sp l w b k e p q t = ap made e ∙ sym (word-numbers kind ws sp l b k true p q t)
-
--- and their reason
-pub numbers_reason : (kind : Kind) (ws sp : Bool) (f : Fields) (b k t : Bool)
-    → b ≡ all (ranges layout (values f)) → k ≡ keeps kind ws sp (named kind (values f)) → b && k ≡ t
-    → fields_reason kind ws sp f ≡ cond t (first_broken (listing kind ws sp f)) 12
-numbers_reason kind ws sp f b k t p q e =
-    ap (λ (a : InstructionWord). cond (eqb a.reason 0) (first_broken (listing kind ws sp f)) 12) (word-numbers kind ws sp (values f) b k t p q e) ∙ by_test t
-  where
-    by_test : (t : Bool) → cond (eqb (cond t (made (pack layout (values f))) no_word).reason 0) (first_broken (listing kind ws sp f)) 12 ≡ cond t (first_broken (listing kind ws sp f)) 12
-    by_test true = refl
-    by_test false = refl
 
 -- the word of some numbers reads as those numbers
 word_back : (kind : Kind) (ws sp : Bool) (f : Fields) (b k : Bool)
@@ -142,17 +120,7 @@ pub numbers_back : (kind : Kind) (ws sp : Bool) (f : Fields)
 unfolding encoded_numbers
 numbers_back kind ws sp f e = word_back kind ws sp f (all (ranges layout (values f))) (keeps kind ws sp (named kind (values f))) refl refl e
 
--- ---- what is judged goes by the fields that were read
-abbrev judged_fields : Kind → Bool → Bool → FieldsRead → Judged
-judged_fields kind ws sp a = record { reason = cond (eqb a.reason 0) (first_broken (listing kind ws sp a.fields)) a.reason; n = a.fields.n }
-
-pub judged_read : (kind : Kind) (ws sp : Bool) (w : ℕ) (f : Fields) → fields_read (decoded kind ws sp w) ≡ good f
-    → judged kind ws sp w ≡ record { reason = first_broken (listing kind ws sp f); n = f.n }
-judged_read kind ws sp w f e = ap (judged_fields kind ws sp) e
-
-pub judged_refused : (kind : Kind) (ws sp : Bool) (w : ℕ) → decoded kind ws sp w ≡ no_descriptor → judged kind ws sp w ≡ record { reason = 12; n = 0 }
-judged_refused kind ws sp w e = ap (λ (a : InstructionRead). judged_fields kind ws sp (fields_read a)) e
-
+-- ---- what is judged goes by the reading
 -- no rule has that number, nor is it 0
 abbrev NoneIs : ℕ → List Rule → Type 0
 NoneIs k [] = eqb 0 k ≡ false

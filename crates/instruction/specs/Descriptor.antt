@@ -1,5 +1,6 @@
 -- A descriptor with its types by name: the view that the claims speak of. Assumes nothing.
 use Rattle.std.specs.Prelude.{ℕ, Bool}
+use Rattle.instruction.specs.declared.Fields.{Fields}
 
 -- the type of D
 pub data Dtype : Type 0 where
@@ -39,3 +40,18 @@ pub record Instruction : Type 0 where
 pub record InstructionRead : Type 0 where
   pub reason : ℕ
   pub descriptor : Instruction
+
+-- the same with the descriptor as numbers
+pub record FieldsRead : Type 0 where
+  pub reason : ℕ
+  pub fields : Fields
+
+-- what writing answers: 0 and the word, or 12 and 0
+pub record InstructionWord : Type 0 where
+  pub reason : ℕ
+  pub word : ℕ
+
+-- what an mma needs of its instruction descriptor: the reason of the word, and N where it reads
+pub record JudgedWord : Type 0 where
+  pub reason : ℕ
+  pub n : ℕ

@@ -1,18 +1,18 @@
 -- The instruction descriptor (docs/FORMAT.md, 'Descriptor words'): 32 bits, read under an opcode, that is a kind, `.ws` and `.sp`. The code goes by
 -- the fields as numbers; a descriptor with named types is a view of them. Assumes nothing.
-use Rattle.std.specs.Prelude.{ℕ, ◌*◌, ◌%◌, Bool, true, false, ◌&&◌, ◌||◌, not, cond, List, [], ◌∷◌, eqb, leb, get_or}
+use Rattle.std.specs.Prelude.{ℕ, ◌*◌, ◌%◌, Bool, true, false, ◌&&◌, ◌||◌, not, cond, List, [], ◌∷◌, eqb, leb, get_or, Result, Ok, Err}
 use Rattle.std.specs.Bool.{beq}
 use Rattle.std.proofs.Math.Option.{Option, none, some}
-use Rattle.laws.specs.Tests.{all, among, find, bit}
+use Rattle.laws.specs.Tests.{all, among, find, bit, is_some}
 use Rattle.laws.specs.Layout.{Part, plain, scaled, fixed, ranges, pack}
 use Rattle.laws.specs.Format.{read_by, word_by}
 use Rattle.laws.specs.Rules.{Rule, rule, first_broken}
-use Rattle.instruction.specs.Descriptor.{Dtype, Element, Instruction, InstructionRead}
+use Rattle.instruction.specs.Descriptor.{Dtype, Element, Instruction, InstructionRead, FieldsRead, InstructionWord, JudgedWord}
+use Rattle.reasons.specs.declared.Reason.{Reason}
+use Rattle.reasons.specs.Reasons.{number, answered}
 use Rattle.instruction.specs.declared.Kind.{Kind}
 use Rattle.instruction.specs.declared.Fields.{Fields}
-use Rattle.instruction.specs.declared.FieldsRead.{FieldsRead}
 use Rattle.instruction.specs.declared.Judged.{Judged}
-use Rattle.instruction.specs.declared.InstructionWord.{InstructionWord}
 
 -- Bits 0-1 sparsity selector, 2 sparse, 3 saturate, 4-5 dtype, 7-9 atype, 10-12 btype, 13 and 14 negate A and B, 15 and 16 transpose A and B,
 -- 17-22 N/8, 24-28 M/16, 30-31 max shift. Bits 6, 23 and 29 are 0.
@@ -203,6 +203,20 @@ rules kind ws sp d =
     ∷ (eqb d.shift 0 || ws)
     ∷ []
 
+-- the same on numbers: their codes name types,
+abbrev pub typed : Kind → List ℕ → Bool
+typed kind l = all (is_some (dtype_of (get_or l 3 0)) ∷ is_some (element_of kind (get_or l 4 0)) ∷ is_some (element_of kind (get_or l 5 0)) ∷ [])
+
+-- and they keep the rules that do not look at the types
+abbrev pub flags : Kind → Bool → Bool → List ℕ → List Bool
+flags kind ws sp l =
+    beq (eqb (get_or l 1 0) 1) sp
+    ∷ (eqb (get_or l 1 0) 1 || eqb (get_or l 0 0) 0)
+    ∷ (not (eqb (get_or l 2 0) 1) || is_i8 kind)
+    ∷ (not (eqb (get_or l 6 0) 1 || eqb (get_or l 7 0) 1) || not (is_i8 kind))
+    ∷ (eqb (get_or l 12 0) 0 || ws)
+    ∷ []
+
 -- a descriptor is named and keeps the rules
 abbrev pub keeps : Kind → Bool → Bool → Option Instruction → Bool
 keeps kind ws sp none = false
@@ -323,5 +337,17 @@ abbrev pub word_reason : Kind → Bool → Bool → ℕ → ℕ
 word_reason kind ws sp word = read_reason kind ws sp (decoded kind ws sp word)
 
 -- what an mma needs of a word: its reason, and N where it reads
-abbrev pub judged : Kind → Bool → Bool → ℕ → Judged
+abbrev pub judged : Kind → Bool → Bool → ℕ → JudgedWord
 judged kind ws sp word = record { reason = word_reason kind ws sp word; n = (decoded kind ws sp word).descriptor.n }
+
+-- what an answer of the code stands for: the fields or the word with 0, or the reason with a zero value
+abbrev pub read_answer : Result Fields Reason → FieldsRead
+read_answer (Ok f) = good f
+read_answer (Err r) = record { reason = number r; fields = fields zero }
+
+abbrev pub word_answer : Result ℕ Reason → InstructionWord
+word_answer (Ok w) = made w
+word_answer (Err r) = record { reason = number r; word = 0 }
+
+abbrev pub judged_answer : Judged → JudgedWord
+judged_answer j = record { reason = answered j.listed; n = j.n }

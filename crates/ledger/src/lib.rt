@@ -162,7 +162,7 @@ impl Ledger {
         if !is_allowed(self.fixed, self.warp, warp) {
             return refused(self, Reason::Warp);
         }
-        if request::reason(requested) != reasons::PASSED {
+        if reasons::answered(request::check(requested)) != reasons::PASSED {
             return refused(self, Reason::Columns);
         }
         if self.relinquished {

@@ -59,36 +59,57 @@ impl Reason {
     }
 }
 
-// The number of an answer that has no value: 0 where nothing is refused.
-pub fn answered(answer: Result<(), Reason>) -> u32
+// The number of an answer: 0 where nothing is refused.
+pub fn answered<T: Copy>(answer: Result<T, Reason>) -> u32
     ensures { result ≡ answered answer }
 {
     match answer {
-        Ok(()) => 0,
+        Ok(_) => 0,
         Err(reason) => reason.number(),
     }
 }
 
 // The same as numbers, until every crate goes by the enum.
 pub const PASSED: u32 = 0;
+
 pub const SIZE: u32 = 1;
+
 pub const LAYOUT: u32 = 2;
+
 pub const FORM: u32 = 3;
+
 pub const NUMBER: u32 = 4;
+
 pub const REGISTERS: u32 = 5;
+
 pub const NAME: u32 = 6;
+
 pub const VALUES: u32 = 7;
+
 pub const WARP: u32 = 8;
+
 pub const COLUMNS: u32 = 9;
+
 pub const RELINQUISHED: u32 = 10;
+
 pub const SPACE: u32 = 11;
+
 pub const DESCRIPTOR: u32 = 12;
+
 pub const SHAPE_M: u32 = 13;
+
 pub const CELLS: u32 = 14;
+
 pub const EXIT: u32 = 15;
+
 pub const STARTS: u32 = 16;
+
 pub const OUTSTANDING: u32 = 18;
+
 pub const ROOM: u32 = 19;
+
 pub const SHAPE_N: u32 = 20;
+
 pub const TYPES: u32 = 21;
+
 pub const FRAGMENT: u32 = 22;

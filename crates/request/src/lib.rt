@@ -2,15 +2,18 @@
 #![tactic(auto)]
 
 ghost use Rattle.std.specs.Prelude.{◌≡◌};
+ghost use Rattle.reasons.specs.Reasons.{answered};
 ghost use Rattle.request.specs.Request.{request_reason};
 
-// 0 if the request is legal, else 9.
-pub fn reason(columns: u32) -> u32
-    ensures { result ≡ request_reason columns }
+use reasons::Reason;
+
+// Refuses a request that is not legal.
+pub fn check(columns: u32) -> Result<(), Reason>
+    ensures { answered result ≡ request_reason columns }
 {
-    if (32 <= columns) & (columns <= 512) & (u32::count_ones(columns) == 1) {
-        reasons::PASSED
+    if (32..=512).contains(&columns) && columns.count_ones() == 1 {
+        Ok(())
     } else {
-        reasons::COLUMNS
+        Err(Reason::Columns)
     }
 }

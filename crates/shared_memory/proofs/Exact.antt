@@ -7,11 +7,9 @@ use native.Mathlib.Omega.{arith}
 use Rattle.laws.specs.Tests.{all}
 use Rattle.laws.specs.Layout.{says, ranges, pack}
 use Rattle.laws.proofs.FormatLaws.{Reading, Writing, reading, writing, read_word, word_read}
-use Rattle.shared_memory.specs.Shared.{layout, numbers, named, rules, found, made, no_descriptor, no_word, decoded, encoded}
+use Rattle.shared_memory.specs.Shared.{layout, numbers, named, rules, found, made, no_descriptor, no_word, SharedRead, SharedWord, decoded, encoded}
 use Rattle.shared_memory.specs.Claims.{SharedExact}
 use Rattle.shared_memory.specs.declared.Shared.{Shared}
-use Rattle.shared_memory.specs.declared.SharedRead.{SharedRead}
-use Rattle.shared_memory.specs.declared.SharedWord.{SharedWord}
 
 abbrev rule : Shared → Bool
 rule d = all (rules d)

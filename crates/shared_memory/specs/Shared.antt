@@ -1,12 +1,12 @@
 -- The shared memory descriptor (docs/FORMAT.md, 'Descriptor words'): 64 bits. Assumes nothing.
-use Rattle.std.specs.Prelude.{ℕ, Bool, ◌||◌, not, List, [], ◌∷◌, eqb, get_or}
+use Rattle.std.specs.Prelude.{ℕ, Bool, ◌||◌, not, List, [], ◌∷◌, eqb, get_or, Result, Ok, Err}
 use Rattle.std.proofs.Math.Option.{Option, some}
 use Rattle.laws.specs.Tests.{all, among}
 use Rattle.laws.specs.Layout.{Part, plain, scaled, fixed}
 use Rattle.laws.specs.Format.{read_by, word_by}
+use Rattle.reasons.specs.declared.Reason.{Reason}
+use Rattle.reasons.specs.Reasons.{number}
 use Rattle.shared_memory.specs.declared.Shared.{Shared}
-use Rattle.shared_memory.specs.declared.SharedRead.{SharedRead}
-use Rattle.shared_memory.specs.declared.SharedWord.{SharedWord}
 
 -- Bits 0-13 start, 16-29 leading offset, 32-45 stride offset, each in sixteens of bytes; 46-48 the value 1; 49-51 base offset; 52 leading mode;
 -- 61-63 swizzle; the rest 0.
@@ -39,6 +39,16 @@ named l = some (shared_in l)
 abbrev pub rules : Shared → List Bool
 rules d = among d.swizzle (0 ∷ 1 ∷ 2 ∷ 4 ∷ 6 ∷ []) ∷ (not (eqb d.swizzle 0) || eqb d.base 0) ∷ []
 
+-- what decoding answers: 0 and the descriptor, or 12 and zeros
+pub record SharedRead : Type 0 where
+  pub reason : ℕ
+  pub descriptor : Shared
+
+-- what encoding answers: 0 and the word, or 12 and 0
+pub record SharedWord : Type 0 where
+  pub reason : ℕ
+  pub word : ℕ
+
 -- Answers: 0 with the descriptor or the word, or 12 with a zero value.
 abbrev pub found : Shared → SharedRead
 found d = record { reason = 0; descriptor = d }
@@ -62,3 +72,12 @@ decoded = read_by layout named (λ d. all (rules d)) found no_descriptor
 -- the word of a descriptor
 unfoldable pub encoded : Shared → SharedWord
 encoded = word_by layout numbers (λ d. all (rules d)) made no_word
+
+-- what an answer of the code stands for: the descriptor or the word with 0, or the reason with a zero value
+abbrev pub read_answer : Result Shared Reason → SharedRead
+read_answer (Ok d) = found d
+read_answer (Err r) = record { reason = number r; descriptor = zero }
+
+abbrev pub word_answer : Result ℕ Reason → SharedWord
+word_answer (Ok w) = made w
+word_answer (Err r) = record { reason = number r; word = 0 }

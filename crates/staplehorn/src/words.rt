@@ -1,101 +1,82 @@
 // The descriptor words and requests, on plain numbers.
 ghost use Rattle.std.specs.Prelude.{◌≡◌};
-ghost use Rattle.staplehorn.specs.Words.{kind_of, kind_seen, opcode_of, opcode_seen, decoded_for, encoded_for, judged_for, listed_for, k_for};
+ghost use Rattle.staplehorn.specs.Words.{kind_of, opcode_of, decoded_for, encoded_for, judged_for, listed_for, k_for, k_answer};
+ghost use Rattle.reasons.specs.Reasons.{answered};
 ghost use Rattle.instruction.specs.Instruction as I;
 ghost use Rattle.shared_memory.specs.Shared as S;
 ghost use Rattle.request.specs.Request.{request_reason};
 
-use instruction::{Fields, FieldsRead, InstructionWord, Kind};
+use instruction::{Fields, Kind, Opcode};
+use reasons::{Reason, answered};
 use shared_memory::Shared;
 
-// A kind with `.ws` and `.sp`.
-#[derive(Clone, Copy)]
-pub struct Opcode {
-    pub kind: Kind,
-    pub ws: bool,
-    pub sp: bool,
-}
-
-// What a caller's numbers stand for, or nothing.
-#[derive(Clone, Copy)]
-pub enum KindRead {
-    Is(Kind),
-    Unknown,
-}
-
-#[derive(Clone, Copy)]
-pub enum OpcodeRead {
-    Is(Opcode),
-    Unknown,
-}
-
-// 0 and K, or 12 and 0.
-#[derive(Clone, Copy)]
-pub struct KRead {
-    pub reason: u32,
-    pub k: u32,
-}
-
 // The kind of a number.
-fn kind_of(n: u32) -> KindRead
-    ensures { kind_seen result ≡ kind_of n }
+fn kind_of(n: u32) -> Option<Kind>
+    ensures { result ≡ kind_of n }
 {
-    if n == 0 {
-        return KindRead::Is(Kind::F16);
+    match n {
+        0 => Some(Kind::F16),
+        1 => Some(Kind::Tf32),
+        2 => Some(Kind::F8f6f4),
+        3 => Some(Kind::I8),
+        _ => None,
     }
-    if n == 1 {
-        return KindRead::Is(Kind::Tf32);
-    }
-    if n == 2 {
-        return KindRead::Is(Kind::F8f6f4);
-    }
-    if n == 3 {
-        return KindRead::Is(Kind::I8);
-    }
-    KindRead::Unknown
 }
 
 // The opcode of a kind's number and two flags.
-fn opcode_of(kind: u32, ws: u32, sp: u32) -> OpcodeRead
-    ensures { opcode_seen result ≡ opcode_of kind ws sp }
+#[tactic(auto, unfolding(crate::specs::Words::opcode_of))]
+fn opcode_of(kind: u32, ws: u32, sp: u32) -> Option<Opcode>
+    ensures { result ≡ opcode_of kind ws sp }
 {
-    let KindRead::Is(k) = kind_of(kind) else {
-        return OpcodeRead::Unknown;
-    };
-    if (ws <= 1) & (sp <= 1) {
-        OpcodeRead::Is(Opcode {
-            kind: k,
-            ws: ws == 1,
-            sp: sp == 1,
-        })
-    } else {
-        OpcodeRead::Unknown
+    let kind = kind_of(kind)?;
+    if ws > 1 || sp > 1 {
+        return None;
     }
+    Some(Opcode {
+        kind,
+        ws: ws == 1,
+        sp: sp == 1,
+    })
 }
 
-// What a word says: the descriptor's numbers with 0, or zeros with 12.
-fn decode_word(kind: u32, ws: u32, sp: u32, word: u32) -> FieldsRead
-    ensures { result ≡ I.fields_read (decoded_for (opcode_of kind ws sp) word) }
+// What a word says.
+fn decode_word(kind: u32, ws: u32, sp: u32, word: u32) -> Result<Fields, Reason>
+    ensures { I.read_answer result ≡ I.fields_read (decoded_for (opcode_of kind ws sp) word) }
 {
-    let OpcodeRead::Is(o) = opcode_of(kind, ws, sp) else {
-        return instruction::refused_fields();
-    };
-    let k = o.kind;
-    instruction::decode_fields(k, o.ws, o.sp, word)
+    let opcode = opcode_of(kind, ws, sp).ok_or(Reason::Descriptor)?;
+    opcode.decode_fields(word)
 }
 
 // The word of some numbers.
-fn encode_numbers(kind: u32, ws: u32, sp: u32, f: Fields) -> InstructionWord
-    ensures { result ≡ encoded_for (opcode_of kind ws sp) f }
+fn encode_numbers(kind: u32, ws: u32, sp: u32, f: Fields) -> Result<u32, Reason>
+    ensures { I.word_answer result ≡ encoded_for (opcode_of kind ws sp) f }
 {
-    let OpcodeRead::Is(o) = opcode_of(kind, ws, sp) else {
-        return InstructionWord {
-            reason: reasons::DESCRIPTOR,
-            word: 0,
-        };
-    };
-    let k = o.kind;
-    instruction::encode_fields(k, o.ws, o.sp, f)
+    let opcode = opcode_of(kind, ws, sp).ok_or(Reason::Descriptor)?;
+    opcode.encode_fields(f)
+}
+
+// Refuses a word with no reading, or one that is not listed.
+fn judge_word(kind: u32, ws: u32, sp: u32, word: u32) -> Result<(), Reason>
+    ensures { answered result ≡ judged_for (opcode_of kind ws sp) word }
+{
+    let opcode = opcode_of(kind, ws, sp).ok_or(Reason::Descriptor)?;
+    opcode.judge_word(word).listed
+}
+
+// Refuses fields that no word reads as, or that are not listed.
+fn judge_fields(kind: u32, ws: u32, sp: u32, f: Fields) -> Result<(), Reason>
+    ensures { answered result ≡ listed_for (opcode_of kind ws sp) f }
+{
+    let opcode = opcode_of(kind, ws, sp).ok_or(Reason::Descriptor)?;
+    opcode.listed_fields(f)
+}
+
+// K of an opcode.
+fn k_of(kind: u32, sp: u32) -> Result<u32, Reason>
+    ensures { k_answer result ≡ k_for (opcode_of kind 0 sp) }
+{
+    let opcode = opcode_of(kind, 0, sp).ok_or(Reason::Descriptor)?;
+    Ok(opcode.k())
 }
 
 // An array as fields.
@@ -151,14 +132,12 @@ pub fn staplehorn_instruction_decode(
     ensures reason { result ≡ (decoded_for (opcode_of kind ws sp) word).reason }
     ensures fields { fields.new ≡ I.numbers (decoded_for (opcode_of kind ws sp) word).descriptor }
 {
-    let r = decode_word(kind, ws, sp, word);
-    if r.reason == reasons::PASSED {
-        let f = r.fields;
-        *fields = array_of(f);
-        return reasons::PASSED;
-    }
-    *fields = [0; 13];
-    r.reason
+    let read = decode_word(kind, ws, sp, word);
+    *fields = match read {
+        Ok(f) => array_of(f),
+        Err(_) => [0; 13],
+    };
+    answered(read)
 }
 
 // Writes an instruction descriptor.
@@ -172,63 +151,23 @@ pub fn staplehorn_instruction_encode(
     ensures reason { result ≡ (encoded_for (opcode_of kind ws sp) (I.fields_in fields.now)).reason }
     ensures word { word.new ≡ (encoded_for (opcode_of kind ws sp) (I.fields_in fields.now)).word }
 {
-    let r = encode_numbers(kind, ws, sp, fields_at(*fields));
-    *word = r.word;
-    r.reason
-}
-
-// The reason of a word.
-fn judge_word(kind: u32, ws: u32, sp: u32, word: u32) -> u32
-    ensures { result ≡ judged_for (opcode_of kind ws sp) word }
-{
-    let OpcodeRead::Is(o) = opcode_of(kind, ws, sp) else {
-        return reasons::DESCRIPTOR;
-    };
-    let k = o.kind;
-    let r = instruction::judge_word(k, o.ws, o.sp, word);
-    r.reason
+    let written = encode_numbers(kind, ws, sp, fields_at(*fields));
+    *word = written.unwrap_or(0);
+    answered(written)
 }
 
 // The reason of a word: 12 with no reading; 13, 20 or 21 if M, N or the types are not listed; else 0.
 pub fn staplehorn_instruction_judge(kind: u32, ws: u32, sp: u32, word: u32) -> u32
     ensures { result ≡ judged_for (opcode_of kind ws sp) word }
 {
-    judge_word(kind, ws, sp, word)
-}
-
-// The reason of a descriptor's fields.
-fn judge_fields(kind: u32, ws: u32, sp: u32, f: Fields) -> u32
-    ensures { result ≡ listed_for (opcode_of kind ws sp) f }
-{
-    let OpcodeRead::Is(o) = opcode_of(kind, ws, sp) else {
-        return reasons::DESCRIPTOR;
-    };
-    let k = o.kind;
-    instruction::listed_fields(k, o.ws, o.sp, f)
+    answered(judge_word(kind, ws, sp, word))
 }
 
 // The reason of a descriptor's fields: 12 if no word reads as them; 13, 20 or 21 if M, N or the types are not listed; else 0.
 pub fn staplehorn_instruction_listed(kind: u32, ws: u32, sp: u32, fields: &[u32; 13]) -> u32
     ensures { result ≡ listed_for (opcode_of kind ws sp) (I.fields_in fields.now) }
 {
-    judge_fields(kind, ws, sp, fields_at(*fields))
-}
-
-// K of an opcode.
-fn k_of(kind: u32, sp: u32) -> KRead
-    ensures { result ≡ k_for (opcode_of kind 0 sp) }
-{
-    let OpcodeRead::Is(o) = opcode_of(kind, 0, sp) else {
-        return KRead {
-            reason: reasons::DESCRIPTOR,
-            k: 0,
-        };
-    };
-    let k = o.kind;
-    KRead {
-        reason: reasons::PASSED,
-        k: instruction::k(k, o.sp),
-    }
+    answered(judge_fields(kind, ws, sp, fields_at(*fields)))
 }
 
 // K of a kind, dense or sparse.
@@ -236,9 +175,9 @@ pub fn staplehorn_instruction_k(kind: u32, sp: u32, k: &mut u32) -> u32
     ensures reason { result ≡ (k_for (opcode_of kind 0 sp)).reason }
     ensures k { k.new ≡ (k_for (opcode_of kind 0 sp)).k }
 {
-    let r = k_of(kind, sp);
-    *k = r.k;
-    r.reason
+    let read = k_of(kind, sp);
+    *k = read.unwrap_or(0);
+    answered(read)
 }
 
 // Reads a shared memory descriptor.
@@ -246,10 +185,12 @@ pub fn staplehorn_shared_decode(word: u64, fields: &mut [u64; 6]) -> u32
     ensures reason { result ≡ (S.decoded word).reason }
     ensures fields { fields.new ≡ S.numbers (S.decoded word).descriptor }
 {
-    let r = shared_memory::decode(word);
-    let d = r.descriptor;
-    *fields = [d.start, d.leading, d.stride, d.base, d.mode, d.swizzle];
-    r.reason
+    let read = shared_memory::decode(word);
+    *fields = match read {
+        Ok(d) => [d.start, d.leading, d.stride, d.base, d.mode, d.swizzle],
+        Err(_) => [0; 6],
+    };
+    answered(read)
 }
 
 // Writes a shared memory descriptor.
@@ -257,7 +198,7 @@ pub fn staplehorn_shared_encode(fields: &[u64; 6], word: &mut u64) -> u32
     ensures reason { result ≡ (S.encoded (S.shared_in fields.now)).reason }
     ensures word { word.new ≡ (S.encoded (S.shared_in fields.now)).word }
 {
-    let r = shared_memory::encode(Shared {
+    let written = shared_memory::encode(Shared {
         start: fields[0],
         leading: fields[1],
         stride: fields[2],
@@ -265,13 +206,13 @@ pub fn staplehorn_shared_encode(fields: &[u64; 6], word: &mut u64) -> u32
         mode: fields[4],
         swizzle: fields[5],
     });
-    *word = r.word;
-    r.reason
+    *word = written.unwrap_or(0);
+    answered(written)
 }
 
 // 0 if a request for columns is legal, else 9.
 pub fn staplehorn_request(columns: u32) -> u32
     ensures { result ≡ request_reason columns }
 {
-    request::reason(columns)
+    answered(request::check(columns))
 }

@@ -3,4 +3,4 @@ use Rattle.checks.proofs.MmaLaws.{descriptor-tested}
 use Rattle.checks.proofs.descriptor_tested.Goals as goal
 
 pub returns : goal.returns
-returns c s h = descriptor-tested s _ _ _ _ h _ _ c.lookup_in-v.ensures _ c.decode-d.ensures
+returns c s h = rw c.is_ok.ensures.value (descriptor-tested s _ _ _ _ h _ _ c.lookup_in-v.ensures _ c.decode.ensures)

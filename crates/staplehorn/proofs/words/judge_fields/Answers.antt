@@ -1,12 +1,13 @@
--- `staplehorn::words::judge_fields` meets its contract: the opcode or none decides. Assumes nothing.
-use mathlib.Core.Path.{sym, ◌∙◌, ap}
-use mathlib.Core.Option.{Option}
-use Rattle.staplehorn.specs.declared.words.Opcode.{Opcode}
-use Rattle.staplehorn.specs.Words.{listed_for, opcode_seen}
+-- `staplehorn::words::judge_fields` meets its contract: the opcode decides. Assumes nothing.
+use mathlib.Core.Path.{◌≡◌, ap, ◌∙◌}
+use Rattle.std.specs.Prelude.{Option, Some}
+use Rattle.std.proofs.Common.{rules}
+use Rattle.instruction.specs.declared.Opcode.{Opcode}
+use Rattle.staplehorn.specs.Words.{opcode_of, listed_for}
 use Rattle.staplehorn.proofs.words.judge_fields.Goals as goal
 
-pub returns-in_default : goal.returns-in_default
-returns-in_default c = sym (ap (λ (o : Option Opcode). listed_for o c.args.f) (sym c.opcode_of.ensures ∙ ap opcode_seen c.in_default.is))
-
 pub returns : goal.returns
-returns c = c.listed_fields.ensures ∙ sym (ap (λ (o : Option Opcode). listed_for o c.args.f) (sym c.opcode_of.ensures ∙ ap opcode_seen c.in-Is.is))
+returns c =
+    let x = c.args in
+    let e : Some c.in_ok-opcode.opcode ≡ opcode_of x.kind x.ws x.sp = search rules in
+    c.listed_fields.ensures ∙ ap (λ (o : Option Opcode). listed_for o x.f) e
