@@ -1,25 +1,29 @@
-// The names that `mov` bound, by value: a table of 128 entries, each with a name, its number and its width (32 or 64; 0 where the
-// entry is unbound).
+// The names that `mov` bound, by value: a table of 128 entries, each unbound or with a name and its value.
 #![tactic(auto)]
 
-ghost use Rattle.std.specs.Prelude.{◌≡◌, ◌≤◌};
-ghost use Rattle.bindings.specs.Table.{empty, home_of, stops, entry_of, value_in};
+ghost use Rattle.std.specs.Prelude.{◌≡◌, ◌≤◌, ◌<◌, IfSome};
+ghost use Rattle.bindings.specs.Table.{empty, home_of, stops, entry_of, found, bind_answer, after_bind};
 
+use reasons::Reason;
 use tokens::Name;
+
+// A number that `mov` bound, of 32 or of 64 bits.
+#[derive(Clone, Copy, Debug, PartialEq, Eq)]
+pub enum Value {
+    B32(u32),
+    B64(u64),
+}
+
+// A name and what it is bound to.
+#[derive(Clone, Copy)]
+pub struct Binding {
+    pub name: Name,
+    pub value: Value,
+}
 
 #[derive(Clone, Copy)]
 pub struct Bindings {
-    pub hi: [u64; 128],
-    pub lo: [u64; 128],
-    pub numbers: [u64; 128],
-    pub widths: [u8; 128],
-}
-
-// What a name is bound to; width 0 where it is unbound.
-#[derive(Clone, Copy)]
-pub struct Value {
-    pub width: u8,
-    pub number: u64,
+    pub entries: [Option<Binding>; 128],
 }
 
 // Where the search for a name starts.
@@ -31,49 +35,14 @@ fn home(name: Name) -> usize
     (hi + lo) as usize
 }
 
-fn is_stop(hi: u64, lo: u64, width: u8, name: Name) -> bool
-    ensures { result ≡ stops hi lo width name }
+// An entry ends the search for a name: it is unbound, or it has the name.
+fn is_stop(entry: Option<Binding>, name: Name) -> bool
+    ensures { result ≡ stops entry name }
 {
-    (width == 0) | ((hi == name.hi) & (lo == name.lo))
-}
-
-// The entry of a name, bound or the first for it that is unbound; or 128. The table is left where it is: a caller that keeps it in
-// a local writes the entry in place.
-pub fn entry<'a>(hi: &'a [u64; 128], lo: &'a [u64; 128], widths: &'a [u8; 128], name: Name) -> usize
-    ensures { result ≡ entry_of hi.now lo.now widths.now name }
-{
-    let start = home(name);
-    let mut i: usize = 0;
-    while i < 128 {
-        let at = (start + i * 11) % 128;
-        if is_stop(hi[at], lo[at], widths[at], name) {
-            return at;
-        }
-        i += 1;
+    match entry {
+        Some(binding) => binding.name == name,
+        None => true,
     }
-    128
-}
-
-// What a name is bound to, in a table that is left where it is.
-pub fn lookup_in<'a>(
-    hi: &'a [u64; 128],
-    lo: &'a [u64; 128],
-    numbers: &'a [u64; 128],
-    widths: &'a [u8; 128],
-    name: Name,
-) -> Value
-    ensures { result ≡ value_in hi.now lo.now numbers.now widths.now name }
-{
-    let at = entry(hi, lo, widths, name);
-    if 128 <= at {
-        return Value {
-            width: 0,
-            number: 0,
-        };
-    }
-    let width = widths[at];
-    let number = numbers[at];
-    Value { width, number }
 }
 
 impl Bindings {
@@ -82,10 +51,41 @@ impl Bindings {
         ensures { result ≡ empty }
     {
         Bindings {
-            hi: [0u64; 128],
-            lo: [0u64; 128],
-            numbers: [0u64; 128],
-            widths: [0u8; 128],
+            entries: [None; 128],
         }
+    }
+
+    // The entry of a name, bound or the first for it that is unbound; none where all are bound to other names.
+    fn entry(&self, name: Name) -> Option<usize>
+        ensures { (result ≡ entry_of self.now name) × IfSome result (λ at. at < 128) }
+    {
+        let start = home(name);
+        for i in 0..128 {
+            let at = (start + i * 11) % 128;
+            if is_stop(self.entries[at], name) {
+                return Some(at);
+            }
+        }
+        None
+    }
+
+    // What a name is bound to.
+    pub fn find(&self, name: Name) -> Option<Value>
+        ensures { result ≡ found self.now name }
+    {
+        let at = self.entry(name)?;
+        self.entries[at].map(|binding| binding.value)
+    }
+
+    // Binds a name, anew or again. Where all entries are bound to other names the table stays as it is.
+    pub fn bind(&mut self, name: Name, value: Value) -> Result<(), Reason>
+        ensures answer { result ≡ bind_answer self.old name }
+        ensures table { self.new ≡ after_bind self.old name value }
+    {
+        let Some(at) = self.entry(name) else {
+            return Err(Reason::Values);
+        };
+        self.entries[at] = Some(Binding { name, value });
+        Ok(())
     }
 }
