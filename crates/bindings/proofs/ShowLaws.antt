@@ -6,18 +6,19 @@ use mathlib.Core.Bool.{Bool, true, false, cond}
 use mathlib.Core.List.{List, [], ◌∷◌}
 use mathlib.Core.Logic.{◌⊎◌, inl, inr}
 use native.Mathlib.Omega.{arith}
-use lib.Dec.{ltb, eqb}
+use lib.Dec.{ltb}
 use lib.ListN.{length, replicate, get_or, length-set, length-replicate}
-use borrow.Author.Tests.{lt-ltb, le-ltb, eqb-true, eqb-false}
+use borrow.Author.Tests.{lt-ltb, le-ltb}
 use Rattle.std.specs.Prelude.{Option, Some, None, Ok, Err, is_some, option_map, count_by}
 use Rattle.reasons.specs.declared.Reason.{Reason}
 use Rattle.reasons.specs.declared.Reason.TheVariants as reason
+use Rattle.std.proofs.lemmas.Bool.{cases_Bool, cases_eq}
 use Rattle.std.proofs.lemmas.List.Sums.{sum_by-cons, sum_by-set, count_by-le-length}
 use Rattle.tokens.specs.declared.Name.{Name}
 use Rattle.tokens.specs.Names.{same_name}
 use Rattle.rules.specs.State as rules
 use Rattle.rules.specs.Reasons.{room_for}
-use Rattle.laws.proofs.BoolLaws.{bool, clash}
+use Rattle.laws.proofs.BoolLaws.{clash}
 use Rattle.tokens.proofs.Names.{same_true, same_name_lem}
 use Rattle.search.proofs.ValueLaws.{own_width, own_number, own_bound, other_width, other_number, other_bound, bound_length}
 use Rattle.bindings.specs.declared.Value.{Value}
@@ -29,10 +30,11 @@ use Rattle.bindings.specs.Shows.{binding_of, Shows, Tells}
 use Rattle.bindings.proofs.WriteLaws.{EndsAt, Nowhere, at_entry, nowhere, search_ends, stop_cases, stop_not, entry_below, comes_up, entry_new, entry_old, own_ends, other_ends, other_nowhere, new_elsewhere}
 
 -- ---- what is found
-value_of : Option Binding → Option Value
+-- the value of an entry
+abbrev value_of : Option Binding → Option Value
 value_of e = option_map (λ b. b.value) e
 
-found_at : (t : Bindings) (m : Name) (j : ℕ) → entry_of t m ≡ Some j → found t m ≡ option_map (λ b. b.value) (entry t j)
+found_at : (t : Bindings) (m : Name) (j : ℕ) → entry_of t m ≡ Some j → found t m ≡ value_of (entry t j)
 found_at t m j e = rw e
 
 found_none : (t : Bindings) (m : Name) → entry_of t m ≡ None → found t m ≡ None
@@ -53,7 +55,7 @@ empty_found : (n : Name) → found empty n ≡ None
 empty_found n = at (search_ends empty n)
   where
     at : ((q : ℕ) × EndsAt empty n q) ⊎ Nowhere empty n → found empty n ≡ None
-    at (inl q) = found_at empty n (entry_at n q.0) (at_entry empty n q.0 q.1) ∙ ap (option_map (λ b. b.value)) (nones 128 (entry_at n q.0))
+    at (inl q) = found_at empty n (entry_at n q.0) (at_entry empty n q.0 q.1) ∙ ap value_of (nones 128 (entry_at n q.0))
     at (inr q) = found_none empty n (nowhere empty n q)
 
 pub shows_empty : Shows empty []
@@ -121,7 +123,7 @@ module _ (t : Bindings) (values : List rules.Binding) (h : Shows t values) (n : 
           apart : j ≡ p → ⊥
           apart = new_elsewhere t n v p h.entries_128 below m r.0 o r.1
 
-          bare : (entry new j ≡ None) ⊎ ((b : Binding) × (entry new j ≡ Some b) × (b.name ≡ m)) → option_map (λ b. b.value) (entry new j) ≡ None
+          bare : (entry new j ≡ None) ⊎ ((b : Binding) × (entry new j ≡ Some b) × (b.name ≡ m)) → value_of (entry new j) ≡ None
           bare (inl z) = rw z
           bare (inr z) =
               let u : Some j ≡ Some p = sym (h.placed j z.0 (sym (there j apart) ∙ z.1)) ∙ ap (entry_of t) z.2 ∙ s in
@@ -134,19 +136,18 @@ module _ (t : Bindings) (values : List rules.Binding) (h : Shows t values) (n : 
     where
       at : ((r : ℕ) × EndsAt t m r) ⊎ Nowhere t m → found new m ≡ found t m
       at (inr r) = found_none new m (nowhere new m (other_nowhere t n v p h.entries_128 below m o r)) ∙ sym (found_none t m (nowhere t m r))
-      at (inl r) = by (bool (eqb (entry_at m r.0) p))
+      at (inl r) = by (cases_eq (entry_at m r.0) p)
         where
           was : entry_of t m ≡ Some (entry_at m r.0)
           was = at_entry t m r.0 r.1
 
-          by : (eqb (entry_at m r.0) p ≡ true) ⊎ (eqb (entry_at m r.0) p ≡ false) → found new m ≡ found t m
+          by : (entry_at m r.0 ≡ p) ⊎ (entry_at m r.0 ≡ p → ⊥) → found new m ≡ found t m
           by (inl z) =
-              let s : entry_of t m ≡ Some p = was ∙ ap (λ j. Some j) (eqb-true (entry_at m r.0) p z) in
-              moved_on m o s ∙ sym (found_at t m p s ∙ ap (option_map (λ b. b.value)) (was_unbound m o s))
+              let s : entry_of t m ≡ Some p = was ∙ ap (λ j. Some j) z in
+              moved_on m o s ∙ sym (found_at t m p s ∙ ap value_of (was_unbound m o s))
           by (inr z) =
-              let f : entry_at m r.0 ≡ p → ⊥ = eqb-false (entry_at m r.0) p z in
-              found_at new m (entry_at m r.0) (at_entry new m r.0 (other_ends t n v p h.entries_128 below m r.0 o r.1 f))
-              ∙ ap (option_map (λ b. b.value)) (there (entry_at m r.0) f)
+              found_at new m (entry_at m r.0) (at_entry new m r.0 (other_ends t n v p h.entries_128 below m r.0 o r.1 z))
+              ∙ ap value_of (there (entry_at m r.0) z)
               ∙ sym (found_at t m (entry_at m r.0) was)
 
   -- the name itself is bound at its entry
@@ -154,29 +155,25 @@ module _ (t : Bindings) (values : List rules.Binding) (h : Shows t values) (n : 
   own_entry = at_entry new n q (own_ends t n v p h.entries_128 below q e refl)
 
   own_found : found new n ≡ Some v
-  own_found = found_at new n p own_entry ∙ ap (option_map (λ b. b.value)) here
+  own_found = found_at new n p own_entry ∙ ap value_of here
 
   -- what is so of the name and of every other name is so of each
   by_name : (P : Name → Type 0) → P n → ((m : Name) → (m ≡ n → ⊥) → P m) → (m : Name) → P m
-  by_name P own other m = at (bool (same_name m n))
+  by_name P own other m = at (cases_Bool (same_name m n))
     where
       at : (same_name m n ≡ true) ⊎ (same_name m n ≡ false) → P m
       at (inl z) = subst P (sym (same_true m n z)) own
       at (inr z) = other m (λ y. clash (same_name_lem m n y) z)
 
   placed_new : (j : ℕ) (d : Binding) → entry new j ≡ Some d → entry_of new d.name ≡ Some j
-  placed_new j d y = at (bool (eqb j p))
+  placed_new j d y = at (cases_eq j p)
     where
-      at : (eqb j p ≡ true) ⊎ (eqb j p ≡ false) → entry_of new d.name ≡ Some j
-      at (inl z) =
-          let u : j ≡ p = eqb-true j p z in
+      at : (j ≡ p) ⊎ (j ≡ p → ⊥) → entry_of new d.name ≡ Some j
+      at (inl u) =
           let w : d ≡ b = let x = sym y ∙ ap (entry new) u ∙ here in cc in
           ap (λ (x : Binding). entry_of new x.name) w ∙ own_entry ∙ ap (λ i. Some i) (sym u)
-      at (inr z) = ends (search_ends t d.name)
+      at (inr o) = ends (search_ends t d.name)
         where
-          o : j ≡ p → ⊥
-          o = eqb-false j p z
-
           was : entry_of t d.name ≡ Some j
           was = h.placed j d (sym (there j o) ∙ y)
 
@@ -194,7 +191,7 @@ module _ (t : Bindings) (values : List rules.Binding) (h : Shows t values) (n : 
   was_bound : is_some (entry t p) ≡ rules.is_bound n values
   was_bound = same (entry t p) ∙ ap is_some (sym (found_at t n p (at_entry t n q e))) ∙ h.bound n
     where
-      same : (x : Option Binding) → is_some x ≡ is_some (option_map (λ b. b.value) x)
+      same : (x : Option Binding) → is_some x ≡ is_some (value_of x)
       same None = refl
       same (Some b) = refl
 
@@ -244,7 +241,7 @@ module _ (t : Bindings) (s : rules.State) (h : Shows t s.values) where
   room n = at (search_ends t n)
     where
       at : ((q : ℕ) × EndsAt t n q) ⊎ Nowhere t n → room_for s n ≡ has_room t n
-      at (inl q) = by (bool (rules.is_bound n s.values)) ∙ sym (ap is_some (at_entry t n q.0 q.1))
+      at (inl q) = by (cases_Bool (rules.is_bound n s.values)) ∙ sym (ap is_some (at_entry t n q.0 q.1))
         where
           by : (rules.is_bound n s.values ≡ true) ⊎ (rules.is_bound n s.values ≡ false) → room_for s n ≡ true
           by (inl z) = rw z
@@ -279,7 +276,7 @@ module _ (t : Bindings) (s : rules.State) (h : Shows t s.values) where
 module _ (t : Bindings) (s : rules.State) (h : Shows t s.values) (n : Name) (v : Value) where
   -- bound: there was room, and the next table shows the next values
   pub bind_ok : bind_answer t n ≡ Ok tt → (room_for s n ≡ true) × Shows (after_bind t n v) (rules.bind (binding_of n v) s.values)
-  bind_ok e = at (bool (has_room t n))
+  bind_ok e = at (cases_Bool (has_room t n))
     where
       at : (has_room t n ≡ true) ⊎ (has_room t n ≡ false) → (room_for s n ≡ true) × Shows (after_bind t n v) (rules.bind (binding_of n v) s.values)
       at (inl z) = (room t s h n ∙ z, binds t s h n v z)

@@ -6,14 +6,13 @@ use mathlib.Core.Bool.{true, false}
 use mathlib.Core.Logic.{◌⊎◌, inl, inr}
 use native.Mathlib.Nat.{div-add-mod'}
 use native.Mathlib.Omega.{arith}
-use lib.Dec.{ltb, eqb}
 use lib.ListN.{length}
 use lib.Seq.{get_or-set_same, get_or-set_other}
-use borrow.Author.Tests.{ltb-true, ltb-false, eqb-true, eqb-false}
+use Rattle.std.proofs.lemmas.Bool.{cases_lt, cases_eq}
 use Rattle.std.specs.Prelude.{Option, Some, None}
 use Rattle.tokens.specs.declared.Name.{Name}
 use Rattle.rules.specs.Counting.{least}
-use Rattle.laws.proofs.BoolLaws.{bool, clash}
+use Rattle.laws.proofs.BoolLaws.{clash}
 use Rattle.rules.proofs.CountingLaws.{least_hit, least-below}
 use Rattle.tokens.proofs.Names.{same_true, same_name_lem, other_name}
 use Rattle.search.proofs.SearchLaws.{least-is, least-none}
@@ -51,16 +50,14 @@ unfolding steps_of
 nowhere t m e = ends_nowhere t m (least-none (stops_at t m) 128 e)
 
 pub search_ends : (t : Bindings) (m : Name) → ((q : ℕ) × EndsAt t m q) ⊎ Nowhere t m
-search_ends t m = at (bool (ltb q 128))
+search_ends t m = at (cases_lt q 128)
   where
     q : ℕ
     q = least (stops_at t m) 128
 
-    at : (ltb q 128 ≡ true) ⊎ (ltb q 128 ≡ false) → ((q : ℕ) × EndsAt t m q) ⊎ Nowhere t m
-    at (inl z) =
-        let b : q < 128 = ltb-true q 128 z in
-        inl (q, (b, least_hit (stops_at t m) 128 b, λ i h. least-below (stops_at t m) 128 i h))
-    at (inr z) = inr (λ i h. least-below (stops_at t m) 128 i (omega (arith, ltb-false q 128 z)))
+    at : (q < 128) ⊎ (128 ≤ q) → ((q : ℕ) × EndsAt t m q) ⊎ Nowhere t m
+    at (inl b) = inl (q, (b, least_hit (stops_at t m) 128 b, least-below (stops_at t m) 128))
+    at (inr b) = inr (λ i h. least-below (stops_at t m) 128 i (omega arith))
 
 pub entry_below : (m : Name) (i : ℕ) → entry_at m i < 128
 unfolding entry_at
@@ -117,11 +114,11 @@ module _ (t : Bindings) (n : Name) (v : Value) (p : ℕ) (size : length t.entrie
 
   -- what a search of another name passes, it passes still
   pass_other : (m : Name) (i : ℕ) → (m ≡ n → ⊥) → stops_at t m i ≡ false → stops_at new m i ≡ false
-  pass_other m i o e = at (bool (eqb (entry_at m i) p))
+  pass_other m i o e = at (cases_eq (entry_at m i) p)
     where
-      at : (eqb (entry_at m i) p ≡ true) ⊎ (eqb (entry_at m i) p ≡ false) → stops_at new m i ≡ false
-      at (inl z) = ap (λ j. stops (entry new j) m) (eqb-true (entry_at m i) p z) ∙ stop_other m o
-      at (inr z) = stop_old m (entry_at m i) (eqb-false (entry_at m i) p z) ∙ e
+      at : (entry_at m i ≡ p) ⊎ (entry_at m i ≡ p → ⊥) → stops_at new m i ≡ false
+      at (inl z) = ap (λ j. stops (entry new j) m) z ∙ stop_other m o
+      at (inr z) = stop_old m (entry_at m i) z ∙ e
 
   -- the name itself, whose search ended here
   pub own_ends : (q : ℕ) → EndsAt t n q → entry_at n q ≡ p → EndsAt new n q
