@@ -25,7 +25,7 @@ use Rattle.bindings.specs.declared.Value.{Value}
 use Rattle.bindings.specs.declared.Value.TheVariants.{B64}
 use Rattle.bindings.specs.declared.Binding.{Binding}
 use Rattle.bindings.specs.declared.Bindings.{Bindings}
-use Rattle.bindings.specs.Table.{empty, entry, entry_at, entry_of, stops, found, has_room, written, after_bind, bind_answer, width_found, number_found}
+use Rattle.bindings.specs.Table.{empty, entry, entry_at, entry_of, stops, found, has_room, written, after_bind, bind_answer, width_in, number_in}
 use Rattle.bindings.specs.Shows.{binding_of, Shows, Tells}
 use Rattle.bindings.proofs.WriteLaws.{EndsAt, Nowhere, at_entry, nowhere, search_ends, stop_cases, stop_not, entry_below, comes_up, entry_new, entry_old, own_ends, other_ends, other_nowhere, new_elsewhere}
 
@@ -42,8 +42,8 @@ found_none t m e = rw e
 
 -- of a table that shows values: what was found, by width and number
 pub found_is : {t : Bindings} {values : List rules.Binding} → Shows t values → (n : Name) (r : Option Value) → r ≡ found t n
-    → (is_some r ≡ rules.is_bound n values) × (width_found r ≡ rules.width_of n values) × (number_found r ≡ rules.number_of n values)
-found_is h n r e = (ap is_some e ∙ h.bound n, ap width_found e ∙ h.width n, ap number_found e ∙ h.number n)
+    → (is_some r ≡ rules.is_bound n values) × (width_in r ≡ rules.width_of n values) × (number_in r ≡ rules.number_of n values)
+found_is h n r e = (ap is_some e ∙ h.bound n, ap width_in e ∙ h.width n, ap number_in e ∙ h.number n)
 
 -- ---- nothing is bound
 nones : (n j : ℕ) → ◌≡◌ {A = Option Binding} (get_or (replicate n None) j None) None
@@ -64,8 +64,8 @@ shows_empty = record {
   entries_128 = length-replicate {A = Option Binding} 128 None;
   placed = λ j b e. let z : Some b ≡ None = sym e ∙ nones 128 j in absurd (cc);
   bound = λ n. ap is_some (empty_found n);
-  width = λ n. ap width_found (empty_found n);
-  number = λ n. ap number_found (empty_found n);
+  width = λ n. ap width_in (empty_found n);
+  number = λ n. ap number_in (empty_found n);
   size = refl;
 }
 
@@ -214,10 +214,10 @@ module _ (t : Bindings) (values : List rules.Binding) (h : Shows t values) (n : 
     placed = placed_new;
     bound = by_name (λ m. is_some (found new m) ≡ rules.is_bound m after) (ap is_some own_found ∙ sym (own_bound (binding_of n v) values))
         (λ m o. ap is_some (other_found m o) ∙ h.bound m ∙ sym (other_bound (binding_of n v) values m o));
-    width = by_name (λ m. width_found (found new m) ≡ rules.width_of m after) (ap width_found own_found ∙ sym (own_width (binding_of n v) values))
-        (λ m o. ap width_found (other_found m o) ∙ h.width m ∙ sym (other_width (binding_of n v) values m o));
-    number = by_name (λ m. number_found (found new m) ≡ rules.number_of m after) (ap number_found own_found ∙ sym (own_number (binding_of n v) values))
-        (λ m o. ap number_found (other_found m o) ∙ h.number m ∙ sym (other_number (binding_of n v) values m o));
+    width = by_name (λ m. width_in (found new m) ≡ rules.width_of m after) (ap width_in own_found ∙ sym (own_width (binding_of n v) values))
+        (λ m o. ap width_in (other_found m o) ∙ h.width m ∙ sym (other_width (binding_of n v) values m o));
+    number = by_name (λ m. number_in (found new m) ≡ rules.number_of m after) (ap number_in own_found ∙ sym (own_number (binding_of n v) values))
+        (λ m o. ap number_in (other_found m o) ∙ h.number m ∙ sym (other_number (binding_of n v) values m o));
     size = size_new;
   }
 

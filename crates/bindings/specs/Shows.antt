@@ -7,7 +7,7 @@ use Rattle.rules.specs.Reasons.{room_for}
 use Rattle.bindings.specs.declared.Value.{Value}
 use Rattle.bindings.specs.declared.Binding.{Binding}
 use Rattle.bindings.specs.declared.Bindings.{Bindings}
-use Rattle.bindings.specs.Table.{entry, entry_of, found, has_room, after_bind, width, number, width_found, number_found}
+use Rattle.bindings.specs.Table.{entry, entry_of, found, has_room, after_bind, width, number, width_in, number_in}
 
 -- a name and its value, as the rules have them
 abbrev pub binding_of : Name → Value → rules.Binding
@@ -19,8 +19,8 @@ pub record Shows (t : Bindings) (values : List rules.Binding) : Type 0 where
   pub placed : (j : ℕ) (b : Binding) → entry t j ≡ Some b → entry_of t b.name ≡ Some j
   -- each name is bound to the same
   pub bound : (n : Name) → is_some (found t n) ≡ rules.is_bound n values
-  pub width : (n : Name) → width_found (found t n) ≡ rules.width_of n values
-  pub number : (n : Name) → number_found (found t n) ≡ rules.number_of n values
+  pub width : (n : Name) → width_in (found t n) ≡ rules.width_of n values
+  pub number : (n : Name) → number_in (found t n) ≡ rules.number_of n values
   -- and as many are bound
   pub size : count_by is_some t.entries ≡ length values
 

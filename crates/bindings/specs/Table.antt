@@ -75,8 +75,8 @@ number (B32 v) = v
 number (B64 v) = v
 
 -- the width and the number of what is found; 0 where it is nothing
-abbrev pub width_found : Option Value → ℕ
-width_found r = unwrap_or (option_map width r) 0
+abbrev pub width_in : Option Value → ℕ
+width_in r = unwrap_or (option_map width r) 0
 
-abbrev pub number_found : Option Value → ℕ
-number_found r = unwrap_or (option_map number r) 0
+abbrev pub number_in : Option Value → ℕ
+number_in r = unwrap_or (option_map number r) 0
