@@ -1,16 +1,22 @@
 -- Laws of what a reason points at. Assumes nothing.
 use Prim.Native.Nat.{ℕ, ◌<◌, ◌%◌, ◌^◌}
+use Rattle.std.specs.Prelude.{Option, Some, None, is_some}
 use mathlib.Core.Path.{◌≡◌, refl, sym, ap, ◌∙◌, subst}
 use mathlib.Core.Bool.{Bool, true, false, not, ◌&&◌, cond}
 use mathlib.Core.List.{List, [], ◌∷◌, ◌++◌}
 use native.Mathlib.Omega.{arith}
 use lib.Dec.{eqb}
 use lib.ListN.{take, drop}
+use borrow.Author.Rules as tactics
 use types.Run.{OneOf}
 use denote.Enum.Declared.{tag_of}
-use borrow.Author.Tests.{not-true, eqb-true, eq-eqb}
+use borrow.Author.Tests.{not-true, eqb-true, eqb-false, eq-eqb}
 use Rattle.laws.specs.Rules.{first_broken}
 use Rattle.laws.proofs.BoolLaws.{and_l, and_r, clash}
+use Rattle.reasons.specs.declared.Reason.{Reason}
+use Rattle.reasons.specs.declared.Reason.TheVariants as reason
+use Rattle.reasons.specs.Reasons.{number}
+use Rattle.reasons.proofs.ReasonLaws.{nonzero}
 use Rattle.statement.specs.declared.Mma.{Mma}
 use Rattle.statement.specs.declared.Position.{Position}
 use Rattle.statement.specs.declared.Position.TheVariants.{Start, Opcode, Name, Operand}
@@ -31,13 +37,18 @@ use Rattle.rules.specs.Reasons.{mma_named, mma_reads, all_end, operand_named, me
 use Rattle.rules.proofs.RuleLaws.{lacks, never, kept_more}
 use Rattle.rules.proofs.ByAct.{act_rows, act_rules, mma_rows, first_broken_lem, first_position_lem}
 use Rattle.checks.specs.declared.Tested.{Tested}
-use Rattle.checks.specs.Checks.{tested}
+use Rattle.checks.specs.Checks.{tested, word_found}
+use Rattle.checks.proofs.MmaLaws.{word_width, word_number}
 use Rattle.checks.specs.Tables.{Tables}
-use Rattle.bindings.specs.declared.Value.{Value}
-use Rattle.bindings.specs.Table.{value_in}
-use Rattle.instruction.specs.Descriptor.{JudgedWord}
+use Rattle.ledger.specs.declared.Ledger.{Ledger}
+use Rattle.bindings.specs.declared.Bindings.{Bindings}
+use Rattle.bindings.specs.Table.{found}
 use Rattle.instruction.specs.Instruction as instruction
-use Rattle.blame.specs.Blame.{booking_at, access_at, first_or, mma_pointed}
+use Rattle.blame.specs.Blame.{booking_at, access_at, first_or, mma_pointed, n_of}
+
+-- a reason has a number above 0
+pub above_0 : (r : Reason) → 0 < number r
+above_0 r = omega (arith, eqb-false (number r) 0 (nonzero r))
 
 -- ---- of some tests one is broken: it is the first that is, or the last
 first_or_lem : (l : List Test) (i : ℕ) (v : Bool) → kept (l ++ test i v ∷ []) ≡ false → first_or l i ≡ leftmost (l ++ test i v ∷ [])
@@ -52,17 +63,15 @@ width_32 s m e =
     eqb-true (width_of m.idesc s.values) 32
     (and_r (((is_live m.d.base s.live && operand_named s m.a) && eqb (width_of m.b s.values) 64) && metadata_named s m.metadata) (eqb (width_of m.idesc s.values) 32) e)
 
-pub n_is : (s : State) (hi lo columns value_hi value_lo numbers widths : List ℕ) → Tables hi lo columns value_hi value_lo numbers widths s → (m : Mma)
-    → width_of m.idesc s.values ≡ 32 → (v : Value) → v ≡ value_in value_hi value_lo numbers widths m.idesc → (word : ℕ) → word ≡ v.number % 2 ^ 32
-    → (sp : Bool) → sp ≡ sparse m.metadata → (i : JudgedWord) → i ≡ instruction.judged m.kind m.ws sp word → i.n ≡ (instruction_of s m).descriptor.n
+pub n_is : (s : State) (ledger : Ledger) (table : Bindings) → Tables ledger table s → (m : Mma) → width_of m.idesc s.values ≡ 32
+    → n_of m (word_found (found table m.idesc)) ≡ (instruction_of s m).descriptor.n
 unfolding instruction_of
-n_is s hi lo columns value_hi value_lo numbers widths h m u v pv word pw sp ps i pi = ap (λ (x : JudgedWord). x.n) pi ∙ rw (ps, word-is)
+n_is s ledger table h m u = at (word_found (found table m.idesc)) refl
   where
-    number_is : v.number ≡ number_of m.idesc s.values
-    number_is = ap (λ (x : Value). x.number) (pv ∙ h.values.value m.idesc)
-
-    word-is : word ≡ number_of m.idesc s.values
-    word-is = omega (arith, pw, number_is, h.values.narrow m.idesc u)
+    at : (word : Option ℕ) → word_found (found table m.idesc) ≡ word
+        → n_of m word ≡ (instruction.decoded m.kind m.ws (sparse m.metadata) (number_of m.idesc s.values)).descriptor.n
+    at (Some x) e = rw (word_number table s h.values m.idesc x e)
+    at None e = absurd (clash (sym (ap is_some e) ∙ word_width table s h.values m.idesc ∙ eq-eqb (width_of m.idesc s.values) 32 u) refl)
 
 -- ---- rows whose number tells where they are broken
 abbrev pub Follows : (ℕ → Position) → List Row → Type 0
@@ -221,6 +230,13 @@ module _ (s : State) (held w : ℕ) (t : Statement) (reason : ℕ) (p : 0 < reas
       at : (b : Bool) → reason ≡ first_broken (rules_of (cond b (closed_rows t) (open_rows lowest s held w t))) → first_position (cond b (closed_rows t) (open_rows lowest s held w t)) ≡ points_at s t reason
       at true e = closed_points (act_at s (address_at t) (act_of t)) e
       at false e = open_points e
+
+-- a reason that is neither of those two
+pub no_15 : (r : Reason) → (r ≡ reason.Exit → ⊥) → eqb (number r) 15 ≡ false
+no_15 r h = search tactics.rules
+
+pub no_5 : (r : Reason) → (r ≡ reason.Registers → ⊥) → eqb (number r) 5 ≡ false
+no_5 r h = search tactics.rules
 
 -- ---- the arms of the match, by their places in the declaration
 abbrev Points : State → ℕ → (ℕ → Position) → Statement → Type 0

@@ -1,5 +1,5 @@
--- What the reason of a refused statement points at, for every state that the tables lent hold. Assumes nothing.
-use Rattle.std.specs.Prelude.{ℕ, ◌<◌, ◌≡◌, cond, List, [], ◌∷◌, eqb}
+-- What the reason of a refused statement points at, for every state that the ledger and the table of value names hold. Assumes nothing.
+use Rattle.std.specs.Prelude.{ℕ, ◌≡◌, cond, List, [], ◌∷◌, Option, Some, None, eqb}
 use Rattle.laws.specs.Rules.{first_broken}
 use Rattle.statement.specs.declared.Mma.{Mma}
 use Rattle.statement.specs.declared.Position.{Position}
@@ -9,6 +9,10 @@ use Rattle.statement.specs.declared.Statement.TheVariants.{Multiply}
 use Rattle.rules.specs.State.{State, lowest}
 use Rattle.rules.specs.Rows.{Test, test, first_position}
 use Rattle.rules.specs.Reasons.{open_rows, open_rules, rows, rules}
+use Rattle.statement.specs.Canonical.{sparse}
+use Rattle.instruction.specs.Instruction as instruction
+use Rattle.ledger.specs.declared.Ledger.{Ledger}
+use Rattle.bindings.specs.declared.Bindings.{Bindings}
 use Rattle.checks.specs.declared.Tested.{Tested}
 use Rattle.checks.specs.Tables.{Tables}
 
@@ -32,14 +36,18 @@ mma_pointed reason idesc d a b e =
     (cond (eqb reason 12) (Name (first_or (test 1 a.reads ∷ test 2 b.reads ∷ []) idesc))
     (cond (eqb reason 14) (Operand (first_or (test 0 d.ends ∷ test 1 a.ends ∷ []) 3)) (Name idesc)))
 
+-- N of an instruction descriptor, 0 where there is no word of one
+abbrev pub n_of : Mma → Option ℕ → ℕ
+n_of m (Some word) = (instruction.judged m.kind m.ws (sparse m.metadata) word).n
+n_of m None = 0
+
 -- the position of an mma that is refused before exit, whatever is held, of any warp
-abbrev pub MmaBlamed : (hi lo columns value_hi value_lo numbers widths : List ℕ) → Mma → ℕ → Position → Type 0
-MmaBlamed hi lo columns value_hi value_lo numbers widths m reason r =
-    (s : State) (held w : ℕ) → Tables hi lo columns value_hi value_lo numbers widths s → 0 < reason
+abbrev pub MmaBlamed : Ledger → Bindings → Mma → ℕ → Position → Type 0
+MmaBlamed ledger table m reason r =
+    (s : State) (held w : ℕ) → Tables ledger table s
     → reason ≡ first_broken (open_rules lowest s held w (Multiply m)) → r ≡ first_position (open_rows lowest s held w (Multiply m))
 
 -- of any statement that is refused
-abbrev pub Blamed : (hi lo columns value_hi value_lo numbers widths : List ℕ) → Statement → ℕ → Position → Type 0
-Blamed hi lo columns value_hi value_lo numbers widths t reason r =
-    (s : State) (held w : ℕ) → Tables hi lo columns value_hi value_lo numbers widths s → 0 < reason
-    → reason ≡ first_broken (rules lowest s held w t) → r ≡ first_position (rows lowest s held w t)
+abbrev pub Blamed : Ledger → Bindings → Statement → ℕ → Position → Type 0
+Blamed ledger table t reason r =
+    (s : State) (held w : ℕ) → Tables ledger table s → reason ≡ first_broken (rules lowest s held w t) → r ≡ first_position (rows lowest s held w t)

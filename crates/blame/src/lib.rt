@@ -2,20 +2,32 @@
 #![tactic(auto)]
 
 ghost use Rattle.std.specs.Prelude.{◌≡◌, [], ◌∷◌};
+ghost use Rattle.reasons.specs.Reasons.{number};
 ghost use Rattle.statement.specs.Positions.{idesc_at};
 ghost use Rattle.rules.specs.Rows.{test};
-ghost use Rattle.blame.specs.Blame.{booking_at, access_at, first_or, mma_pointed, MmaBlamed, Blamed};
+ghost use Rattle.blame.specs.Blame.{booking_at, access_at, first_or, mma_pointed, n_of, MmaBlamed, Blamed};
 
+use bindings::Bindings;
 use checks::Tested;
-use instruction::Opcode;
+use ledger::Ledger;
+use reasons::Reason;
 use statement::{Mma, Position, Statement};
 
 // Which operand idesc is.
 fn idesc_at(m: Mma) -> usize
     ensures { result ≡ idesc_at m }
 {
-    let metadata = m.metadata;
-    if checks::is_sparse(metadata) { 4 } else { 3 }
+    if checks::is_sparse(m.metadata) { 4 } else { 3 }
+}
+
+// N of an instruction descriptor, 0 where there is no word of one.
+fn n_of(m: Mma, word: Option<u32>) -> u32
+    ensures { result ≡ n_of m word }
+{
+    match word {
+        Some(word) => checks::opcode_of(m).judge_word(word).n,
+        None => 0,
+    }
 }
 
 // The first of d, a, b and the metadata whose test is broken, or the last operand that is tested.
@@ -35,97 +47,59 @@ fn first(d: bool, a: bool, b: bool, e: bool, last: usize) -> usize
 }
 
 // What the reason of an mma points at, by the tests of its operands.
-fn pointed(reason: u32, idesc: usize, d: Tested, a: Tested, b: Tested, e: Tested) -> Position
-    ensures { result ≡ mma_pointed reason idesc d a b e }
+fn pointed(reason: Reason, idesc: usize, d: Tested, a: Tested, b: Tested, e: Tested) -> Position
+    ensures { result ≡ mma_pointed (number reason) idesc d a b e }
 {
-    if reason == reasons::NAME {
-        return Position::Name(first(d.named, a.named, b.named, e.named, idesc));
+    match reason {
+        Reason::Name => Position::Name(first(d.named, a.named, b.named, e.named, idesc)),
+        Reason::Descriptor => Position::Name(first(true, a.reads, b.reads, true, idesc)),
+        Reason::Cells => Position::Operand(first(d.ends, a.ends, true, true, 3)),
+        _ => Position::Name(idesc),
     }
-    if reason == reasons::DESCRIPTOR {
-        return Position::Name(first(true, a.reads, b.reads, true, idesc));
-    }
-    if reason == reasons::CELLS {
-        return Position::Operand(first(d.ends, a.ends, true, true, 3));
-    }
-    Position::Name(idesc)
 }
 
 // What the reason of an mma points at.
-fn mma<'a>(
-    hi: &'a [u64; 16],
-    lo: &'a [u64; 16],
-    columns: &'a [u16; 16],
-    value_hi: &'a [u64; 128],
-    value_lo: &'a [u64; 128],
-    numbers: &'a [u64; 128],
-    widths: &'a [u8; 128],
-    m: Mma,
-    reason: u32,
-) -> Position
-    ensures { MmaBlamed hi.now lo.now columns.now value_hi.now value_lo.now numbers.now widths.now m reason result }
+fn mma(ledger: &Ledger, values: &Bindings, m: Mma, reason: Reason) -> Position
+    ensures { MmaBlamed ledger.now values.now m (number reason) result }
 {
-    let address = m.d;
-    let operand = m.a;
-    let metadata = m.metadata;
-    let kind = m.kind;
-    let v = bindings::lookup_in(value_hi, value_lo, numbers, widths, m.idesc);
-    let word = checks::low(v.number);
-    let sp = checks::is_sparse(metadata);
-    let i = Opcode { kind, ws: m.ws, sp }.judge_word(word);
-    let d = checks::address_tested(hi, lo, columns, address, i.n);
-    let a = checks::operand_tested(
-        hi, lo, columns, value_hi, value_lo, numbers, widths, operand,
-    );
-    let b = checks::descriptor_tested(value_hi, value_lo, numbers, widths, m.b);
-    let e = checks::metadata_tested(hi, lo, columns, metadata);
+    let n = n_of(m, checks::word_of(values.find(m.idesc)));
+    let d = checks::address_tested(ledger, m.d, n);
+    let a = checks::operand_tested(ledger, values, m.a);
+    let b = checks::descriptor_tested(values, m.b);
+    let e = checks::metadata_tested(ledger, m.metadata);
     pointed(reason, idesc_at(m), d, a, b, e)
 }
 
 // What the reason of an alloc, dealloc or relinquish points at.
-fn booking(reason: u32) -> Position
-    ensures { result ≡ booking_at reason }
+fn booking(reason: Reason) -> Position
+    ensures { result ≡ booking_at (number reason) }
 {
-    if reason == reasons::NAME {
-        return Position::Name(0);
+    match reason {
+        Reason::Name => Position::Name(0),
+        Reason::Warp => Position::Start,
+        Reason::Columns => Position::Operand(1),
+        _ => Position::Opcode,
     }
-    if reason == reasons::WARP {
-        return Position::Start;
-    }
-    if reason == reasons::COLUMNS {
-        return Position::Operand(1);
-    }
-    Position::Opcode
 }
 
 // What the reason of a ld or st points at, its address being that operand.
-fn access(reason: u32, operand: usize) -> Position
-    ensures { result ≡ access_at reason operand }
+fn access(reason: Reason, operand: usize) -> Position
+    ensures { result ≡ access_at (number reason) operand }
 {
-    if reason == reasons::NAME {
-        return Position::Name(operand);
+    match reason {
+        Reason::Name => Position::Name(operand),
+        _ => Position::Operand(operand),
     }
-    Position::Operand(operand)
 }
 
 // What the reason of a refused statement points at.
-pub fn position<'a>(
-    hi: &'a [u64; 16],
-    lo: &'a [u64; 16],
-    columns: &'a [u16; 16],
-    value_hi: &'a [u64; 128],
-    value_lo: &'a [u64; 128],
-    numbers: &'a [u64; 128],
-    widths: &'a [u8; 128],
-    t: Statement,
-    reason: u32,
-) -> Position
-    ensures { Blamed hi.now lo.now columns.now value_hi.now value_lo.now numbers.now widths.now t reason result }
+pub fn position(ledger: &Ledger, values: &Bindings, t: Statement, reason: Reason) -> Position
+    ensures { Blamed ledger.now values.now t (number reason) result }
 {
-    if reason == reasons::EXIT {
-        return Position::Start;
-    }
-    if reason == reasons::REGISTERS {
-        return Position::Opcode;
+    match reason {
+        Reason::Exit => return Position::Start,
+        Reason::Registers => return Position::Opcode,
+        _ => {}
     }
     match t {
         Statement::Mov32(_, _) | Statement::Mov64(_, _) => Position::Name(0),
@@ -134,9 +108,7 @@ pub fn position<'a>(
         }
         Statement::Load(_) => access(reason, 1),
         Statement::Store(_) => access(reason, 0),
-        Statement::Multiply(m) => mma(
-            hi, lo, columns, value_hi, value_lo, numbers, widths, m, reason,
-        ),
+        Statement::Multiply(m) => mma(ledger, values, m, reason),
         Statement::WaitLoad
         | Statement::WaitStore
         | Statement::FenceBefore

@@ -1,15 +1,20 @@
-// What a ld, a st or an mma is refused for, by tables that are left where they are.
+// What a ld, a st or an mma is refused for, by a ledger and a table of values that are left as they are.
 #![tactic(auto)]
 
-ghost use Rattle.std.specs.Prelude.{◌≡◌, ◌&&◌, ◌||◌, ◌+◌, ◌*◌, ◌/◌, ◌%◌, ◌^◌, eqb, leb};
+ghost use Rattle.std.specs.Prelude.{◌≡◌, ◌&&◌, ◌||◌, ◌+◌, ◌*◌, ◌/◌, ◌%◌, eqb, leb, IfOk};
 ghost use Rattle.laws.specs.Rules.{first_broken};
+ghost use Rattle.reasons.specs.Reasons.{number, answered};
 ghost use Rattle.statement.specs.Canonical.{sparse};
 ghost use Rattle.statement.specs.Cells.{columns_for};
 ghost use Rattle.rules.specs.Reasons.{per_lane, closed_rules};
-ghost use Rattle.checks.specs.Checks.{AccessJudged, start_if, AddressTested, DescriptorTested, OperandTested, MetadataTested, OperandsJudged, MmaJudged};
+ghost use Rattle.ledger.specs.Booking.{columns_in};
+ghost use Rattle.bindings.specs.Table.{number_in};
+ghost use Rattle.checks.specs.Checks.{opcode_of, word_found, AccessJudged, StartsAt, AddressTested, DescriptorTested, OperandTested, MetadataTested, OperandsJudged, MmaJudged};
 
-use bindings::Value;
+use bindings::{Bindings, Value};
 use instruction::Opcode;
+use ledger::{Ledger, Span};
+use reasons::Reason;
 use statement::{Access, Address, Metadata, Mma, Num, Operand, Shape, Statement};
 use tokens::Name;
 
@@ -21,13 +26,6 @@ pub struct Tested {
     pub ends: bool,
 }
 
-// The reason of a ld or st, or 0; the first column of its allocation, 0 where it is refused.
-#[derive(Clone, Copy)]
-pub struct Accessed {
-    pub reason: u32,
-    pub start: u32,
-}
-
 // The offset from a lane to the next.
 const LANE: u32 = 65536;
 
@@ -36,7 +34,7 @@ fn is_lane(warp: u8, lanes: usize, offset: u32) -> bool
     ensures { result ≡ eqb (offset / per_lane) (32 * warp) || (eqb lanes 16 && eqb (offset / per_lane) (32 * warp + 16)) }
 {
     let lane = offset / LANE;
-    let first = 32 * (warp as u32);
+    let first = 32 * u32::from(warp);
     (lane == first) | ((lanes == 16) & (lane == first + 16))
 }
 
@@ -44,8 +42,7 @@ fn is_lane(warp: u8, lanes: usize, offset: u32) -> bool
 fn ends_within(offset: u32, needed: u32, columns: u32) -> bool
     ensures { result ≡ leb (offset % per_lane + needed) columns }
 {
-    let column = (offset % LANE) as u64;
-    column + (needed as u64) <= (columns as u64)
+    u64::from(offset % LANE) + u64::from(needed) <= u64::from(columns)
 }
 
 // The same, and the lane is 0.
@@ -62,128 +59,96 @@ fn columns_needed(shape: Shape, num: Num) -> u32
     cells::columns(shape, num) as u32
 }
 
-// What a ld or st is refused for: 5, 6, 8 or 14. One that is accepted has 0, and where its allocation starts.
-pub fn access_judged<'a>(
-    hi: &'a [u64; 16],
-    lo: &'a [u64; 16],
-    columns: &'a [u16; 16],
-    warp: u8,
-    a: Access,
-) -> Accessed
-    ensures reason { AccessJudged hi.now lo.now columns.now warp a result.reason }
-    ensures start { result.start ≡ start_if result.reason hi.now lo.now columns.now a }
+// What a ld or st is refused for: 5, 6, 8 or 14. Of one that is accepted where its allocation starts.
+pub fn access_judged(ledger: &Ledger, warp: u8, a: Access) -> Result<u32, Reason>
+    ensures reason { AccessJudged ledger.now warp a (answered result) }
+    ensures start { IfOk result (StartsAt ledger.now a.address.base) }
 {
     if cells::is_miscounted(a) {
-        return Accessed {
-            reason: reasons::REGISTERS,
-            start: 0,
-        };
+        return Err(Reason::Registers);
     }
-    let address = a.address;
-    let base = address.base;
-    let span = ledger::find_in(hi, lo, columns, base);
-    if span.columns == 0 {
-        return Accessed {
-            reason: reasons::NAME,
-            start: 0,
-        };
+    let Some(span) = ledger.find(a.address.base) else {
+        return Err(Reason::Name);
+    };
+    if !is_lane(warp, cells::lanes(a.shape), a.address.offset) {
+        return Err(Reason::Warp);
     }
-    let shape = a.shape;
-    let num = a.num;
-    if !is_lane(warp, cells::lanes(shape), address.offset) {
-        return Accessed {
-            reason: reasons::WARP,
-            start: 0,
-        };
+    if !ends_within(
+        a.address.offset,
+        columns_needed(a.shape, a.num),
+        span.columns,
+    ) {
+        return Err(Reason::Cells);
     }
-    if ends_within(address.offset, columns_needed(shape, num), span.columns) {
-        Accessed {
-            reason: reasons::PASSED,
-            start: span.start,
-        }
-    } else {
-        Accessed {
-            reason: reasons::CELLS,
-            start: 0,
-        }
-    }
+    Ok(span.start)
 }
 
 // Reason 5 of any statement, else 15: what a line after exit is refused for.
-pub fn closed_reason(t: Statement) -> u32
-    ensures { result ≡ first_broken (closed_rules t) }
+pub fn closed_reason(t: Statement) -> Reason
+    ensures { number result ≡ first_broken (closed_rules t) }
 {
     if cells::is_counted(t) {
-        reasons::EXIT
+        Reason::Exit
     } else {
-        reasons::REGISTERS
+        Reason::Registers
     }
 }
 
-// An address of an mma that needs some columns.
-pub fn address_tested<'a>(
-    hi: &'a [u64; 16],
-    lo: &'a [u64; 16],
-    columns: &'a [u16; 16],
-    a: Address,
-    needed: u32,
-) -> Tested
-    ensures { AddressTested hi.now lo.now columns.now a needed result }
+// The columns of an allocation, 0 where there is none.
+fn columns_in(span: Option<Span>) -> u32
+    ensures { result ≡ columns_in span }
 {
-    let base = a.base;
-    let span = ledger::find_in(hi, lo, columns, base);
+    span.map_or(0, |x| x.columns)
+}
+
+// An address of an mma that needs some columns.
+pub fn address_tested(ledger: &Ledger, a: Address, needed: u32) -> Tested
+    ensures { AddressTested ledger.now a needed result }
+{
+    let span = ledger.find(a.base);
     Tested {
-        named: span.columns != 0,
+        named: span.is_some(),
         reads: true,
-        ends: mma_within(a.offset, needed, span.columns),
+        ends: mma_within(a.offset, needed, columns_in(span)),
+    }
+}
+
+// The number of a value, 0 where there is none.
+fn number_in(value: Option<Value>) -> u64
+    ensures { result ≡ number_in value }
+{
+    match value {
+        Some(Value::B32(number)) => u64::from(number),
+        Some(Value::B64(number)) => number,
+        None => 0,
     }
 }
 
 // The name of a shared memory descriptor.
-pub fn descriptor_tested<'a>(
-    hi: &'a [u64; 128],
-    lo: &'a [u64; 128],
-    numbers: &'a [u64; 128],
-    widths: &'a [u8; 128],
-    name: Name,
-) -> Tested
-    ensures { DescriptorTested hi.now lo.now numbers.now widths.now name result }
+pub fn descriptor_tested(values: &Bindings, name: Name) -> Tested
+    ensures { DescriptorTested values.now name result }
 {
-    let v = bindings::lookup_in(hi, lo, numbers, widths, name);
+    let value = values.find(name);
     Tested {
-        named: v.width == 64,
-        reads: shared_memory::decode(v.number).is_ok(),
+        named: matches!(value, Some(Value::B64(_))),
+        reads: shared_memory::decode(number_in(value)).is_ok(),
         ends: true,
     }
 }
 
 // Operand a.
-pub fn operand_tested<'a>(
-    hi: &'a [u64; 16],
-    lo: &'a [u64; 16],
-    columns: &'a [u16; 16],
-    value_hi: &'a [u64; 128],
-    value_lo: &'a [u64; 128],
-    numbers: &'a [u64; 128],
-    widths: &'a [u8; 128],
-    a: Operand,
-) -> Tested
-    ensures { OperandTested hi.now lo.now columns.now value_hi.now value_lo.now numbers.now widths.now a result }
+pub fn operand_tested(ledger: &Ledger, values: &Bindings, a: Operand) -> Tested
+    ensures { OperandTested ledger.now values.now a result }
 {
     match a {
-        Operand::Descriptor(name) => descriptor_tested(value_hi, value_lo, numbers, widths, name),
-        Operand::Address(address) => address_tested(hi, lo, columns, address, 8),
+        Operand::Descriptor(name) => descriptor_tested(values, name),
+        Operand::Address(address) => address_tested(ledger, address, 8),
     }
 }
 
 // The metadata of a sparse a.
-pub fn metadata_tested<'a>(
-    hi: &'a [u64; 16],
-    lo: &'a [u64; 16],
-    columns: &'a [u16; 16],
-    metadata: Metadata,
-) -> Tested
-    ensures { MetadataTested hi.now lo.now columns.now metadata result }
+pub fn metadata_tested(ledger: &Ledger, metadata: Metadata) -> Tested
+    ensures { MetadataTested ledger.now metadata result }
 {
     match metadata {
         Metadata::Dense => Tested {
@@ -191,76 +156,74 @@ pub fn metadata_tested<'a>(
             reads: true,
             ends: true,
         },
-        Metadata::Sparse(address) => address_tested(hi, lo, columns, address, 2),
+        Metadata::Sparse(address) => address_tested(ledger, address, 2),
     }
 }
 
 pub fn is_sparse(metadata: Metadata) -> bool
     ensures { result ≡ sparse metadata }
 {
-    match metadata {
-        Metadata::Dense => false,
-        Metadata::Sparse(_) => true,
-    }
+    matches!(metadata, Metadata::Sparse(_))
 }
 
-// The low 32 bits.
-pub fn low(number: u64) -> u32
-    ensures { result ≡ number % 2 ^ 32 }
+// The opcode of an mma.
+pub fn opcode_of(m: Mma) -> Opcode
+    ensures { result ≡ opcode_of m }
 {
-    (number % 4294967296) as u32
+    Opcode {
+        kind: m.kind,
+        ws: m.ws,
+        sp: is_sparse(m.metadata),
+    }
 }
 
-// The reason of an mma from the columns of d and the tests of the operands a and b and of the metadata e; `v` is the
-// value of idesc.
-fn operands_reason(m: Mma, columns: u32, a: Tested, b: Tested, e: Tested, v: Value) -> u32
-    ensures { OperandsJudged m columns a b e v result }
+// The word of an instruction descriptor: a value of 32 bits has one.
+pub fn word_of(value: Option<Value>) -> Option<u32>
+    ensures { result ≡ word_found value }
 {
-    if !((columns != 0) & a.named & b.named & e.named & (v.width == 32)) {
-        return reasons::NAME;
-    }
-    let address = m.d;
-    let metadata = m.metadata;
-    let kind = m.kind;
-    let word = low(v.number);
-    let sp = is_sparse(metadata);
-    let i = Opcode { kind, ws: m.ws, sp }.judge_word(word);
-    let reason = reasons::answered(i.listed);
-    if !(a.reads & b.reads & (reason != reasons::DESCRIPTOR)) {
-        return reasons::DESCRIPTOR;
-    }
-    if reason != reasons::PASSED {
-        return reason;
-    }
-    if mma_within(address.offset, i.n, columns) & a.ends & e.ends {
-        reasons::PASSED
-    } else {
-        reasons::CELLS
+    match value {
+        Some(Value::B32(word)) => Some(word),
+        Some(Value::B64(_)) | None => None,
     }
 }
 
-// The reason of an mma: 6, 12, that of its listing, or 14, else 0.
-pub fn mma_reason<'a>(
-    hi: &'a [u64; 16],
-    lo: &'a [u64; 16],
-    columns: &'a [u16; 16],
-    value_hi: &'a [u64; 128],
-    value_lo: &'a [u64; 128],
-    numbers: &'a [u64; 128],
-    widths: &'a [u8; 128],
+// The reason of an mma from the allocation of d, the tests of the operands a and b and of the metadata e, and the word of idesc.
+fn operands_reason(
     m: Mma,
-) -> u32
-    ensures { MmaJudged hi.now lo.now columns.now value_hi.now value_lo.now numbers.now widths.now m result }
+    d: Option<Span>,
+    a: Tested,
+    b: Tested,
+    e: Tested,
+    word: Option<u32>,
+) -> Result<(), Reason>
+    ensures { OperandsJudged m d a b e word (answered result) }
 {
-    let address = m.d;
-    let operand = m.a;
-    let metadata = m.metadata;
-    let d = ledger::find_in(hi, lo, columns, address.base);
-    let a = operand_tested(
-        hi, lo, columns, value_hi, value_lo, numbers, widths, operand,
-    );
-    let b = descriptor_tested(value_hi, value_lo, numbers, widths, m.b);
-    let e = metadata_tested(hi, lo, columns, metadata);
-    let v = bindings::lookup_in(value_hi, value_lo, numbers, widths, m.idesc);
-    operands_reason(m, d.columns, a, b, e, v)
+    let (Some(span), Some(word)) = (d, word) else {
+        return Err(Reason::Name);
+    };
+    if !(a.named & b.named & e.named) {
+        return Err(Reason::Name);
+    }
+    if !(a.reads & b.reads) {
+        return Err(Reason::Descriptor);
+    }
+    let judged = opcode_of(m).judge_word(word);
+    judged.listed?;
+    if mma_within(m.d.offset, judged.n, span.columns) & a.ends & e.ends {
+        Ok(())
+    } else {
+        Err(Reason::Cells)
+    }
+}
+
+// What an mma is refused for: 6, 12, the reason of its listing, or 14.
+pub fn mma_reason(ledger: &Ledger, values: &Bindings, m: Mma) -> Result<(), Reason>
+    ensures { MmaJudged ledger.now values.now m (answered result) }
+{
+    let d = ledger.find(m.d.base);
+    let a = operand_tested(ledger, values, m.a);
+    let b = descriptor_tested(values, m.b);
+    let e = metadata_tested(ledger, m.metadata);
+    let word = word_of(values.find(m.idesc));
+    operands_reason(m, d, a, b, e, word)
 }

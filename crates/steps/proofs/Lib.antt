@@ -1,2 +1,2 @@
--- Laws that belong to no one function.
+-- The laws of the arms of a statement.
 pub mod StepLaws

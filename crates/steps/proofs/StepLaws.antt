@@ -1,17 +1,15 @@
--- What each arm of a statement gives, from any state that is kept: the claims of the ledger and of the table of value names give reasons and next states,
--- and a refusal changes nothing. Assumes nothing.
-use Prim.Native.Nat.{ℕ, ◌/◌, ◌^◌, ◌≤◌, ◌<◌}
-use mathlib.Core.Path.{◌≡◌, refl, sym, ap, ◌∙◌, subst}
-use mathlib.Core.Bool.{Bool, true, false, not, ◌&&◌, cond}
-use mathlib.Core.List.{List, [], ◌∷◌}
-use native.Mathlib.Omega.{arith}
-use lib.Dec.{ltb, eqb}
+-- What each arm of a statement gives, from any state that is kept: the claims of the ledger, of the table of value names and of what is outstanding give
+-- reasons and next states, and a refusal changes nothing. Assumes nothing.
+use Rattle.std.proofs.Common.{◌≡◌, ℕ, ◌+◌, ◌*◌, ◌/◌, ◌<◌, Bool, true, false, not, ◌&&◌, cond, eqb, List, [], ◌∷◌, Option, Some, None, Result, Ok, Err, refl, sym, ap, ◌∙◌, subst, arith}
+use Rattle.std.specs.Prelude.{is_some}
 use types.Run.{OneOf}
 use denote.Enum.Declared.{tag_of}
-use lib.ListN.{get_or, set}
-use borrow.Author.Tests.{lt-ltb, le-ltb, eq-eqb, ne_eqb, eqb-true, eqb-false}
 use Rattle.laws.specs.Rules.{first_broken}
-use Rattle.laws.proofs.BoolLaws.{clash, and_l, and_r}
+use Rattle.laws.proofs.BoolLaws.{clash}
+use Rattle.reasons.specs.declared.Reason.{Reason}
+use Rattle.reasons.specs.declared.Reason.TheVariants as reason
+use Rattle.reasons.specs.Reasons.{number, answered}
+use Rattle.reasons.proofs.ReasonLaws.{nonzero}
 use Rattle.tokens.specs.declared.Name.{Name}
 use Rattle.statement.specs.declared.Transfer.{Transfer}
 use Rattle.statement.specs.declared.Transfer.TheVariants as transfer
@@ -23,591 +21,297 @@ use Rattle.statement.specs.Views as act
 use Rattle.statement.specs.Views.{act_of, nothing}
 use Rattle.statement.specs.contracts.Statement.{enum, the_type}
 use Rattle.statement.proofs.Variants.{at_each}
-use Rattle.rules.specs.State.{State, Binding, Mark, lowest, is_live, is_bound, bind, is_busy, after_wait}
+use Rattle.rules.specs.State.{State, Binding, Mark, lowest, opened, is_live, is_busy, after_wait}
 use Rattle.rules.specs.Rows.{rules_of}
 use Rattle.rules.specs.Reasons.{open_rows, open_rules, closed_rows, closed_rules, rows, rules}
-use Rattle.rules.proofs.ByAct.{mov_rules, access_rules, act_rules, first_broken_lem, alloc-legal}
-use Rattle.rules.proofs.RuleLaws.{none_kept}
-use Rattle.statement.specs.Cells.{counted}
-use Rattle.rules.specs.Sheet.{statement, effect, given, requested, released, moved, marked, start_list}
+use Rattle.rules.proofs.ByAct.{mov_rules, first_broken_lem}
+use Rattle.rules.specs.Sheet.{statement, effect, given, requested, released, moved, marked}
 use Rattle.ledger.specs.declared.Ledger.{Ledger}
+use Rattle.ledger.specs.declared.Booked.{Booked}
 use Rattle.ledger.specs.declared.Span.{Span}
-use Rattle.ledger.specs.Booking.{Booking, slot, release_rules, relinquish_rules, without_allocation, after_relinquish, alloc_of, release_of, relinquish_of, find_in}
+use Rattle.ledger.specs.Booking.{Booking, booking, started, found, alloc_of, release_of, relinquish_of}
 use Rattle.ledger.specs.Shows as ledger
-use Rattle.ledger.specs.Shows.{Slots}
-use Rattle.ledger.proofs.BookingLaws.{legal_range}
-use Rattle.ledger.proofs.SlotLaws.{finds, found-start}
+use Rattle.ledger.specs.Shows.{Taken, name_at, Stays}
+use Rattle.ledger.proofs.FoundLaws.{finds_in, found_inside}
 use Rattle.ledger.proofs.ShowLaws as ledger-laws
 use Rattle.bindings.specs.declared.Bindings.{Bindings}
 use Rattle.bindings.specs.declared.Value.{Value}
-use Rattle.bindings.specs.Table.{entry_of, written, value_in}
+use Rattle.bindings.specs.declared.Value.TheVariants.{B32, B64}
+use Rattle.bindings.specs.Table.{bind_answer, after_bind, width, number as number_of_value}
+use Rattle.bindings.specs.Table as table
 use Rattle.bindings.specs.Shows as bindings
 use Rattle.bindings.proofs.ShowLaws as bindings-laws
 use Rattle.outstanding.specs.declared.Outstanding.{Outstanding}
-use Rattle.outstanding.specs.Words.{begun, waited, busy_in}
-use Rattle.outstanding.specs.Shows as outstanding
+use Rattle.outstanding.specs.Words.{begun, waited, busy_on}
+use Rattle.outstanding.specs.Shows.{ShowsIn, TellsIn}
 use Rattle.outstanding.proofs.ShowLaws as outstanding-laws
-use Rattle.checks.specs.declared.Accessed.{Accessed}
-use Rattle.checks.specs.Tables.{table}
-use Rattle.checks.specs.Checks.{AccessJudged, start_if, MmaJudged}
-use Rattle.steps.specs.declared.Status.{Status}
+use Rattle.checks.specs.Checks.{AccessJudged, StartsAt, MmaJudged}
+use Rattle.steps.specs.declared.Books.{Books}
 use Rattle.steps.specs.declared.Step.{Step}
-use Rattle.steps.specs.Steps.{Arrays, arrays, Kept, Gives, StatementDone, OpenDone, MovDone, only, ledger_of, stored, step_of, is_early, outstanding_of, access_by, wait_by, exit_of}
+use Rattle.steps.specs.Steps.{opening, Kept, Made, Gives, StatementDone, OpenDone, quiet, mov_by, access_by, wait_by}
 
--- ---- nothing changes
--- a refusal
-refused_gives : (a : Arrays) (status : Status) (R reason : ℕ) (next : State) (starts : List ℕ) (asked returned : ℕ) → reason ≡ R → (reason ≡ 0 → ⊥)
-    → Gives R next starts asked returned a status (only status reason) a
-refused_gives a status R reason next starts asked returned e z = record {
-  reasons = e;
-  keeps = λ y. absurd (z y);
-  starting = λ y. absurd (z y);
-  asks = λ y. absurd (z y);
-  returns = λ y. absurd (z y);
-  no_start = λ y. absurd (z y);
-  unchanged = λ y. (refl, refl);
-}
-
--- a statement that does nothing, accepted or refused
-quiet_gives : (a : Arrays) (status : Status) (s : State) → Kept a status s → (R reason : ℕ) → reason ≡ R → Gives R s [] 0 0 a status (only status reason) a
-quiet_gives a status s k R reason e = record {
-  reasons = e;
-  keeps = λ y. k;
-  starting = λ y. refl;
-  asks = λ y. refl;
-  returns = λ y. refl;
-  no_start = λ y g. refl;
-  unchanged = λ y. (refl, refl);
-}
+-- nothing is kept where nothing was said
+pub opening_kept : Kept opening opened
+opening_kept =
+    let l = ledger-laws.shows_empty in record {
+      tables = record { live = l.slots; values = bindings-laws.shows_empty };
+      warp = l.warp;
+      relinquished = l.relinquished;
+      exited = refl;
+      marks = outstanding-laws.shows_none _ _ _;
+    }
 
 -- ---- before and after exit
-open_is : (held w : ℕ) (t : Statement) (a : Arrays) (status : Status) (r : Step) (after : Arrays) → status.exited ≡ false → OpenDone held w t a status r after
-    → StatementDone held w t a status r after
+module _ (held w : ℕ) (t : Statement) (b : Books) (r : Result Step Reason) (after : Books) where
+  abbrev By : Bool → State → Type 0
+  By x s = Gives (first_broken (rules_of (cond x (closed_rows t) (open_rows lowest s held w t)))) (effect lowest s w (act_of t)) (given lowest s (statement w t)) (requested (statement w t)) (released (statement w t)) b r after
+
+  pub open_done : b.exited ≡ false → OpenDone held w t b r after → StatementDone held w t b r after
+  unfolding rules rows open_rules closed_rules
+  open_done e d s k = subst (λ (x : Bool). By x s) (sym e ∙ k.exited) (d s k)
+
+pub closed_done : (held w : ℕ) (t : Statement) (b : Books) (r : Reason) → b.exited ≡ true → number r ≡ first_broken (closed_rules t) → StatementDone held w t b (Err r) b
 unfolding rules rows open_rules closed_rules
-open_is held w t a status r after e d s k =
-    subst (λ (b : Bool). Gives (first_broken (rules_of (cond b (closed_rows t) (open_rows lowest s held w t)))) (effect lowest s w (act_of t)) (given lowest s (statement w t)) (requested (statement w t)) (released (statement w t)) a status r after)
-    (sym e ∙ k.exited) (d s k)
+closed_done held w t b r e f s k = subst (λ (x : Bool). By held w t b (Err r) b x s) (sym e ∙ k.exited) (f, refl)
 
--- an arm of the match
-pub open_done : (held w : ℕ) (t arm : Statement) → t ≡ arm → (a : Arrays) (status : Status) (r : Step) (after : Arrays) → status.exited ≡ false
-    → OpenDone held w arm a status r after → StatementDone held w t a status r after
-open_done held w t arm f a status r after e d =
-    subst (λ (x : Statement). StatementDone held w x a status r after) (sym f) (open_is held w arm a status r after e d)
+-- ---- statements that ask for nothing and give nothing back
+made_quiet : (next : State) (after : Books) → Kept after next → Made next [] 0 0 quiet after
+made_quiet next after k = record { keeps = k; asks = refl; returns = refl; starting = refl }
 
-five_or_fifteen : (b : Bool) → ◌≡◌ {A = ℕ} (cond b 15 5) 0 → ⊥
-five_or_fifteen true e = absurd (omega arith)
-five_or_fifteen false e = absurd (omega arith)
-
-closed_not : (t : Statement) → first_broken (closed_rules t) ≡ 0 → ⊥
-unfolding closed_rules closed_rows
-closed_not t e = five_or_fifteen (counted t) e
-
-closed_only : (held w : ℕ) (t : Statement) (a : Arrays) (status : Status) (reason : ℕ) → status.exited ≡ true → reason ≡ first_broken (closed_rules t)
-    → StatementDone held w t a status (only status reason) a
-unfolding rules rows open_rules closed_rules
-closed_only held w t a status reason e f s k =
-    subst (λ (b : Bool). Gives (first_broken (rules_of (cond b (closed_rows t) (open_rows lowest s held w t)))) (effect lowest s w (act_of t)) (given lowest s (statement w t)) (requested (statement w t)) (released (statement w t)) a status (only status reason) a)
-    (sym e ∙ k.exited)
-    (refused_gives a status (first_broken (closed_rules t)) reason (effect lowest s w (act_of t)) (given lowest s (statement w t)) (requested (statement w t)) (released (statement w t)) f (λ y. closed_not t (sym f ∙ y)))
-
-pub closed_done : (held w : ℕ) (t : Statement) (a : Arrays) (status : Status) (reason : ℕ) (r : Step) → status.exited ≡ true → reason ≡ first_broken (closed_rules t)
-    → r ≡ only status reason → StatementDone held w t a status r a
-closed_done held w t a status reason r e f p = subst (λ (x : Step). StatementDone held w t a status x a) (sym p) (closed_only held w t a status reason e f)
-
--- ---- statements that do nothing
-module _ (held w : ℕ) (a : Arrays) (status : Status) (r : Step) where
-  module _ (reason : ℕ) (p : r ≡ only status reason) where
-    pub multiply_done : (m : Mma) → MmaJudged a.hi a.lo a.columns a.value_hi a.value_lo a.numbers a.widths m reason → OpenDone held w (Multiply m) a status r a
-    unfolding effect given requested released
-    multiply_done m e = subst (λ (y : Step). OpenDone held w (Multiply m) a status y a) (sym p)
-        (λ s k. quiet_gives a status s k _ reason (e s held w k.tables))
-
-  module _ (p : r ≡ only status 0) where
-    pub nothing-done : (t : Statement) → act_of t ≡ nothing → OpenDone held w t a status r a
-    unfolding effect given requested released
-    nothing-done t e = subst (λ (y : Step). OpenDone held w t a status y a) (sym p) (λ s k. rw e (quiet_gives a status s k _ 0 (sym (rw (first_broken_lem lowest s held w t, e)))))
+pub multiply_done : (held w : ℕ) (m : Mma) (b : Books) → MmaJudged b.ledger b.values m 0 → OpenDone held w (Multiply m) b (Ok quiet) b
+unfolding effect given requested released
+multiply_done held w m b e s k = (e s held w k.tables, made_quiet s b k)
 
 -- fences, by their places in the declaration
-pub idle : (t : Statement) → OneOf (9 ∷ 10 ∷ []) (tag_of the_type t) → act_of t ≡ nothing
+idle : (t : Statement) → OneOf (9 ∷ 10 ∷ []) (tag_of the_type t) → act_of t ≡ nothing
 idle t h = at_each enum (λ t. act_of t ≡ nothing) (9 ∷ 10 ∷ []) t h search
 
--- ---- exit
-abbrev left : Status → Status
-left status = record { fixed = status.fixed; warp = status.warp; relinquished = status.relinquished; exited = true }
-
-exit_reason : (s : State) (held w : ℕ) (b : Bool) → eqb held 0 ≡ b → cond b 0 15 ≡ first_broken (open_rules lowest s held w Exit)
-exit_reason s held w b e = ap (λ (x : Bool). cond x 0 15) (sym e) ∙ sym (first_broken_lem lowest s held w Exit)
-
-exit_by : (a : Arrays) (status : Status) (held w : ℕ) (b : Bool) → eqb held 0 ≡ b → OpenDone held w Exit a status (cond b (only (left status) 0) (only status 15)) a
+pub fence_done : (held w : ℕ) (t : Statement) (b : Books) → OneOf (9 ∷ 10 ∷ []) (tag_of the_type t) → OpenDone held w t b (Ok quiet) b
 unfolding effect given requested released
-exit_by a status held w true e s k = record {
-  reasons = exit_reason s held w true e;
-  keeps = λ y. record {
-    tables = record { slots = k.tables.slots; values = k.tables.values };
-    warp = k.warp;
-    relinquished = k.relinquished;
-    exited = refl;
-    marks = k.marks;
-  };
-  starting = λ y. refl;
-  asks = λ y. refl;
-  returns = λ y. refl;
-  no_start = λ y g. refl;
-  unchanged = λ y. absurd (y refl);
-}
-exit_by a status held w false e s k = refused_gives a status _ 15 _ _ _ _ (exit_reason s held w false e) (λ y. absurd (omega (arith, y)))
+fence_done held w t b h s k = let e = idle t h in rw e (sym (rw (first_broken_lem lowest s held w t, e)), made_quiet s b k)
 
-pub exit-done : (held w : ℕ) (a : Arrays) (status : Status) (r : Step) → r ≡ exit_of held status → OpenDone held w Exit a status r a
-exit-done held w a status r p = subst (λ (y : Step). OpenDone held w Exit a status y a) (sym p) (exit_by a status held w (eqb held 0) refl)
+-- exit
+pub exit_15 : (held w : ℕ) (b : Books) → eqb held 0 ≡ false → OpenDone held w Exit b (Err reason.Exit) b
+exit_15 held w b e s k = (sym (rw (first_broken_lem lowest s held w Exit, e)), refl)
 
--- the two ways through
-module _ (held : ℕ) (status : Status) where
-  pub exit_15 : (held ≡ 0 → ⊥) → (r : Step) → r ≡ only status 15 → r ≡ exit_of held status
-  exit_15 z r p = p ∙ ap (λ (b : Bool). cond {A = Step} b (only (left status) 0) (only status 15)) (sym (ne_eqb held 0 z))
+pub exit_0 : (held w : ℕ) (b : Books) → eqb held 0 ≡ true
+    → OpenDone held w Exit b (Ok quiet) (record { ledger = b.ledger; values = b.values; outstanding = b.outstanding; exited = true })
+unfolding effect given requested released
+exit_0 held w b e s k = (
+  sym (rw (first_broken_lem lowest s held w Exit, e)),
+  made_quiet _ _ (record { tables = record { live = k.tables.live; values = k.tables.values }; warp = k.warp; relinquished = k.relinquished; exited = refl; marks = k.marks }),
+)
 
-  pub exit_0 : held ≡ 0 → (r : Step) → r ≡ only (left status) 0 → r ≡ exit_of held status
-  exit_0 z r p = p ∙ ap (λ (b : Bool). cond {A = Step} b (only (left status) 0) (only status 15)) (sym (eq-eqb held 0 z))
+-- ---- what the books tell
+module _ (b : Books) (s : State) (k : Kept b s) where
+  shows : ledger.Shows b.ledger s
+  shows = record { slots = k.tables.live; warp = k.warp; relinquished = k.relinquished }
+
+  tells : ledger.Tells b.ledger s
+  tells = ledger-laws.tells b.ledger s shows
+
+  value_tells : bindings.Tells b.values s
+  value_tells = bindings-laws.tells b.values s k.tables.values
+
+  mark_tells : TellsIn b.outstanding b.ledger s.outstanding
+  mark_tells = outstanding-laws.tells_in b.outstanding b.ledger s.outstanding k.marks
 
 -- ---- bookings
--- what `book` ensures
-abbrev BookDone : Booking → Status → (asked returned : ℕ) → (hi lo columns : List ℕ) → Step → (next_hi next_lo next_columns : List ℕ) → Type 0
-BookDone b status asked returned hi lo columns r next_hi next_lo next_columns =
-    (r ≡ step_of b status asked returned)
-    × ((next_hi ≡ stored b b.next.hi hi) × (next_lo ≡ stored b b.next.lo lo) × (next_columns ≡ stored b b.next.columns columns))
+abbrev with_ledger : Books → Ledger → Books
+with_ledger b l = record { ledger = l; values = b.values; outstanding = b.outstanding; exited = b.exited }
 
--- what it answers where nothing is refused
-abbrev made : Booking → Status → (asked returned : ℕ) → Step
-made b status asked returned = record {
-  reason = 0;
-  start = b.start;
-  asked = asked;
-  returned = returned;
-  status = record { fixed = b.next.fixed; warp = b.next.warp; relinquished = b.next.relinquished; exited = status.exited };
+-- the books with the next ledger, of a line that leaves the values and the exit as they were
+next_kept : (b : Books) (s : State) → Kept b s → (l : Ledger) (next : State) → ledger.Shows l next → next.values ≡ s.values → next.exited ≡ s.exited
+    → ShowsIn b.outstanding l next.outstanding → Kept (with_ledger b l) next
+next_kept b s k l next h v e m = record {
+  tables = record { live = h.slots; values = subst (λ (x : List Binding). bindings.Shows b.values x) (sym v) k.tables.values };
+  warp = h.warp;
+  relinquished = h.relinquished;
+  exited = k.exited ∙ sym e;
+  marks = m;
 }
 
--- the two ways through
-module _ (b : Booking) (status : Status) (asked returned : ℕ) (hi lo columns : List ℕ) where
-  pub book_refused : (b.reason ≡ 0 → ⊥) → (r : Step) → r ≡ only status b.reason → BookDone b status asked returned hi lo columns r hi lo columns
-  book_refused z r p =
-      let e = ne_eqb b.reason 0 z in (
-        p ∙ ap (λ (t : Bool). cond {A = Step} t (made b status asked returned) (only status b.reason)) (sym e),
-        (
-          ap (λ (t : Bool). cond {A = List ℕ} t b.next.hi hi) (sym e),
-          ap (λ (t : Bool). cond {A = List ℕ} t b.next.lo lo) (sym e),
-          ap (λ (t : Bool). cond {A = List ℕ} t b.next.columns columns) (sym e),
-        ),
+-- what is outstanding, on allocations that a booking leaves as they were
+left_alone : (b : Books) (s : State) → Kept b s → (l : Ledger) → ((i : ℕ) → Taken b.ledger i → is_busy (name_at b.ledger i) s.outstanding ≡ true → Stays b.ledger l i) → ShowsIn b.outstanding l s.outstanding
+left_alone b s k l f = (mark_tells b s k).stays l (λ i p. f i)
+
+-- a booking that is refused, and the next ledger of one that is not
+module _ (booked : Booked) (made : Booking) (p : booking booked ≡ made) where
+  refused_as : (r : Reason) → booked.start ≡ Err r → number r ≡ made.reason
+  refused_as r e = sym (ap answered e) ∙ ap (λ (x : Booking). x.reason) p
+
+  accepted_as : (start : ℕ) → booked.start ≡ Ok start → 0 ≡ made.reason
+  accepted_as start e = sym (ap answered e) ∙ ap (λ (x : Booking). x.reason) p
+
+  start_as : (start : ℕ) → booked.start ≡ Ok start → start ≡ made.start
+  start_as start e = sym (ap started e) ∙ ap (λ (x : Booking). x.start) p
+
+  next_as : booked.next ≡ made.next
+  next_as = ap (λ (x : Booking). x.next) p
+
+module _ (held w : ℕ) (b : Books) (n : Name) (x : ℕ) where
+  -- ---- alloc
+  pub alloc_6 : is_some (table.found b.values n) ≡ true → OpenDone held w (Alloc n x) b (Err reason.Name) b
+  alloc_6 e s k = (sym ((tells b s k).alloc n held w x ∙ rw (← (value_tells b s k).bound n, e)), refl)
+
+  module _ (e : is_some (table.found b.values n) ≡ false) (booked : Booked) (p : booking booked ≡ alloc_of b.ledger n w x) where
+    alloc_reason : (s : State) → Kept b s → (alloc_of b.ledger n w x).reason ≡ first_broken (open_rules lowest s held w (Alloc n x))
+    alloc_reason s k = sym ((tells b s k).alloc n held w x ∙ rw (← (value_tells b s k).bound n, e))
+
+    pub alloc_no : (r : Reason) → booked.start ≡ Err r → OpenDone held w (Alloc n x) b (Err r) b
+    alloc_no r q s k = (refused_as booked _ p r q ∙ alloc_reason s k, refl)
+
+    pub alloc_yes : (start : ℕ) → booked.start ≡ Ok start
+        → OpenDone held w (Alloc n x) b (Ok (record { asked = Some (record { start = start; columns = x }); returned = 0 })) (with_ledger b booked.next)
+    unfolding effect given requested released
+    alloc_yes start q s k =
+        let t = tells b s k in
+        let z : (alloc_of b.ledger n w x).reason ≡ 0 = sym (accepted_as booked _ p start q) in (
+          accepted_as booked _ p start q ∙ alloc_reason s k,
+          rw (next_as booked _ p, start_as booked _ p start q) (record {
+            keeps = next_kept b s k _ _ (t.allocated n w x z) refl refl (left_alone b s k (alloc_of b.ledger n w x).next (λ i h _. t.alloc_stays n w x i z h));
+            asks = refl;
+            returns = refl;
+            starting = sym (t.started n w x z);
+          }),
+        )
+
+  -- ---- dealloc
+  module _ (booked : Booked) (p : booking booked ≡ release_of b.ledger n w x) where
+    release_reason : (s : State) → Kept b s → ledger.or_busy (release_of b.ledger n w x).reason (is_busy n s.outstanding) ≡ first_broken (open_rules lowest s held w (Dealloc n x))
+    release_reason s k = sym ((tells b s k).release n held w x)
+
+    pub release_no : (r : Reason) → booked.start ≡ Err r → OpenDone held w (Dealloc n x) b (Err r) b
+    release_no r q s k = (refused_as booked _ p r q ∙ kept ∙ release_reason s k, refl)
+      where
+        kept : (release_of b.ledger n w x).reason ≡ ledger.or_busy (release_of b.ledger n w x).reason (is_busy n s.outstanding)
+        kept = rw (← refused_as booked _ p r q, nonzero r)
+
+    module _ (start : ℕ) (q : booked.start ≡ Ok start) where
+      z : (release_of b.ledger n w x).reason ≡ 0
+      z = sym (accepted_as booked _ p start q)
+
+      -- what is found outstanding is what the state has
+      busy_is : (s : State) → Kept b s → busy_on b.outstanding b.ledger n ≡ is_busy n s.outstanding
+      busy_is s k = (mark_tells b s k).busy s.live k.tables.live n ((tells b s k).release_live n w x z)
+
+      pub release_18 : busy_on b.outstanding b.ledger n ≡ true → OpenDone held w (Dealloc n x) b (Err reason.Outstanding) b
+      release_18 e s k = (rw (z, ← busy_is s k, e) at (release_reason s k), refl)
+
+      pub release_yes : busy_on b.outstanding b.ledger n ≡ false
+          → OpenDone held w (Dealloc n x) b (Ok (record { asked = None; returned = x })) (with_ledger b booked.next)
+      unfolding effect given requested released
+      release_yes e s k =
+          let t = tells b s k in
+          let idle : is_busy n s.outstanding ≡ false = sym (busy_is s k) ∙ e in (
+            rw (z, ← busy_is s k, e) at (release_reason s k),
+            rw (next_as booked _ p) (record {
+              keeps = next_kept b s k _ _ (t.released n w x z) refl refl
+                  (subst (λ (l : List Mark). ShowsIn b.outstanding (release_of b.ledger n w x).next l) (sym ((mark_tells b s k).releases n idle))
+                  (left_alone b s k (release_of b.ledger n w x).next (λ i h f. t.release_stays n w x i z (λ g. clash f (rw g idle)))));
+              asks = refl;
+              returns = refl;
+              starting = refl;
+            }),
+          )
+
+-- ---- relinquish
+module _ (held w : ℕ) (b : Books) (booked : Booked) (p : booking booked ≡ relinquish_of b.ledger w) where
+  pub relinquish_no : (r : Reason) → booked.start ≡ Err r → OpenDone held w Relinquish b (Err r) b
+  relinquish_no r q s k = (refused_as booked _ p r q ∙ sym ((tells b s k).relinquish held w), refl)
+
+  pub relinquish_yes : (start : ℕ) → booked.start ≡ Ok start → OpenDone held w Relinquish b (Ok quiet) (with_ledger b booked.next)
+  unfolding effect given requested released
+  relinquish_yes start q s k =
+      let t = tells b s k in
+      let z : (relinquish_of b.ledger w).reason ≡ 0 = sym (accepted_as booked _ p start q) in (
+        sym z ∙ sym (t.relinquish held w),
+        rw (next_as booked _ p)
+            (made_quiet _ _ (next_kept b s k _ _ (t.relinquished w z) refl refl (left_alone b s k (relinquish_of b.ledger w).next (λ i _ _. t.relinquish_stays w i z)))),
       )
-
-  pub book_made : b.reason ≡ 0 → BookDone b status asked returned hi lo columns (made b status asked returned) b.next.hi b.next.lo b.next.columns
-  book_made z =
-      let e = eq-eqb b.reason 0 z in (
-        ap (λ (t : Bool). cond {A = Step} t (made b status asked returned) (only status b.reason)) (sym e),
-        (
-          ap (λ (t : Bool). cond {A = List ℕ} t b.next.hi hi) (sym e),
-          ap (λ (t : Bool). cond {A = List ℕ} t b.next.lo lo) (sym e),
-          ap (λ (t : Bool). cond {A = List ℕ} t b.next.columns columns) (sym e),
-        ),
-      )
-
--- a booking that gives no start
-start_if_lem : (l next : Ledger) (reason : ℕ) (t : Bool)
-    → (cond {A = Booking} t (record { next = next; reason = 0; start = 0 }) (record { next = l; reason = reason; start = 0 })).start ≡ 0
-start_if_lem l next reason true = refl
-start_if_lem l next reason false = refl
-
-release_start : (l : Ledger) (n : Name) (w k : ℕ) → (release_of l n w k).start ≡ 0
-unfolding release_of
-release_start l n w k = start_if_lem l (without_allocation l (slot l n)) (first_broken (release_rules l n w k)) (eqb (first_broken (release_rules l n w k)) 0)
-
-relinquish_start : (l : Ledger) (w : ℕ) → (relinquish_of l w).start ≡ 0
-unfolding relinquish_of
-relinquish_start l w = start_if_lem l (after_relinquish l w) (first_broken (relinquish_rules l w)) (eqb (first_broken (relinquish_rules l w)) 0)
-
--- the arrays once a booking is stored
-abbrev stored_in : Arrays → Booking → Arrays
-stored_in a b =
-    arrays (stored b b.next.hi a.hi) (stored b b.next.lo a.lo) (stored b b.next.columns a.columns) a.value_hi a.value_lo a.numbers a.widths a.words
-
--- the ledger of the arrays and the status
-abbrev kept : Arrays → Status → Ledger
-kept a status = ledger_of a.hi a.lo a.columns status
-
-module _ (a : Arrays) (status : Status) (s : State) (k : Kept a status s) where
-  shows : ledger.Shows (kept a status) s
-  shows = record { slots = k.tables.slots; warp = k.warp; relinquished = k.relinquished }
-
-  tells : ledger.Tells (kept a status) s
-  tells = ledger-laws.tells (kept a status) s shows
-
-  value_tells : bindings.Tells (table a.value_hi a.value_lo a.numbers a.widths) s
-  value_tells = bindings-laws.tells (table a.value_hi a.value_lo a.numbers a.widths) s k.tables.values
-
-  -- what is outstanding, on allocations that a booking leaves as they were
-  mark_tells : outstanding.Tells (outstanding_of a.words) a.hi a.lo a.columns s.outstanding
-  mark_tells = outstanding-laws.tells (outstanding_of a.words) a.hi a.lo a.columns s.outstanding k.marks
-
-  left_alone : (next : Ledger) → ((i : ℕ) → 0 < get_or a.columns i 0 → is_busy (ledger.slot_at a.hi a.lo a.columns i).name s.outstanding ≡ true → ledger.Stays (kept a status) next i)
-      → outstanding.Shows (outstanding_of a.words) next.hi next.lo next.columns s.outstanding
-  left_alone next f = mark_tells.stays next.hi next.lo next.columns (λ i p. f i)
-
-  -- any booking, by what the claim of the ledger says of it
-  module _ (b : Booking) (R : ℕ) (next : State) (starts : List ℕ) (asked returned : ℕ) (e : b.reason ≡ R)
-      (f : b.reason ≡ 0 → ledger.Shows b.next next) (g : next.values ≡ s.values) (h : next.exited ≡ s.exited)
-      (i : b.reason ≡ 0 → starts ≡ cond (eqb asked 0) [] (b.start ∷ []))
-      (j : b.reason ≡ 0 → asked ≡ 0 → b.start ≡ 0)
-      (m : b.reason ≡ 0 → outstanding.Shows (outstanding_of a.words) b.next.hi b.next.lo b.next.columns next.outstanding)
-    where
-      made_gives : b.reason ≡ 0
-          → Gives R next starts asked returned a status (made b status asked returned)
-          (arrays b.next.hi b.next.lo b.next.columns a.value_hi a.value_lo a.numbers a.widths a.words)
-      made_gives z = record {
-        reasons = sym z ∙ e;
-        keeps = λ y. record {
-          tables = record {
-            slots = (f z).slots;
-            values = subst (λ (v : List Binding). bindings.Shows (table a.value_hi a.value_lo a.numbers a.widths) v) (sym g) k.tables.values;
-          };
-          warp = (f z).warp;
-          relinquished = (f z).relinquished;
-          exited = k.exited ∙ sym h;
-          marks = m z;
-        };
-        asks = λ y. refl;
-        returns = λ y. refl;
-        starting = λ y. i z;
-        no_start = λ y. j z;
-        unchanged = λ y. absurd (y refl);
-      }
-
-      gives_if : (t : Bool) → eqb b.reason 0 ≡ t
-          → Gives R next starts asked returned a status (cond {A = Step} t (made b status asked returned) (only status b.reason))
-          (arrays (cond t b.next.hi a.hi) (cond t b.next.lo a.lo) (cond t b.next.columns a.columns) a.value_hi a.value_lo a.numbers a.widths a.words)
-      gives_if true t = made_gives (eqb-true b.reason 0 t)
-      gives_if false t = refused_gives a status R b.reason next starts asked returned e (eqb-false b.reason 0 t)
-
-      booked_gives : Gives R next starts asked returned a status (step_of b status asked returned) (stored_in a b)
-      booked_gives = gives_if (eqb b.reason 0) refl
-
--- a legal request is not for 0 columns
-asked-some : (s : State) (held w : ℕ) (n : Name) (x : ℕ) → first_broken (open_rules lowest s held w (Alloc n x)) ≡ 0 → eqb x 0 ≡ false
-asked-some s held w n x e =
-    ne_eqb x 0 (λ z. absurd (omega (arith, z, (legal_range x (alloc-legal lowest s held w n x e)).0)))
-
--- alloc
-alloc_gives : (a : Arrays) (status : Status) (held w : ℕ) (n : Name) (x : ℕ) → (value_in a.value_hi a.value_lo a.numbers a.widths n).width ≡ 0
-    → OpenDone held w (Alloc n x) a status (step_of (alloc_of (kept a status) n w x) status x 0) (stored_in a (alloc_of (kept a status) n w x))
-unfolding effect given requested released
-alloc_gives a status held w n x e s k =
-    booked_gives a status s k (alloc_of (kept a status) n w x) (first_broken (open_rules lowest s held w (Alloc n x))) (effect lowest s w (act.requests n x)) (start_list (lowest s.live x)) x 0
-    (sym same) ((tells a status s k).allocated n w x) refl refl starting no_start
-    (λ z. left_alone a status s k (alloc_of (kept a status) n w x).next (λ i p b. (tells a status s k).alloc_stays n w x i z p))
-  where
-    unbound : is_bound n s.values ≡ false
-    unbound = sym ((value_tells a status s k).bound n) ∙ ap (λ (v : ℕ). not (eqb v 0)) e
-
-    same : first_broken (open_rules lowest s held w (Alloc n x)) ≡ (alloc_of (kept a status) n w x).reason
-    same = (tells a status s k).alloc n held w x ∙ ap (λ (b : Bool). cond b 6 (alloc_of (kept a status) n w x).reason) unbound
-
-    starting : (alloc_of (kept a status) n w x).reason ≡ 0 → start_list (lowest s.live x) ≡ cond (eqb x 0) [] ((alloc_of (kept a status) n w x).start ∷ [])
-    starting z =
-        (tells a status s k).started n w x z
-        ∙ ap (λ (b : Bool). cond b [] ((alloc_of (kept a status) n w x).start ∷ [])) (sym (asked-some s held w n x (same ∙ z)))
-
-    no_start : (alloc_of (kept a status) n w x).reason ≡ 0 → x ≡ 0 → (alloc_of (kept a status) n w x).start ≡ 0
-    no_start z y = absurd (eqb-false x 0 (asked-some s held w n x (same ∙ z)) y)
-
-alloc-taken : (a : Arrays) (status : Status) (held w : ℕ) (n : Name) (x : ℕ) → ((value_in a.value_hi a.value_lo a.numbers a.widths n).width ≡ 0 → ⊥)
-    → OpenDone held w (Alloc n x) a status (only status 6) a
-alloc-taken a status held w n x e s k = refused_gives a status _ 6 _ _ _ _ (sym same) (λ y. absurd (omega (arith, y)))
-  where
-    is_bound_lem : is_bound n s.values ≡ true
-    is_bound_lem = sym ((value_tells a status s k).bound n) ∙ ap not (ne_eqb (value_in a.value_hi a.value_lo a.numbers a.widths n).width 0 e)
-
-    same : first_broken (open_rules lowest s held w (Alloc n x)) ≡ 6
-    same = (tells a status s k).alloc n held w x ∙ ap (λ (b : Bool). cond b 6 (alloc_of (kept a status) n w x).reason) is_bound_lem
-
--- dealloc
-abbrev early : Arrays → Status → (w : ℕ) → Name → ℕ → Bool
-early a status w n x = is_early (release_of (kept a status) n w x).reason (outstanding_of a.words) a.hi a.lo a.columns n
-
-module _ (a : Arrays) (status : Status) (held w : ℕ) (n : Name) (x : ℕ) where
-  abbrev freed : Booking
-  freed = release_of (kept a status) n w x
-
-  -- what is found outstanding is what the state has
-  busy_is : (s : State) → Kept a status s → freed.reason ≡ 0 → busy_in (outstanding_of a.words) a.hi a.lo a.columns n ≡ is_busy n s.outstanding
-  busy_is s k z = (mark_tells a status s k).busy s.live k.tables.slots n ((tells a status s k).release_live n w x z)
-
-  release_early : early a status w n x ≡ true → OpenDone held w (Dealloc n x) a status (only status 18) a
-  unfolding is_early
-  release_early e s k = refused_gives a status _ 18 _ _ _ _ (sym ((tells a status s k).release n held w x ∙ at)) (λ y. absurd (omega (arith, y)))
-    where
-      z : freed.reason ≡ 0
-      z = eqb-true freed.reason 0 (and_l (eqb freed.reason 0) (busy_in (outstanding_of a.words) a.hi a.lo a.columns n) e)
-
-      at : ledger.or_busy freed.reason (is_busy n s.outstanding) ≡ 18
-      at = rw (eq-eqb freed.reason 0 z, sym (busy_is s k z), and_r (eqb freed.reason 0) (busy_in (outstanding_of a.words) a.hi a.lo a.columns n) e)
-
-  release_gives : early a status w n x ≡ false → OpenDone held w (Dealloc n x) a status (step_of freed status 0 x) (stored_in a freed)
-  unfolding effect given requested released is_early
-  release_gives e s k =
-      booked_gives a status s k freed (first_broken (open_rules lowest s held w (Dealloc n x))) (effect lowest s w (act.releases n x)) [] 0 x
-      (sym ((tells a status s k).release n held w x ∙ same (eqb freed.reason 0) refl)) ((tells a status s k).released n w x) refl refl (λ z. refl) (λ z y. release_start (kept a status) n w x)
-      (λ z. subst (λ (l : List Mark). outstanding.Shows (outstanding_of a.words) freed.next.hi freed.next.lo freed.next.columns l) (sym ((mark_tells a status s k).releases n (idle_is z)))
-      (left_alone a status s k freed.next (λ i p b. (tells a status s k).release_stays n w x i z (λ q. clash b (subst (λ m. is_busy m s.outstanding ≡ false) (sym q) (idle_is z))))))
-    where
-      idle_is : freed.reason ≡ 0 → is_busy n s.outstanding ≡ false
-      idle_is z = sym (busy_is s k z) ∙ sym (ap (λ (b : Bool). b && busy_in (outstanding_of a.words) a.hi a.lo a.columns n) (eq-eqb freed.reason 0 z)) ∙ e
-
-      same : (b : Bool) → eqb freed.reason 0 ≡ b → cond b (cond (is_busy n s.outstanding) 18 0) freed.reason ≡ freed.reason
-      same true z = let f = eqb-true freed.reason 0 z in rw (idle_is f) (sym f)
-      same false z = refl
-
-relinquish_gives : (a : Arrays) (status : Status) (held w : ℕ)
-    → OpenDone held w Relinquish a status (step_of (relinquish_of (kept a status) w) status 0 0) (stored_in a (relinquish_of (kept a status) w))
-unfolding effect given requested released
-relinquish_gives a status held w s k =
-    booked_gives a status s k (relinquish_of (kept a status) w) (first_broken (open_rules lowest s held w Relinquish)) (effect lowest s w act.relinquishes) [] 0 0
-    (sym ((tells a status s k).relinquish held w)) ((tells a status s k).relinquished w) refl refl (λ z. refl) (λ z y. relinquish_start (kept a status) w)
-    (λ z. left_alone a status s k (relinquish_of (kept a status) w).next (λ i p b. (tells a status s k).relinquish_stays w i z))
-
--- ---- what the code has: the booking, the answer and the arrays that were stored
-array_path : (a : Arrays) (b : Booking) (hi lo columns : List ℕ)
-    → (hi ≡ stored b b.next.hi a.hi) × (lo ≡ stored b b.next.lo a.lo) × (columns ≡ stored b b.next.columns a.columns)
-    → stored_in a b ≡ arrays hi lo columns a.value_hi a.value_lo a.numbers a.widths a.words
-array_path a b hi lo columns q = rw (q.0, q.1, q.2)
-
-step_done : (held w : ℕ) (t : Statement) (a : Arrays) (status : Status) (b right : Booking) (asked returned : ℕ) → b ≡ right
-    → OpenDone held w t a status (step_of right status asked returned) (stored_in a right)
-    → (r : Step) (hi lo columns : List ℕ) → BookDone b status asked returned a.hi a.lo a.columns r hi lo columns
-    → OpenDone held w t a status r (arrays hi lo columns a.value_hi a.value_lo a.numbers a.widths a.words)
-step_done held w t a status b right asked returned e d r hi lo columns q =
-    subst (λ (x : Arrays). OpenDone held w t a status r x) (array_path a b hi lo columns q.1)
-    (subst (λ (x : Step). OpenDone held w t a status x (stored_in a b)) (sym q.0)
-    (subst (λ (x : Booking). OpenDone held w t a status (step_of x status asked returned) (stored_in a x)) (sym e) d))
-
-module _ (held w : ℕ) (a : Arrays) (status : Status) (l : Ledger) (f : l ≡ kept a status) (b : Booking) (r : Step) (hi lo columns : List ℕ) where
-  abbrev after : Arrays
-  after = arrays hi lo columns a.value_hi a.value_lo a.numbers a.widths a.words
-
-  abbrev So : ℕ → ℕ → Type 0
-  So asked returned = BookDone b status asked returned a.hi a.lo a.columns r hi lo columns
-
-  pub alloc-done : (n : Name) (x : ℕ) (v : Value) → v ≡ value_in a.value_hi a.value_lo a.numbers a.widths n → v.width ≡ 0
-      → b ≡ alloc_of l n w x → So x 0 → OpenDone held w (Alloc n x) a status r after
-  alloc-done n x v g z e p =
-      step_done held w (Alloc n x) a status b (alloc_of (kept a status) n w x) x 0 (e ∙ ap (λ (y : Ledger). alloc_of y n w x) f)
-      (alloc_gives a status held w n x (ap (λ (y : Value). y.width) (sym g) ∙ z)) r hi lo columns p
-
-  pub release_done : (n : Name) (x : ℕ) → b ≡ release_of l n w x → is_early b.reason (outstanding_of a.words) a.hi a.lo a.columns n ≡ false → So 0 x
-      → OpenDone held w (Dealloc n x) a status r after
-  release_done n x e z p =
-      let g : b ≡ release_of (kept a status) n w x = e ∙ ap (λ (y : Ledger). release_of y n w x) f in
-      step_done held w (Dealloc n x) a status b (release_of (kept a status) n w x) 0 x g
-      (release_gives a status held w n x (subst (λ (y : Booking). is_early y.reason (outstanding_of a.words) a.hi a.lo a.columns n ≡ false) g z)) r hi lo columns p
-
-  pub relinquish_done : b ≡ relinquish_of l w → So 0 0 → OpenDone held w Relinquish a status r after
-  relinquish_done e p =
-      step_done held w Relinquish a status b (relinquish_of (kept a status) w) 0 0 (e ∙ ap (λ (y : Ledger). relinquish_of y w) f)
-      (relinquish_gives a status held w) r hi lo columns p
-
-pub release_18 : (held w : ℕ) (a : Arrays) (status : Status) (l : Ledger) → l ≡ kept a status → (b : Booking) (r : Step) (n : Name) (x : ℕ) → b ≡ release_of l n w x
-    → is_early b.reason (outstanding_of a.words) a.hi a.lo a.columns n ≡ true → r ≡ only status 18 → OpenDone held w (Dealloc n x) a status r a
-release_18 held w a status l f b r n x e z p =
-    let g : b ≡ release_of (kept a status) n w x = e ∙ ap (λ (y : Ledger). release_of y n w x) f in
-    subst (λ (y : Step). OpenDone held w (Dealloc n x) a status y a) (sym p)
-    (release_early a status held w n x (subst (λ (y : Booking). is_early y.reason (outstanding_of a.words) a.hi a.lo a.columns n ≡ true) g z))
 
 -- ---- loads, stores and their waits
--- the arrays with other words
-abbrev marking : Arrays → List ℕ → Arrays
-marking a words = arrays a.hi a.lo a.columns a.value_hi a.value_lo a.numbers a.widths words
+abbrev with_outstanding : Books → Outstanding → Books
+with_outstanding b o = record { ledger = b.ledger; values = b.values; outstanding = o; exited = b.exited }
 
-module _ (held w : ℕ) (a : Arrays) (status : Status) (t : Statement) (x : Transfer) (h : w < 4) where
-  marking-kept : (s : State) (o : Outstanding) (l : List Mark) → Kept a status s → outstanding.Shows o a.hi a.lo a.columns l → Kept (marking a o.words) status (marked s l)
-  marking-kept s o l k m = record {
-    tables = record { slots = k.tables.slots; values = k.tables.values };
+module _ (held w : ℕ) (b : Books) (x : Transfer) where
+  marked_kept : (s : State) → Kept b s → (o : Outstanding) (l : List Mark) → ShowsIn o b.ledger l → Kept (with_outstanding b o) (marked s l)
+  marked_kept s k o l m = record {
+    tables = record { live = k.tables.live; values = k.tables.values };
     warp = k.warp;
     relinquished = k.relinquished;
     exited = k.exited;
     marks = m;
   }
 
-  marking_gives : (s : State) (o : Outstanding) (l : List Mark) → Kept a status s → outstanding.Shows o a.hi a.lo a.columns l → (R : ℕ) → 0 ≡ R
-      → Gives R (marked s l) [] 0 0 a status (only status 0) (marking a o.words)
-  marking_gives s o l k m R e = record {
-    reasons = e;
-    keeps = λ y. marking-kept s o l k m;
-    starting = λ y. refl;
-    asks = λ y. refl;
-    returns = λ y. refl;
-    no_start = λ y g. refl;
-    unchanged = λ y. absurd (y refl);
-  }
+  wait_act : (x : Transfer) → act_of (wait_by x) ≡ act.waits x
+  wait_act transfer.Load = refl
+  wait_act transfer.Store = refl
 
-  waits-done : act_of t ≡ act.waits x → OpenDone held w t a status (only status 0) (marking a (waited (outstanding_of a.words) x w).words)
+  pub wait_done : w < 4 → OpenDone held w (wait_by x) b (Ok quiet) (with_outstanding b (waited b.outstanding x w))
   unfolding effect given requested released
-  waits-done e s k =
-      rw e
-      (marking_gives s (waited (outstanding_of a.words) x w) (after_wait w x s.outstanding) k ((mark_tells a status s k).waits x w h) _ (sym (rw (first_broken_lem lowest s held w t, e))))
+  wait_done h s k =
+      rw (wait_act x)
+      (sym (first_broken_lem lowest s held w (wait_by x) ∙ rw (wait_act x)), made_quiet _ _ (marked_kept s k _ _ ((mark_tells b s k).waits x w h)))
 
-  -- an access, by what was judged of it
-  module _ (c : Access) (e : act_of t ≡ act.accesses x c) (r : Accessed) (judged : (s : State) → Slots a.hi a.lo a.columns s.live → r.reason ≡ first_broken (open_rules lowest s held w t)) where
-    access_refused : (r.reason ≡ 0 → ⊥) → OpenDone held w t a status (only status r.reason) a
-    access_refused z s k = refused_gives a status _ r.reason _ _ _ _ (judged s k.tables.slots) z
+  access_act : (x : Transfer) (a : Access) → act_of (access_by x a) ≡ act.accesses x a
+  access_act transfer.Load a = refl
+  access_act transfer.Store a = refl
 
-    -- it is on a live allocation
-    named : (s : State) → Kept a status s → r.reason ≡ 0 → is_live c.address.base s.live ≡ true
-    named s k z =
-        (none_kept (access_rules s w c) refl (sym (first_broken_lem lowest s held w t ∙ ap (λ y. first_broken (act_rules lowest s held w y)) e) ∙ sym (judged s k.tables.slots) ∙ z)).1.0
+  module _ (a : Access) where
+    -- what was judged of both is what the rules say of one
+    judged_by : (x : Transfer) (r : ℕ) → AccessJudged b.ledger w a r → (s : State) → Kept b s → r ≡ first_broken (open_rules lowest s held w (access_by x a))
+    judged_by transfer.Load r j s k = (j s held k.tables.live).0
+    judged_by transfer.Store r j s k = (j s held k.tables.live).1
 
-    access_accepted : r.reason ≡ 0 → r.start ≡ (find_in a.hi a.lo a.columns c.address.base).start
-        → OpenDone held w t a status (only status 0) (marking a (begun (outstanding_of a.words) x w (r.start / 32)).words)
+    pub access_no : (r : Reason) → AccessJudged b.ledger w a (number r) → OpenDone held w (access_by x a) b (Err r) b
+    access_no r j s k = (judged_by x (number r) j s k, refl)
+
+    pub access_yes : w < 4 → (start : ℕ) → AccessJudged b.ledger w a 0 → StartsAt b.ledger a.address.base start
+        → OpenDone held w (access_by x a) b (Ok quiet) (with_outstanding b (begun b.outstanding x w (start / 32)))
     unfolding effect given requested released
-    access_accepted z f s k =
-        rw e
-        (marking_gives s (begun (outstanding_of a.words) x w (r.start / 32)) _ k
-        (subst (λ (i : ℕ). outstanding.Shows (begun (outstanding_of a.words) x w (i / 32)) a.hi a.lo a.columns (record { name = c.address.base; warp = w; transfer = x } ∷ s.outstanding)) (sym f)
-        ((mark_tells a status s k).begins s.live k.tables.slots c.address.base (named s k z) x w h))
-        _ (sym z ∙ judged s k.tables.slots))
-
--- the arms
-act_by : (x : Transfer) (c : Access) → act_of (access_by x c) ≡ act.accesses x c
-act_by transfer.Load c = refl
-act_by transfer.Store c = refl
-
--- what was judged of both is what the rules say of one
-judged_by : (hi lo columns : List ℕ) (w : ℕ) (c : Access) (reason : ℕ) → AccessJudged hi lo columns w c reason → (x : Transfer) (held : ℕ) (s : State) → Slots hi lo columns s.live
-    → reason ≡ first_broken (open_rules lowest s held w (access_by x c))
-judged_by hi lo columns w c reason j transfer.Load held s m = (j s held m).0
-judged_by hi lo columns w c reason j transfer.Store held s m = (j s held m).1
-
-module _ (w : ℕ) (a : Arrays) (status : Status) (h : w < 4) (x : Transfer) (c : Access) (r : Accessed) (j : AccessJudged a.hi a.lo a.columns w c r.reason) where
-  pub access_no : (held : ℕ) → (r.reason ≡ 0 → ⊥) → (step : Step) → step ≡ only status r.reason → OpenDone held w (access_by x c) a status step a
-  access_no held z step p =
-      subst (λ (y : Step). OpenDone held w (access_by x c) a status y a) (sym p)
-      (access_refused held w a status (access_by x c) x h c (act_by x c) r (judged_by a.hi a.lo a.columns w c r.reason j x held) z)
-
-  pub access-done : (held : ℕ) → r.start ≡ start_if r.reason a.hi a.lo a.columns c → r.reason ≡ 0
-      → (o : Outstanding) → o ≡ begun (outstanding_of a.words) x w (r.start / 32) → (words : List ℕ) → words ≡ o.words → (step : Step) → step ≡ only status 0
-      → OpenDone held w (access_by x c) a status step (marking a words)
-  unfolding start_if
-  access-done held f z o g words q step p =
-      subst (λ (y : List ℕ). OpenDone held w (access_by x c) a status step (marking a y)) (sym (q ∙ ap (λ (y : Outstanding). y.words) g))
-      (subst (λ (y : Step). OpenDone held w (access_by x c) a status y (marking a (begun (outstanding_of a.words) x w (r.start / 32)).words)) (sym p)
-      (access_accepted held w a status (access_by x c) x h c (act_by x c) r (judged_by a.hi a.lo a.columns w c r.reason j x held) z
-      (f ∙ ap (λ (b : Bool). cond b (find_in a.hi a.lo a.columns c.address.base).start 0) (eq-eqb r.reason 0 z))))
-
-wait_by_lem : (x : Transfer) → act_of (wait_by x) ≡ act.waits x
-wait_by_lem transfer.Load = refl
-wait_by_lem transfer.Store = refl
-
-pub wait_done : (held w : ℕ) (a : Arrays) (status : Status) → w < 4 → (x : Transfer) (r : Step) → r ≡ only status 0 → (words : List ℕ) → words ≡ (waited (outstanding_of a.words) x w).words
-    → OpenDone held w (wait_by x) a status r (marking a words)
-wait_done held w a status h x r p words q =
-    subst (λ (y : List ℕ). OpenDone held w (wait_by x) a status r (marking a y)) (sym q)
-    (subst (λ (y : Step). OpenDone held w (wait_by x) a status y (marking a (waited (outstanding_of a.words) x w).words)) (sym p) (waits-done held w a status (wait_by x) x h (wait_by_lem x)))
-
--- what `is_early` has
-module _ (reason : ℕ) (o : Outstanding) (hi lo columns : List ℕ) (n : Name) where
-  pub early_no : (reason ≡ 0 → ⊥) → false ≡ is_early reason o hi lo columns n
-  unfolding is_early
-  early_no z = sym (ap (λ (b : Bool). b && busy_in o hi lo columns n) (ne_eqb reason 0 z))
-
-  pub early_is : reason ≡ 0 → (b : Bool) → b ≡ busy_in o hi lo columns n → b ≡ is_early reason o hi lo columns n
-  unfolding is_early
-  early_is z b e = e ∙ sym (ap (λ (t : Bool). t && busy_in o hi lo columns n) (eq-eqb reason 0 z))
+    access_yes h start j f s k =
+        let m = (mark_tells b s k).begins s.live k.tables.live a.address.base f.0 f.1 x w h in
+        let e = judged_by x 0 j s k in
+        rw (access_act x a) (e, made_quiet _ _ (marked_kept s k _ _ (rw f.2 m)))
 
 -- the start that an access has is that of a slot
-pub start-inside : (hi lo columns : List ℕ) (c : Access) (r : Accessed) → r.start ≡ start_if r.reason hi lo columns c → r.start / 32 < 16
-unfolding start_if
-start-inside hi lo columns c r f = subst (λ (i : ℕ). i / 32 < 16) (sym f) (at (eqb r.reason 0))
-  where
-    at : (b : Bool) → cond b (find_in hi lo columns c.address.base).start 0 / 32 < 16
-    at true = found-start hi lo columns c.address.base
-    at false = omega arith
-
-pub alloc_6 : (held w : ℕ) (a : Arrays) (status : Status) (n : Name) (x : ℕ) (v : Value) → v ≡ value_in a.value_hi a.value_lo a.numbers a.widths n
-    → (v.width ≡ 0 → ⊥) → (r : Step) → r ≡ only status 6 → OpenDone held w (Alloc n x) a status r a
-alloc_6 held w a status n x v g z r p =
-    subst (λ (y : Step). OpenDone held w (Alloc n x) a status y a) (sym p)
-    (alloc-taken a status held w n x (λ e. z (ap (λ (y : Value). y.width) g ∙ e)))
+pub start_inside : (l : Ledger) (n : Name) (start : ℕ) → StartsAt l n start → start / 32 < 16
+start_inside l n start f = subst (λ (i : ℕ). i / 32 < 16) (sym f.2) (found_inside l n f.0 f.1)
 
 -- ---- mov
--- the reason of a mov of a name at either width
-abbrev mov_reason : State → Name → ℕ
-mov_reason s n = first_broken (mov_rules s n)
+abbrev with_values : Books → Bindings → Books
+with_values b t = record { ledger = b.ledger; values = t; outstanding = b.outstanding; exited = b.exited }
 
--- what either gives, by that reason, for any width and number
-abbrev MovGives : Name → (width number : ℕ) → Arrays → Status → Step → Arrays → Type 0
-MovGives n width v a status r after = (s : State) → Kept a status s → Gives (mov_reason s n) (moved s n width v) [] 0 0 a status r after
+module _ (held w : ℕ) (b : Books) (n : Name) where
+  -- what either gives, by the rules of a mov at either width
+  mov_open : (v : Value) (r : Result Step Reason) (after : Books)
+      → ((s : State) → Kept b s → Gives (first_broken (mov_rules s n)) (moved s n (width v) (number_of_value v)) [] 0 0 b r after) → OpenDone held w (mov_by n v) b r after
+  unfolding effect given requested released
+  mov_open (B32 v) r after f s k = rw (first_broken_lem lowest s held w (Mov32 n v)) (f s k)
+  mov_open (B64 v) r after f s k = rw (first_broken_lem lowest s held w (Mov64 n v)) (f s k)
 
-mov_done : (n : Name) (width v : ℕ) (a : Arrays) (status : Status) (r : Step) (after : Arrays)
-    → (0 < width → (width ≡ 32 → v < 2 ^ 32) → MovGives n width v a status r after) → MovDone n width v a status r after
-unfolding effect given requested released
-mov_done n width v a status r after f = record {
-  at32 = λ held w e g s k.
-      subst (λ (R : ℕ). Gives R (moved s n 32 v) [] 0 0 a status r after) (sym (first_broken_lem lowest s held w (Mov32 n v)))
-      (subst (λ (x : ℕ). Gives (mov_reason s n) (moved s n x v) [] 0 0 a status r after) e (f (omega (arith, e)) (λ y. g) s k));
-  at64 = λ held w e s k.
-      subst (λ (R : ℕ). Gives R (moved s n 64 v) [] 0 0 a status r after) (sym (first_broken_lem lowest s held w (Mov64 n v)))
-      (subst (λ (x : ℕ). Gives (mov_reason s n) (moved s n x v) [] 0 0 a status r after) e (f (omega (arith, e)) (λ y. absurd (omega (arith, e, y))) s k));
-}
+  live_is : (s : State) → Kept b s → is_some (found b.ledger n) ≡ is_live n s.live
+  live_is s k = (finds_in b.ledger s.live k.tables.live).live n
 
-module _ (a : Arrays) (status : Status) (n : Name) (taken : Span) (e : taken ≡ find_in a.hi a.lo a.columns n) where
-  abbrev values : Bindings
-  values = table a.value_hi a.value_lo a.numbers a.widths
+  pub mov_6 : (v : Value) → is_some (found b.ledger n) ≡ true → OpenDone held w (mov_by n v) b (Err reason.Name) b
+  mov_6 v e = mov_open v (Err reason.Name) b (λ s k. (rw (← live_is s k, e), refl))
 
-  -- the name is live where an allocation was found
-  live_is : (s : State) → Kept a status s → is_live n s.live ≡ not (eqb taken.columns 0)
-  live_is s k = sym ((finds a.hi a.lo a.columns s.live k.tables.slots).live n) ∙ ap (λ (x : Span). not (eqb x.columns 0)) (sym e)
+  module _ (e : is_some (found b.ledger n) ≡ false) (v : Value) where
+    pub mov_no : (r : Reason) → bind_answer b.values n ≡ Err r → OpenDone held w (mov_by n v) b (Err r) (with_values b (after_bind b.values n v))
+    mov_no r q = mov_open v (Err r) (with_values b (after_bind b.values n v)) (λ s k.
+        let p = bindings-laws.bind_err b.values s k.tables.values n v r q in
+        (rw (← live_is s k, e, p.0, p.1), ap (with_values b) p.2))
 
-  pub mov_6 : (width v : ℕ) → (taken.columns ≡ 0 → ⊥) → (r : Step) → r ≡ only status 6 → MovDone n width v a status r a
-  mov_6 width v z r p = subst (λ (x : Step). MovDone n width v a status x a) (sym p) (mov_done n width v a status (only status 6) a (λ c f s k.
-      refused_gives a status (mov_reason s n) 6 _ _ _ _ (sym (rw (live_is s k, ne_eqb taken.columns 0 z))) (λ y. absurd (omega (arith, y)))))
-
-  module _ (z : taken.columns ≡ 0) (i : ℕ) (f : i ≡ entry_of a.value_hi a.value_lo a.widths n) where
-    -- then room for it decides
-    reason_is : (s : State) → Kept a status s → mov_reason s n ≡ cond (ltb i 128) 0 7
-    reason_is s k =
-        rw (live_is s k, eq-eqb taken.columns 0 z)
-        (ap (λ (b : Bool). cond b 0 7) ((value_tells a status s k).room n ∙ ap (λ (j : ℕ). ltb j 128) (sym f)))
-
-    pub mov_7 : (width v : ℕ) → 128 ≤ i → (r : Step) → r ≡ only status 7 → MovDone n width v a status r a
-    mov_7 width v h r p = subst (λ (x : Step). MovDone n width v a status x a) (sym p) (mov_done n width v a status (only status 7) a (λ c g s k.
-        refused_gives a status (mov_reason s n) 7 _ _ _ _ (sym (reason_is s k ∙ rw (le-ltb i 128 h))) (λ y. absurd (omega (arith, y)))))
-
-    module _ (h : i < 128) (v : ℕ) where
-      abbrev next : ℕ → Arrays
-      next width =
-          arrays a.hi a.lo a.columns (set a.value_hi i n.hi) (set a.value_lo i n.lo) (set a.numbers i v) (set a.widths i width) a.words
-
-      -- what is kept afterwards
-      kept_next : (width : ℕ) → 0 < width → (width ≡ 32 → v < 2 ^ 32) → (s : State) → Kept a status s → Kept (next width) status (moved s n width v)
-      kept_next width c g s k = record {
-        tables = record {
-          slots = k.tables.slots;
-          values = subst (λ (j : ℕ). bindings.Shows (written values j n width v) (bind (record { name = n; width = width; number = v }) s.values)) (sym f)
-              ((value_tells a status s k).binds n width v c g (omega (arith, f, h)));
-        };
-        warp = k.warp;
-        relinquished = k.relinquished;
-        exited = k.exited;
-        marks = k.marks;
-      }
-
-      moved_gives : (width : ℕ) → 0 < width → (width ≡ 32 → v < 2 ^ 32) → MovGives n width v a status (only status 0) (next width)
-      moved_gives width c g s k = record {
-        reasons = sym (reason_is s k ∙ rw (lt-ltb i 128 h));
-        keeps = λ x. kept_next width c g s k;
-        starting = λ x. refl;
-        asks = λ x. refl;
-        returns = λ x. refl;
-        no_start = λ x y. refl;
-        unchanged = λ x. absurd (x refl);
-      }
-
-      pub mov_0 : (width : ℕ) (r : Step) → r ≡ only status 0 → MovDone n width v a status r (next width)
-      mov_0 width r p =
-          subst (λ (x : Step). MovDone n width v a status x (next width)) (sym p)
-          (mov_done n width v a status (only status 0) (next width) (moved_gives width))
+    pub mov_yes : bind_answer b.values n ≡ Ok tt → OpenDone held w (mov_by n v) b (Ok quiet) (with_values b (after_bind b.values n v))
+    mov_yes q = mov_open v (Ok quiet) (with_values b (after_bind b.values n v)) (λ s k.
+        let p = bindings-laws.bind_ok b.values s k.tables.values n v q in (
+          rw (← live_is s k, e, p.0),
+          made_quiet _ _ (record {
+            tables = record { live = k.tables.live; values = p.1 };
+            warp = k.warp;
+            relinquished = k.relinquished;
+            exited = k.exited;
+            marks = k.marks;
+          }),
+        ))

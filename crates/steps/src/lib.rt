@@ -1,353 +1,165 @@
-// One statement of a sheet, judged and booked: its reason, and what the judge keeps afterwards.
+// One statement of a sheet, judged and booked: its reason, or what it asks for and gives back; and what the judge keeps.
 #![tactic(auto)]
 
-ghost use Rattle.std.specs.Prelude.{◌≡◌, List, ℕ, ◌<◌};
-ghost use Rattle.statement.specs.declared.Statement.TheVariants.{Dealloc, Relinquish};
-ghost use Rattle.steps.specs.Steps.{arrays, arrays_in, arrays_out, only, Sized, StatementDone, AllocDone, LedgerDone, MovDone, ledger_of, outstanding_of, stored, step_of, is_early, access_by, exit_of};
-ghost use Rattle.reasons.specs.Reasons.{answered};
-ghost use Rattle.ledger.specs.Booking.{booking, started};
-ghost use Rattle.outstanding.specs.Words.{waited};
+ghost use Rattle.std.specs.Prelude.{◌≡◌, ℕ, ◌<◌};
+ghost use Rattle.statement.specs.declared.Statement.TheVariants.{Alloc, Dealloc, Relinquish, Multiply, Exit};
+ghost use Rattle.steps.specs.Steps.{opening, mov_by, access_by, wait_by, OpenDone, StatementDone};
 
-use ledger::{Booked, Ledger};
+use bindings::{Bindings, Value};
+use ledger::{Ledger, Span};
 use outstanding::Outstanding;
 use reasons::Reason;
-use statement::{Access, Statement, Transfer};
+use statement::{Access, Mma, Statement, Transfer};
 use tokens::Name;
 
-// What is kept beside the arrays of the ledger and of the table of value names, and the words of what is outstanding. `fixed`: a warp
-// is fixed, and `warp` says which. `exited`: exit was passed.
+// What the judge keeps from line to line. `exited`: exit was passed.
 #[derive(Clone, Copy)]
-pub struct Status {
-    pub fixed: bool,
-    pub warp: u8,
-    pub relinquished: bool,
+pub struct Books {
+    pub ledger: Ledger,
+    pub values: Bindings,
+    pub outstanding: Outstanding,
     pub exited: bool,
 }
 
-// The reason, or 0; the start of an alloc, the columns asked for and given back, and what is kept. Of a statement that is
-// refused the columns are 0, and what is kept is what was.
+impl Books {
+    // Nothing is kept.
+    pub fn new() -> Books
+        ensures { result ≡ opening }
+    {
+        Books {
+            ledger: Ledger::new(),
+            values: Bindings::new(),
+            outstanding: Outstanding::new(),
+            exited: false,
+        }
+    }
+}
+
+// What an accepted statement asks for, and the columns that it gives back.
 #[derive(Clone, Copy)]
 pub struct Step {
-    pub reason: u32,
-    pub start: u32,
-    pub asked: u32,
+    pub asked: Option<Span>,
     pub returned: u32,
-    pub status: Status,
 }
 
-// The reason and the status, no columns.
-fn quiet(status: Status, reason: u32) -> Step
-    ensures { result ≡ only status reason }
-{
-    Step {
-        reason,
-        start: 0,
-        asked: 0,
-        returned: 0,
-        status,
-    }
-}
+// Nothing is asked for or given back.
+const QUIET: Step = Step {
+    asked: None,
+    returned: 0,
+};
 
-// A value is bound in place, unless its name has a live allocation (6) or there is no room (7).
-fn mov<'a>(
-    hi: &'a [u64; 16],
-    lo: &'a [u64; 16],
-    columns: &'a [u16; 16],
-    value_hi: &mut [u64; 128],
-    value_lo: &mut [u64; 128],
-    numbers: &mut [u64; 128],
-    widths: &mut [u8; 128],
-    status: Status,
-    name: Name,
-    width: u8,
-    number: u64,
-) -> Step
-    requires { Sized value_hi.old value_lo.old numbers.old widths.old }
-    ensures { (words : List ℕ) → MovDone name width number (arrays hi.now lo.now columns.now value_hi.old value_lo.old numbers.old widths.old words) status result
-        (arrays hi.now lo.now columns.now value_hi.new value_lo.new numbers.new widths.new words) }
+// A value is bound, unless its name has a live allocation (6) or there is no room (7).
+fn mov(books: &mut Books, name: Name, value: Value) -> Result<Step, Reason>
+    ensures { (held w : ℕ) → OpenDone held w (mov_by name value) books.old result books.new }
 {
-    let taken = ledger::find_in(hi, lo, columns, name);
-    if taken.columns != 0 {
-        return quiet(status, reasons::NAME);
+    if books.ledger.find(name).is_some() {
+        return Err(Reason::Name);
     }
-    let at = bindings::entry(value_hi, value_lo, widths, name);
-    if 128 <= at {
-        return quiet(status, reasons::VALUES);
-    }
-    value_hi[at] = name.hi;
-    value_lo[at] = name.lo;
-    numbers[at] = number;
-    widths[at] = width;
-    quiet(status, reasons::PASSED)
-}
-
-// The ledger of the arrays and the status.
-fn lent<'a>(hi: &'a [u64; 16], lo: &'a [u64; 16], columns: &'a [u16; 16], status: Status) -> Ledger
-    ensures { result ≡ ledger_of hi.now lo.now columns.now status }
-{
-    let h = *hi;
-    let l = *lo;
-    let c = *columns;
-    Ledger {
-        hi: h,
-        lo: l,
-        columns: c,
-        fixed: status.fixed,
-        warp: status.warp,
-        relinquished: status.relinquished,
-    }
-}
-
-// The reason of a booking, or 0.
-fn refusal(answer: Result<u32, Reason>) -> u32
-    ensures { result ≡ answered answer }
-{
-    match answer {
-        Ok(_) => reasons::PASSED,
-        Err(reason) => reason.number(),
-    }
-}
-
-// The start of a booking, 0 where it is refused.
-fn start_in(answer: Result<u32, Reason>) -> u32
-    ensures { result ≡ started answer }
-{
-    match answer {
-        Ok(start) => start,
-        Err(_) => 0,
-    }
-}
-
-// The next ledger is put back into the arrays and the status, unless the booking is refused.
-fn book(
-    hi: &mut [u64; 16],
-    lo: &mut [u64; 16],
-    columns: &mut [u16; 16],
-    booked: Booked,
-    status: Status,
-    asked: u32,
-    returned: u32,
-) -> Step
-    ensures answer { result ≡ step_of (booking booked) status asked returned }
-    ensures kept { (hi.new ≡ stored (booking booked) booked.next.hi hi.old) × (lo.new ≡ stored (booking booked) booked.next.lo lo.old) × (columns.new ≡ stored (booking booked) booked.next.columns columns.old) }
-{
-    let answer = booked.start;
-    let reason = refusal(answer);
-    if reason != reasons::PASSED {
-        return quiet(status, reason);
-    }
-    let h = booked.next.hi;
-    let l = booked.next.lo;
-    let c = booked.next.columns;
-    *hi = h;
-    *lo = l;
-    *columns = c;
-    let kept = Status {
-        fixed: booked.next.fixed,
-        warp: booked.next.warp,
-        relinquished: booked.next.relinquished,
-        exited: status.exited,
-    };
-    Step {
-        reason: reasons::PASSED,
-        start: start_in(answer),
-        asked,
-        returned,
-        status: kept,
-    }
+    books.values.bind(name, value)?;
+    Ok(QUIET)
 }
 
 // Columns are allocated, unless the name is bound to a value (6) or the ledger refuses.
-fn alloc<'a>(
-    hi: &mut [u64; 16],
-    lo: &mut [u64; 16],
-    columns: &mut [u16; 16],
-    value_hi: &'a [u64; 128],
-    value_lo: &'a [u64; 128],
-    numbers: &'a [u64; 128],
-    widths: &'a [u8; 128],
-    status: Status,
-    warp: u8,
-    name: Name,
-    requested: u32,
-) -> Step
-    ensures { (words : List ℕ) → AllocDone warp name requested (arrays hi.old lo.old columns.old value_hi.now value_lo.now numbers.now widths.now words) status result
-        (arrays hi.new lo.new columns.new value_hi.now value_lo.now numbers.now widths.now words) }
+fn alloc(books: &mut Books, warp: u8, name: Name, columns: u32) -> Result<Step, Reason>
+    ensures { (held : ℕ) → OpenDone held warp (Alloc name columns) books.old result books.new }
 {
-    let bound = bindings::lookup_in(value_hi, value_lo, numbers, widths, name);
-    if bound.width != 0 {
-        return quiet(status, reasons::NAME);
+    if books.values.find(name).is_some() {
+        return Err(Reason::Name);
     }
-    let ledger = lent(hi, lo, columns, status);
-    let booked = ledger.alloc(name, warp, requested);
-    book(hi, lo, columns, booked, status, requested, 0)
-}
-
-// A dealloc that the ledger accepts comes too early: a load or store is outstanding on its allocation.
-fn is_early<'a>(
-    hi: &'a [u64; 16],
-    lo: &'a [u64; 16],
-    columns: &'a [u16; 16],
-    words: &'a [u16; 8],
-    name: Name,
-    reason: u32,
-) -> bool
-    ensures { result ≡ is_early reason (outstanding_of words.now) hi.now lo.now columns.now name }
-{
-    if reason != reasons::PASSED {
-        return false;
-    }
-    let outstanding = Outstanding { words: *words };
-    outstanding.is_busy_among(hi, lo, columns, name)
+    let booked = books.ledger.alloc(name, warp, columns);
+    let start = booked.start?;
+    books.ledger = booked.next;
+    Ok(Step {
+        asked: Some(Span { start, columns }),
+        returned: 0,
+    })
 }
 
 // An allocation is released, unless the ledger refuses, or a load or store is outstanding on it (18).
-fn release(
-    hi: &mut [u64; 16],
-    lo: &mut [u64; 16],
-    columns: &mut [u16; 16],
-    words: &[u16; 8],
-    status: Status,
-    warp: u8,
-    name: Name,
-    released: u32,
-) -> Step
-    ensures { LedgerDone warp (Dealloc name released) hi.old lo.old columns.old words.now status result
-        hi.new lo.new columns.new words.now }
+fn release(books: &mut Books, warp: u8, name: Name, columns: u32) -> Result<Step, Reason>
+    ensures { (held : ℕ) → OpenDone held warp (Dealloc name columns) books.old result books.new }
 {
-    let ledger = lent(hi, lo, columns, status);
-    let booked = ledger.release(name, warp, released);
-    let answer = booked.start;
-    if is_early(hi, lo, columns, words, name, refusal(answer)) {
-        return quiet(status, reasons::OUTSTANDING);
+    let booked = books.ledger.release(name, warp, columns);
+    booked.start?;
+    if books.outstanding.is_busy(&books.ledger, name) {
+        return Err(Reason::Outstanding);
     }
-    book(hi, lo, columns, booked, status, 0, released)
+    books.ledger = booked.next;
+    Ok(Step {
+        asked: None,
+        returned: columns,
+    })
 }
 
 // No more allocs, unless the ledger refuses.
-fn relinquish(
-    hi: &mut [u64; 16],
-    lo: &mut [u64; 16],
-    columns: &mut [u16; 16],
-    status: Status,
-    warp: u8,
-) -> Step
-    ensures { (words : List ℕ) → LedgerDone warp Relinquish hi.old lo.old columns.old words status result hi.new lo.new columns.new words }
+fn relinquish(books: &mut Books, warp: u8) -> Result<Step, Reason>
+    ensures { (held : ℕ) → OpenDone held warp Relinquish books.old result books.new }
 {
-    let ledger = lent(hi, lo, columns, status);
-    let booked = ledger.relinquish(warp);
-    book(hi, lo, columns, booked, status, 0, 0)
-}
-
-// What is outstanding is put back into the words.
-fn mark(words: &mut [u16; 8], next: Outstanding)
-    ensures { words.new ≡ next.words }
-{
-    let w = next.words;
-    *words = w;
+    let booked = books.ledger.relinquish(warp);
+    booked.start?;
+    books.ledger = booked.next;
+    Ok(QUIET)
 }
 
 // A load or store is outstanding from here on, unless it is refused.
-fn access<'a>(
-    hi: &'a [u64; 16],
-    lo: &'a [u64; 16],
-    columns: &'a [u16; 16],
-    words: &mut [u16; 8],
-    status: Status,
-    warp: u8,
-    transfer: Transfer,
-    a: Access,
-) -> Step
+fn access(books: &mut Books, warp: u8, transfer: Transfer, a: Access) -> Result<Step, Reason>
     requires { warp < 4 }
-    ensures { LedgerDone warp (access_by transfer a) hi.now lo.now columns.now words.old status result
-        hi.now lo.now columns.now words.new }
+    ensures { (held : ℕ) → OpenDone held warp (access_by transfer a) books.old result books.new }
 {
-    let judged = checks::access_judged(hi, lo, columns, warp, a);
-    if judged.reason != reasons::PASSED {
-        return quiet(status, judged.reason);
-    }
-    let outstanding = Outstanding { words: *words };
-    let slot = judged.start / 32;
-    mark(words, outstanding.begin(transfer, warp, slot));
-    quiet(status, reasons::PASSED)
+    let start = checks::access_judged(&books.ledger, warp, a)?;
+    books.outstanding = books.outstanding.begin(transfer, warp, start / 32);
+    Ok(QUIET)
 }
 
 // A warp waits for its loads, or for its stores.
-fn wait(words: &mut [u16; 8], status: Status, warp: u8, transfer: Transfer) -> Step
+fn wait(books: &mut Books, warp: u8, transfer: Transfer) -> Result<Step, Reason>
     requires { warp < 4 }
-    ensures step { result ≡ only status 0 }
-    ensures words { words.new ≡ (waited (outstanding_of words.old) transfer warp).words }
+    ensures { (held : ℕ) → OpenDone held warp (wait_by transfer) books.old result books.new }
 {
-    let outstanding = Outstanding { words: *words };
-    mark(words, outstanding.wait(transfer, warp));
-    quiet(status, reasons::PASSED)
+    books.outstanding = books.outstanding.wait(transfer, warp);
+    Ok(QUIET)
+}
+
+// An mma changes nothing.
+fn multiply(books: &Books, m: Mma) -> Result<Step, Reason>
+    ensures { (held w : ℕ) → OpenDone held w (Multiply m) books.now result books.now }
+{
+    checks::mma_reason(&books.ledger, &books.values, m)?;
+    Ok(QUIET)
 }
 
 // Exit, unless columns are held (15).
-fn leave(held: u32, status: Status) -> Step
-    ensures { result ≡ exit_of held status }
+fn leave(books: &mut Books, held: u32) -> Result<Step, Reason>
+    ensures { (w : ℕ) → OpenDone held w Exit books.old result books.new }
 {
     if held != 0 {
-        return quiet(status, reasons::EXIT);
+        return Err(Reason::Exit);
     }
-    let left = Status {
-        fixed: status.fixed,
-        warp: status.warp,
-        relinquished: status.relinquished,
-        exited: true,
-    };
-    quiet(left, reasons::PASSED)
+    books.exited = true;
+    Ok(QUIET)
 }
 
-// One statement of a warp, judged and booked; `held` is what the lines before it asked for less what they gave back.
-pub fn statement(
-    hi: &mut [u64; 16],
-    lo: &mut [u64; 16],
-    columns: &mut [u16; 16],
-    value_hi: &mut [u64; 128],
-    value_lo: &mut [u64; 128],
-    numbers: &mut [u64; 128],
-    widths: &mut [u8; 128],
-    words: &mut [u16; 8],
-    status: Status,
-    held: u32,
-    warp: u8,
-    t: Statement,
-) -> Step
-    requires { (warp < 4) × Sized value_hi.old value_lo.old numbers.old widths.old }
-    ensures { StatementDone held warp t (arrays_in hi lo columns value_hi value_lo numbers widths words.old) status result
-        (arrays_out hi lo columns value_hi value_lo numbers widths words.new) }
+// One statement of a warp, judged and booked; `held` is what the lines before it asked for less what they gave back. Of one
+// that is refused the books stay as they were.
+pub fn statement(books: &mut Books, held: u32, warp: u8, t: Statement) -> Result<Step, Reason>
+    requires { warp < 4 }
+    ensures { StatementDone held warp t books.old result books.new }
 {
-    if status.exited {
-        return quiet(status, checks::closed_reason(t));
+    if books.exited {
+        return Err(checks::closed_reason(t));
     }
     match t {
-        Statement::Mov32(name, v) => {
-            mov(
-                hi, lo, columns, value_hi, value_lo, numbers, widths, status, name, 32, v as u64,
-            )
-        }
-        Statement::Mov64(name, v) => mov(
-            hi, lo, columns, value_hi, value_lo, numbers, widths, status, name, 64, v,
-        ),
-        Statement::Alloc(name, n) => {
-            alloc(
-                hi, lo, columns, value_hi, value_lo, numbers, widths, status, warp, name, n,
-            )
-        }
-        Statement::Dealloc(name, n) => release(hi, lo, columns, words, status, warp, name, n),
-        Statement::Relinquish => relinquish(hi, lo, columns, status, warp),
-        Statement::Load(a) => access(hi, lo, columns, words, status, warp, Transfer::Load, a),
-        Statement::Store(a) => access(hi, lo, columns, words, status, warp, Transfer::Store, a),
-        Statement::WaitLoad => wait(words, status, warp, Transfer::Load),
-        Statement::WaitStore => wait(words, status, warp, Transfer::Store),
-        Statement::FenceBefore | Statement::FenceAfter => quiet(status, reasons::PASSED),
-        Statement::Multiply(m) => {
-            quiet(
-                status,
-                checks::mma_reason(hi, lo, columns, value_hi, value_lo, numbers, widths, m),
-            )
-        }
-        Statement::Exit => leave(held, status),
+        Statement::Mov32(name, v) => mov(books, name, Value::B32(v)),
+        Statement::Mov64(name, v) => mov(books, name, Value::B64(v)),
+        Statement::Alloc(name, n) => alloc(books, warp, name, n),
+        Statement::Dealloc(name, n) => release(books, warp, name, n),
+        Statement::Relinquish => relinquish(books, warp),
+        Statement::Load(a) => access(books, warp, Transfer::Load, a),
+        Statement::Store(a) => access(books, warp, Transfer::Store, a),
+        Statement::WaitLoad => wait(books, warp, Transfer::Load),
+        Statement::WaitStore => wait(books, warp, Transfer::Store),
+        Statement::FenceBefore | Statement::FenceAfter => Ok(QUIET),
+        Statement::Multiply(m) => multiply(books, m),
+        Statement::Exit => leave(books, held),
     }
 }

@@ -1,53 +1,28 @@
 -- `checks::access_judged` meets its contract. The first test that fails decides, by the laws of an access. Assumes nothing.
-use mathlib.Core.Path.{refl, sym, ap, ◌∙◌}
-use mathlib.Core.Bool.{true, false}
-use borrow.Author.Tests.{not-true, not-false, eq-eqb, ne_eqb}
-use Rattle.ledger.specs.declared.Span.{Span}
-use Rattle.checks.specs.Checks.{start_if}
-use Rattle.checks.proofs.AccessLaws.{access_5, access_6, access_8, access-end}
+use Rattle.std.proofs.Common.{true, false, sym, ◌∙◌}
+use Rattle.checks.proofs.AccessLaws.{access_5, access_6, access_8, access_end}
 use Rattle.checks.proofs.access_judged.Goals as goal
 
-pub returns-then-is_miscounted : goal.returns-then-is_miscounted
-unfolding start_if
-returns-then-is_miscounted c = (record { reason = (λ s held h. access_5 s held _ _ (sym c.is_miscounted.ensures ∙ c.if-is_miscounted.true)); start = refl })
+pub returns-then-is_miscounted-clause-reason : goal.returns-then-is_miscounted-clause-reason
+returns-then-is_miscounted-clause-reason c s held h = access_5 s held _ _ (sym c.is_miscounted.ensures ∙ c.if-is_miscounted.true)
 
-pub returns-then-span-eq0 : goal.returns-then-span-eq0
-unfolding start_if
-returns-then-span-eq0 c = (record { reason = (λ s held h. access_6 s held _ _ _ _ _ h _ c.find_in-span.ensures (sym c.is_miscounted.ensures ∙ c.if-is_miscounted.false) (eq-eqb _ _ c.if-span-eq0.true)); start = refl })
+pub returns-in_default-clause-reason : goal.returns-in_default-clause-reason
+returns-in_default-clause-reason c s held h =
+    access_6 s held _ _ c.args.ledger.now h (sym c.is_miscounted.ensures ∙ c.if-is_miscounted.false) (sym c.find.ensures ∙ c.in_default.is)
 
-pub returns-then-not-is_lane : goal.returns-then-not-is_lane
-unfolding start_if
-returns-then-not-is_lane c =
-    let f = c in (record {
-      reason = (λ s held h.
-          access_8 s held _ _ _ _ _ h _ f.find_in-span.ensures
-          (sym f.is_miscounted.ensures ∙ f.if-is_miscounted.false) (ne_eqb _ _ c.if-span-eq0.false)
-          _ _ c.lanes.ensures c.is_lane.ensures (not-true _ c.if-not-is_lane.true-raw));
-      start = refl;
-    })
+pub returns-then-not-is_lane-clause-reason : goal.returns-then-not-is_lane-clause-reason
+returns-then-not-is_lane-clause-reason c s held h =
+    access_8 s held _ _ c.args.ledger.now h (sym c.is_miscounted.ensures ∙ c.if-is_miscounted.false)
+    _ (sym c.find.ensures ∙ c.in-Some.is) _ (rw c.lanes.ensures at c.is_lane.ensures) c.if-not-is_lane.true
 
-pub returns-then-ends_within : goal.returns-then-ends_within
-unfolding start_if
-returns-then-ends_within c =
-    let l = c in
-    let f = l in (record {
-      reason = (λ s held h.
-          access-end s held _ _ _ _ _ h _ f.find_in-span.ensures
-          (sym f.is_miscounted.ensures ∙ f.if-is_miscounted.false) (ne_eqb _ _ l.if-span-eq0.false)
-          _ _ l.lanes.ensures l.is_lane.ensures
-          _ _ (not-false _ l.if-not-is_lane.false-raw) c.columns_needed.ensures c.ends_within.ensures true c.if-ends_within.true);
-      start = ap (λ (s : Span). s.start) f.find_in-span.ensures;
-    })
+pub returns-then-not-ends_within-clause-reason : goal.returns-then-not-ends_within-clause-reason
+returns-then-not-ends_within-clause-reason c s held h =
+    access_end s held _ _ c.args.ledger.now h (sym c.is_miscounted.ensures ∙ c.if-is_miscounted.false)
+    _ (sym c.find.ensures ∙ c.in-Some.is) _ (rw c.lanes.ensures at c.is_lane.ensures)
+    false c.if-not-is_lane.false (sym c.if-not-ends_within.true ∙ rw c.columns_needed.ensures at c.ends_within.ensures)
 
-pub returns-else-ends_within : goal.returns-else-ends_within
-unfolding start_if
-returns-else-ends_within c =
-    let l = c in
-    let f = l in (record {
-      reason = (λ s held h.
-          access-end s held _ _ _ _ _ h _ f.find_in-span.ensures
-          (sym f.is_miscounted.ensures ∙ f.if-is_miscounted.false) (ne_eqb _ _ l.if-span-eq0.false)
-          _ _ l.lanes.ensures l.is_lane.ensures
-          _ _ (not-false _ l.if-not-is_lane.false-raw) c.columns_needed.ensures c.ends_within.ensures false c.if-ends_within.false);
-      start = refl;
-    })
+pub returns-clause-reason : goal.returns-clause-reason
+returns-clause-reason c s held h =
+    access_end s held _ _ c.args.ledger.now h (sym c.is_miscounted.ensures ∙ c.if-is_miscounted.false)
+    _ (sym c.find.ensures ∙ c.in-Some.is) _ (rw c.lanes.ensures at c.is_lane.ensures)
+    true c.if-not-is_lane.false (sym c.if-not-ends_within.false ∙ rw c.columns_needed.ensures at c.ends_within.ensures)

@@ -1,42 +1,41 @@
 -- `checks::operands_reason` meets its contract. The first test that fails decides, by the laws of an mma. Assumes nothing.
-use mathlib.Core.Path.{◌∙◌}
-use mathlib.Core.Bool.{true, false}
-use borrow.Author.Tests.{not-true, not-false, eq-eqb, ne_eqb}
-use Rattle.checks.proofs.MmaLaws.{mma_6, mma_12, mma-listing, mma-end}
+use Rattle.std.proofs.Common.{true, false, refl, sym, ap, ◌∙◌}
+use Rattle.std.proofs.lemmas.Result.{err_from_is_err_and}
+use Rattle.reasons.specs.Reasons.{answered}
+use Rattle.instruction.specs.Instruction.{judged_answer}
+use Rattle.checks.proofs.MmaLaws.{mma_6, unbound, mma_12, mma_listing, mma_end}
 use Rattle.checks.proofs.operands_reason.Goals as goal
 
-pub returns-then-not-columns-a : goal.returns-then-not-columns-a
-returns-then-not-columns-a c s held w o = mma_6 s held w c.args.m _ _ _ _ _ o (not-true _ c.if-not-columns-a.true-raw)
+pub returns-in_default : goal.returns-in_default
+returns-in_default c s held w o = unbound s held w c.args.m _ _ _ _ _ o c.in_default.is-1
+
+pub returns-in_default-2 : goal.returns-in_default-2
+returns-in_default-2 c s held w o = mma_6 s held w c.args.m _ _ _ _ _ o (rw c.in_default.is-0)
 
 pub returns-then-not-a-b : goal.returns-then-not-a-b
-returns-then-not-a-b c s held w o =
-    let j = c in
-    let n = j in
-    mma_12 s held w n.args.m _ _ _ _ _ o (not-false _ n.if-not-columns-a.false-raw)
-    _ j.low-word.ensures _ j.is_sparse-sp.ensures _ j.judge_word-i.ensures (rw j.answered-reason.ensures at (not-true _ c.if-not-a-b.true-raw))
+returns-then-not-a-b c s held w o = mma_6 s held w c.args.m _ _ _ _ _ o (rw (c.in-Some-Some.is-0, c.if-not-a-b.true))
 
-pub returns-then-reason-ne-PASSED : goal.returns-then-reason-ne-PASSED
-returns-then-reason-ne-PASSED c s held w o =
-    let j = c in
-    let n = j in
-    j.answered-reason.ensures ∙ mma-listing s held w n.args.m _ _ _ _ _ o (not-false _ n.if-not-columns-a.false-raw)
-    _ j.low-word.ensures _ j.is_sparse-sp.ensures _ j.judge_word-i.ensures
-    (rw j.answered-reason.ensures at (not-false _ c.if-not-a-b.false-raw)) (rw j.answered-reason.ensures at (ne_eqb _ _ c.if-reason-ne-PASSED.true))
+pub returns-then-not-a-b-2 : goal.returns-then-not-a-b-2
+returns-then-not-a-b-2 c s held w o =
+    mma_12 s held w c.args.m _ _ _ _ _ o (rw (c.in-Some-Some.is-0, c.if-not-a-b.false, c.in-Some-Some.is-1)) _ c.in-Some-Some.is-1
+    _ refl c.if-not-a-b-2.true
+
+pub returns-in_err-judged : goal.returns-in_err-judged
+returns-in_err-judged c s held w o =
+    let p = err_from_is_err_and c.from_residual.result c.from_residual.ensures.1 in
+    rw (p.1, p.2)
+    (mma_listing s held w c.args.m _ _ _ _ _ o (rw (c.in-Some-Some.is-0, c.if-not-a-b.false, c.in-Some-Some.is-1)) _ c.in-Some-Some.is-1
+    (judged_answer c.judge_word-judged.result) (rw c.opcode_of.ensures at c.judge_word-judged.ensures) c.if-not-a-b-2.false
+    _ (ap answered c.in_err-judged.was))
 
 pub returns-then-mma_within-a : goal.returns-then-mma_within-a
 returns-then-mma_within-a c s held w o =
-    let l = c in
-    let j = l in
-    let n = j in
-    mma-end s held w n.args.m _ _ _ _ _ o (not-false _ n.if-not-columns-a.false-raw)
-    _ j.low-word.ensures _ j.is_sparse-sp.ensures _ j.judge_word-i.ensures (rw j.answered-reason.ensures at (not-false _ l.if-not-a-b.false-raw))
-    _ c.mma_within.ensures (rw j.answered-reason.ensures at (eq-eqb _ _ l.if-reason-ne-PASSED.false)) true c.if-mma_within-a.true
+    mma_end s held w c.args.m _ _ _ _ _ o (rw (c.in-Some-Some.is-0, c.if-not-a-b.false, c.in-Some-Some.is-1)) _ c.in-Some-Some.is-1
+    (judged_answer c.judge_word-judged.result) (rw c.opcode_of.ensures at c.judge_word-judged.ensures) c.if-not-a-b-2.false
+    (ap answered c.in_ok-judged.was) _ (rw c.in-Some-Some.is-0 c.mma_within.ensures) true c.if-mma_within-a.true
 
 pub returns-else-mma_within-a : goal.returns-else-mma_within-a
 returns-else-mma_within-a c s held w o =
-    let l = c in
-    let j = l in
-    let n = j in
-    mma-end s held w n.args.m _ _ _ _ _ o (not-false _ n.if-not-columns-a.false-raw)
-    _ j.low-word.ensures _ j.is_sparse-sp.ensures _ j.judge_word-i.ensures (rw j.answered-reason.ensures at (not-false _ l.if-not-a-b.false-raw))
-    _ c.mma_within.ensures (rw j.answered-reason.ensures at (eq-eqb _ _ l.if-reason-ne-PASSED.false)) false c.if-mma_within-a.false
+    mma_end s held w c.args.m _ _ _ _ _ o (rw (c.in-Some-Some.is-0, c.if-not-a-b.false, c.in-Some-Some.is-1)) _ c.in-Some-Some.is-1
+    (judged_answer c.judge_word-judged.result) (rw c.opcode_of.ensures at c.judge_word-judged.ensures) c.if-not-a-b-2.false
+    (ap answered c.in_ok-judged.was) _ (rw c.in-Some-Some.is-0 c.mma_within.ensures) false c.if-mma_within-a.false

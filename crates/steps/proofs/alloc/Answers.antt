@@ -1,9 +1,18 @@
 -- `steps::alloc` meets its contract: a bound name is refused, and otherwise the booking is the ledger's (StepLaws.antt). Assumes nothing.
-use Rattle.steps.proofs.StepLaws.{alloc_6, alloc-done}
+use Rattle.std.proofs.Common.{sym, ap, ◌∙◌}
+use Rattle.std.specs.Prelude.{is_some}
+use Rattle.std.proofs.lemmas.Result.{err_from_is_err_and}
+use Rattle.steps.proofs.StepLaws.{alloc_6, alloc_no, alloc_yes}
 use Rattle.steps.proofs.alloc.Goals as goal
 
-pub returns-then-bound-ne0 : goal.returns-then-bound-ne0
-returns-then-bound-ne0 c words held = alloc_6 held _ _ _ _ _ _ c.lookup_in-bound.ensures c.if-bound-ne0.true _ c.quiet.ensures
+pub returns-then-is_some : goal.returns-then-is_some
+returns-then-is_some c held = alloc_6 held _ _ _ _ (rw (← c.find.ensures, ← c.is_some.ensures) c.if-is_some.true)
+
+pub returns-in_err-start : goal.returns-in_err-start
+returns-in_err-start c held =
+    let p = err_from_is_err_and c.from_residual.result c.from_residual.ensures.1 in
+    rw (p.1, p.2)
+    (alloc_no held _ _ _ _ (rw (← c.find.ensures, ← c.is_some.ensures) c.if-is_some.false) _ c.alloc-booked.ensures _ c.in_err-start.was)
 
 pub returns : goal.returns
-returns c words held = alloc-done held _ _ _ _ c.lent-ledger.ensures _ _ _ _ _ _ _ _ c.lookup_in-bound.ensures c.if-bound-ne0.false c.alloc-booked.ensures (c.book.ensures.answer, c.book.ensures.kept)
+returns c held = alloc_yes held _ _ _ _ (rw (← c.find.ensures, ← c.is_some.ensures) c.if-is_some.false) _ c.alloc-booked.ensures _ c.in_ok-start.was

@@ -1,9 +1,11 @@
 -- `steps::leave` meets its contract. The columns held decide it. Assumes nothing.
+use Rattle.std.proofs.Common.{eq-eqb}
+use borrow.Author.Tests.{ne_eqb}
 use Rattle.steps.proofs.StepLaws.{exit_15, exit_0}
 use Rattle.steps.proofs.leave.Goals as goal
 
 pub returns-then-held-ne0 : goal.returns-then-held-ne0
-returns-then-held-ne0 c = exit_15 _ _ c.if-held-ne0.true _ c.quiet.ensures
+returns-then-held-ne0 c w = exit_15 _ w _ (ne_eqb _ _ c.if-held-ne0.true)
 
 pub returns : goal.returns
-returns c = exit_0 _ _ c.if-held-ne0.false _ c.quiet-2.ensures
+returns c w = exit_0 _ w _ (eq-eqb _ _ c.if-held-ne0.false)

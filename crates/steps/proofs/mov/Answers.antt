@@ -1,12 +1,19 @@
--- `steps::mov` meets its contract. Whether the name is live and where its entry is decide the rules' reason (StepLaws.antt). Assumes nothing.
-use Rattle.steps.proofs.StepLaws.{mov_6, mov_7, mov_0}
+-- `steps::mov` meets its contract. Whether the name is live, and what the table answers, is the rules' reason (StepLaws.antt). Assumes nothing.
+use Rattle.std.proofs.Common.{sym}
+use Rattle.std.proofs.lemmas.Result.{err_from_is_err_and}
+use Rattle.steps.proofs.StepLaws.{mov_6, mov_no, mov_yes}
 use Rattle.steps.proofs.mov.Goals as goal
 
-pub returns-then-taken-ne0 : goal.returns-then-taken-ne0
-returns-then-taken-ne0 c words = mov_6 _ _ _ _ c.find_in-taken.ensures _ _ c.if-taken-ne0.true _ c.quiet.ensures
+pub returns-then-is_some : goal.returns-then-is_some
+returns-then-is_some c held w = mov_6 held w _ _ _ (rw (← c.find.ensures, ← c.is_some.ensures) c.if-is_some.true)
 
-pub returns-then-at-ge128 : goal.returns-then-at-ge128
-returns-then-at-ge128 c words = mov_7 _ _ _ _ c.find_in-taken.ensures c.if-taken-ne0.false _ c.entry-at.ensures _ _ c.if-at-ge128.true _ c.quiet-then-at-ge128.ensures
+pub returns-in_err-bind : goal.returns-in_err-bind
+returns-in_err-bind c held w =
+    let p = err_from_is_err_and c.from_residual.result c.from_residual.ensures.1 in
+    rw (p.1, p.2, c.bind.ensures.table)
+    (mov_no held w _ _ (rw (← c.find.ensures, ← c.is_some.ensures) c.if-is_some.false) c.args.value _ (sym c.in_err-bind.ensures.answer))
 
 pub returns : goal.returns
-returns c words = mov_0 _ _ _ _ c.find_in-taken.ensures c.if-taken-ne0.false _ c.entry-at.ensures c.if-at-ge128.false _ _ _ c.quiet-2.ensures
+returns c held w =
+    rw c.bind.ensures.table
+    (mov_yes held w c.args.books.now c.args.name (rw (← c.find.ensures, ← c.is_some.ensures) c.if-is_some.false) c.args.value (sym c.in_ok-bind.ensures.answer))

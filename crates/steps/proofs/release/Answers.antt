@@ -1,15 +1,16 @@
 -- `steps::release` meets its contract: the booking is the ledger's, unless something is outstanding (StepLaws.antt). Assumes nothing.
-use mathlib.Core.Path.{sym, ◌∙◌}
-use Rattle.steps.specs.Steps.{arrays}
-use Rattle.steps.proofs.StepLaws.{release_done, release_18}
+use Rattle.std.proofs.Common.{sym, ◌∙◌}
+use Rattle.std.proofs.lemmas.Result.{err_from_is_err_and}
+use Rattle.steps.proofs.StepLaws.{release_no, release_18, release_yes}
 use Rattle.steps.proofs.release.Goals as goal
 
-pub returns-then-is_early : goal.returns-then-is_early
-returns-then-is_early c held vh vl nu wi =
-    release_18 held _ (arrays _ _ _ vh vl nu wi _) _ _ c.lent-ledger.ensures _ _ _ _ c.release-booked.ensures
-    (rw c.refusal.ensures at (sym c.is_early.ensures ∙ c.if-is_early.true)) c.quiet.ensures
+pub returns-in_err-booked : goal.returns-in_err-booked
+returns-in_err-booked c held =
+    let p = err_from_is_err_and c.from_residual.result c.from_residual.ensures.1 in
+    rw (p.1, p.2) (release_no held _ _ _ _ _ c.release-booked.ensures _ c.in_err-booked.was)
+
+pub returns-then-is_busy : goal.returns-then-is_busy
+returns-then-is_busy c held = release_18 held _ _ _ _ _ c.release-booked.ensures _ c.in_ok-booked.was (sym c.is_busy.ensures ∙ c.if-is_busy.true)
 
 pub returns : goal.returns
-returns c held vh vl nu wi =
-    release_done held _ (arrays _ _ _ vh vl nu wi _) _ _ c.lent-ledger.ensures _ _ _ _ _ _ _ c.release-booked.ensures
-    (rw c.refusal.ensures at (sym c.is_early.ensures ∙ c.if-is_early.false)) (c.book.ensures.answer, c.book.ensures.kept)
+returns c held = release_yes held _ _ _ _ _ c.release-booked.ensures _ c.in_ok-booked.was (sym c.is_busy.ensures ∙ c.if-is_busy.false)

@@ -1,7 +1,6 @@
--- `steps::wait` meets its contract: the words are put back as after the wait. Assumes nothing.
-use mathlib.Core.Path.{ap, ◌∙◌}
-use Rattle.outstanding.specs.declared.Outstanding.{Outstanding}
+-- `steps::wait` meets its contract: what is outstanding is kept as after the wait (StepLaws.antt). Assumes nothing.
+use Rattle.steps.proofs.StepLaws.{wait_done}
 use Rattle.steps.proofs.wait.Goals as goal
 
 pub returns : goal.returns
-returns c = (record { step = c.quiet.ensures; words = c.mark.ensures ∙ ap (λ (o : Outstanding). o.words) c.wait.ensures })
+returns c held = rw c.wait-books.ensures (wait_done held _ _ _ c.requires)

@@ -1,6 +1,0 @@
--- `steps::lent` meets its contract as it stands. Assumes nothing.
-use mathlib.Core.Path.{refl}
-use Rattle.steps.proofs.lent.Goals as goal
-
-pub returns : goal.returns
-returns c = refl
