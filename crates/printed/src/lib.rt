@@ -8,73 +8,38 @@ ghost use Rattle.lines.specs.Sheet.{most_lines, line_count};
 ghost use Rattle.report.specs.Report.{rows_text, report_room};
 ghost use Rattle.judge.specs.Judged.{lines_of, judged_of};
 ghost use Rattle.printed.specs.Printed.{rows_up_to, printed_of, room_after, RunPrinted};
-ghost use Rattle.printed.specs.Allocs.{no_alloc, alloc_of, alloc_in};
+ghost use Rattle.printed.specs.Allocs.{alloc_in};
 
+use reasons::Reason;
 use statement::Statement;
 use tokens::Name;
 
-// The sheet's reason (0 passed), and how many bytes its report has. Where the room is too short: 19, and 0.
+// The sheet's reason (0 passed), and how many bytes its report has; where the room is too short 19, and 0. The reason is the published number, as C gets it, and
+// stands beside the length since a refused sheet has a report too.
 #[derive(Clone, Copy)]
 pub struct Printed {
     pub reason: u32,
     pub length: usize,
 }
 
-// What an alloc asks for; not ok: no alloc.
+// What an alloc asks for.
 #[derive(Clone, Copy)]
 struct Asked {
-    ok: bool,
     name: Name,
     columns: u32,
 }
 
-// No alloc.
-fn no_alloc() -> Asked
-    ensures { result ≡ no_alloc }
-{
-    Asked {
-        ok: false,
-        name: Name { hi: 0, lo: 0 },
-        columns: 0,
-    }
-}
-
-// Whether a statement is an alloc, and of what.
-fn alloc_of(t: Statement) -> Asked
-    ensures { result ≡ alloc_of t }
-{
-    match t {
-        Statement::Alloc(name, columns) => Asked {
-            ok: true,
-            name,
-            columns,
-        },
-        _ => no_alloc(),
-    }
-}
-
-// The same of a text.
-fn alloc_in(text: &[u8]) -> Asked
+// What a text asks for; nothing where it is no alloc.
+fn alloc_in(text: &[u8]) -> Option<Asked>
     ensures { result ≡ alloc_in (read_of text.now) }
 {
-    let r = reader::read(text);
-    let Ok(t) = r else {
-        return no_alloc();
+    let Ok(t) = reader::read(text) else {
+        return None;
     };
-    alloc_of(t)
-}
-
-// A number in 64 bits.
-fn wide(x: u16) -> u64
-    ensures { result ≡ x }
-{
-    x as u64
-}
-
-fn wider(x: u32) -> u64
-    ensures { result ≡ x }
-{
-    x as u64
+    match t {
+        Statement::Alloc(name, columns) => Some(Asked { name, columns }),
+        _ => None,
+    }
 }
 
 // The rows of a sheet that passed, from a place on: a row for each alloc, in a second pass over the lines after line 1.
@@ -86,21 +51,16 @@ fn rows(sheet: &[u8], starts: &[u16], room: &mut [u8], from: usize) -> usize
 {
     let mut at = lines::HEADER;
     let mut next = from;
+    // counts the allocs, not the turns of the loop
     let mut k: usize = 0;
-    while at < sheet.len() {
-        let Some(l) = lines::line_at(sheet, at) else {
-            return next;
-        };
-        let begin = l.start;
-        let end = l.end;
-        let a = alloc_in(&sheet[begin..end]);
-        if a.ok {
-            let start = wide(starts[k]);
-            let columns = wider(a.columns);
+    while let Some(line) = lines::line_at(sheet, at) {
+        if let Some(a) = alloc_in(&sheet[line.start..line.end]) {
+            let start = u64::from(starts[k]);
+            let columns = u64::from(a.columns);
             next = report::row(&mut *room, next, a.name, start, columns);
             k += 1;
         }
-        at = l.next;
+        at = line.next;
     }
     next
 }
@@ -114,22 +74,22 @@ pub fn print(sheet: &[u8], room: &mut [u8]) -> Printed
 {
     if room.len() < report::ROOM {
         return Printed {
-            reason: reasons::ROOM,
+            reason: Reason::Room.number(),
             length: 0,
         };
     }
     let mut starts = [0u16; lines::LINES];
-    let judged = judge::judge(sheet, &mut starts);
-    let reason = judged.answer.reason;
+    let answer = judge::judge(sheet, &mut starts).answer;
     let figures = report::Figures {
-        reason: wider(reason),
-        line: judged.answer.line as u64,
-        column: judged.answer.column as u64,
-        held: wider(judged.answer.held),
-        peak: wider(judged.answer.peak),
+        reason: u64::from(answer.reason),
+        line: answer.line as u64,
+        column: answer.column as u64,
+        held: u64::from(answer.held),
+        peak: u64::from(answer.peak),
     };
     let at = report::head(&mut *room, 0, figures);
-    if reason != reasons::PASSED {
+    let reason = answer.reason;
+    if answer.reason != 0 {
         return Printed { reason, length: at };
     }
     let length = rows(sheet, &starts, room, at);

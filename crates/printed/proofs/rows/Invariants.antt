@@ -6,9 +6,9 @@ use Rattle.printed.proofs.RowLaws.{Upto}
 use Rattle.printed.proofs.rows.Given as goal
 
 -- the rows of the lines before `at` are put
-abbrev pub invariant-loop-at : goal.invariant-loop-at
-invariant-loop-at l = Upto l.sheet l.starts l.initial.room l.from l.at l.next l.k l.room
+abbrev pub invariant-loop-line : goal.invariant-loop-line
+invariant-loop-line l = Upto l.sheet l.starts l.initial.room l.from l.at l.next l.k l.room
 
 -- the bytes that are left
-abbrev pub decreases-loop-at : goal.decreases-loop-at
-decreases-loop-at l = length l.sheet - l.at
+abbrev pub decreases-loop-line : goal.decreases-loop-line
+decreases-loop-line l = length l.sheet - l.at
