@@ -5,32 +5,31 @@ use mathlib.Core.Path.{◌≡◌, refl, sym, ap, ◌∙◌, subst}
 use mathlib.Core.Bool.{Bool, true, false, cond}
 use mathlib.Core.List.{List}
 use native.Mathlib.Omega.{arith}
-use lib.Dec.{ltb, eqb}
+use lib.Dec.{eqb}
 use lib.ListN.{length, take, drop}
-use lib.Seq.{sets-eq, length-sets, take-append_seam}
-use borrow.Author.Tests.{eq-eqb, ne_eqb, lt-ltb, le-ltb}
-use Rattle.std.specs.Prelude.{Option, None, Some}
+use lib.Seq.{sets-eq, take-append_seam}
+use borrow.Author.Tests.{eq-eqb, ne_eqb}
 use Rattle.lines.specs.declared.Line as lines
 use Rattle.lines.specs.Sheet.{Content, fault, laid, content_after, content_seen, after, content_of, line_at, next_of, line_count, headed, body_at, After}
 use Rattle.lines.proofs.SheetLaws.{line_seen_lem}
 use Rattle.lines.proofs.SheetTheorems.{after-header, one_more, all_done, step_more, step_after}
+use Rattle.std.specs.Prelude.{Option, None, Some, Result, Ok, Err}
+use Rattle.reasons.specs.declared.Reason.{Reason}
+use Rattle.reasons.specs.Reasons.{number}
 use Rattle.laws.specs.Rules.{first_broken}
 use Rattle.statement.specs.declared.Position.{Position}
 use Rattle.statement.specs.declared.Position.TheVariants.{Start}
 use Rattle.statement.specs.Positions.{start_column, byte_column}
 use Rattle.rules.specs.declared.Answer.{Answer}
-use Rattle.rules.specs.State.{lowest}
-use Rattle.rules.specs.Sheet.{Line, line_rules, held_after, peak_up_to, ours, reason_by, position_by, stop_by, answer, closing, state_after, starts_up_to, answer_of, starts_of}
+use Rattle.rules.specs.State.{opened, lowest}
+use Rattle.rules.specs.Sheet.{Line, line_rules, sum, state_by, starts_by, held_after, peak_up_to, ours, reason_by, position_by, stop_by, answer, closing, state_after, starts_up_to, answer_of, starts_of}
 use Rattle.rules.proofs.RulesProved.{stop_hit, stop_before, stop_none, at_stop, at-end}
-use Rattle.ledger.specs.declared.Ledger.{Ledger}
-use Rattle.ledger.specs.Booking as ledger
-use Rattle.bindings.specs.declared.Bindings.{Bindings}
-use Rattle.bindings.specs.Table as bindings
-use Rattle.outstanding.specs.declared.Outstanding.{Outstanding}
-use Rattle.outstanding.specs.Words.{none}
-use Rattle.steps.specs.Steps.{Arrays, arrays}
+use Rattle.steps.specs.declared.Books.{Books}
+use Rattle.steps.specs.Steps.{Kept}
+use Rattle.steps.specs.Steps as steps
+use Rattle.steps.proofs.StepLaws.{opening_kept}
 use Rattle.progress.specs.declared.Progress.{Progress}
-use Rattle.progress.specs.declared.Advanced.{Advanced}
+use Rattle.progress.specs.declared.Refusal.{Refusal}
 use Rattle.progress.specs.Going.{seen, line_seen, column_in, column_seen, opening, Ready, Next, Went}
 use Rattle.progress.proofs.LineLaws.{starts_few}
 use Rattle.progress.proofs.Going as going
@@ -38,32 +37,25 @@ use Rattle.judge.specs.Judged.{lines_of, byte_columns, sheet_of}
 use Rattle.judge.specs.Standing.{Standing}
 
 -- after the header
-pub begins : (s first : List ℕ) (l : Ledger) (t : Bindings) (o : Outstanding) (p : Progress) → l ≡ ledger.empty → t ≡ bindings.empty → o ≡ none → p ≡ opening → headed s ≡ true
-    → Standing s first first (arrays l.hi l.lo l.columns t.hi t.lo t.numbers t.widths o.words) p body_at
-begins s first l t o p e f i g h = record {
+pub begins : (s first : List ℕ) (b : Books) (p : Progress) → b ≡ steps.opening → p ≡ opening → headed s ≡ true → Standing s first first b p body_at
+unfolding held_after sum peak_up_to starts_by state_by
+begins s first b p k e h = record {
   done = 0;
-  going = going.begins (lines_of s) first l t o p e f i g;
-  here = subst (λ (x : Progress). After s x.line body_at) (sym g) (after-header s h);
+  going = rw e (record {
+    line_is = refl;
+    accepted = λ j q. absurd (omega (arith, q));
+    kept = subst (λ (x : Books). Kept x opened) (sym k) opening_kept;
+    held_is = refl;
+    peak_is = refl;
+    requests_is = refl;
+    starts_are = refl;
+  });
+  here = subst (λ (x : Progress). After s x.line body_at) (sym e) (after-header s h);
 }
 
--- ---- at the end: exit is asked for, then room
-module _ (exited : Bool) (requests room line column held peak : ℕ) where
-  abbrev closed : Bool → Answer
-  closed b = closing b requests room line column held peak
-
-  pub closing_open : exited ≡ false → closed exited ≡ answer 15 line column held peak
-  unfolding closing
-  closing_open e = ap closed e
-
-  closing_by : (b : Bool) → exited ≡ true → ltb room requests ≡ b → closed exited ≡ cond b (answer 16 line column 0 peak) (answer 0 line 0 0 peak)
-  unfolding closing
-  closing_by b e t = ap closed e ∙ ap (λ (x : Bool). cond x (answer 16 line column 0 peak) (answer 0 line 0 0 peak)) t
-
-  pub closing_short : exited ≡ true → room < requests → closed exited ≡ answer 16 line column 0 peak
-  closing_short e t = closing_by true e (lt-ltb room requests t)
-
-  pub closing_passed : exited ≡ true → requests ≤ room → closed exited ≡ answer 0 line 0 0 peak
-  closing_passed e t = closing_by false e (le-ltb room requests t)
+-- every reason has a number above 0
+positive : (r : Reason) → 0 < number r
+positive r = grind arith
 
 -- every line starts in column 1
 start_in : (c : Content) → column_in c Start ≡ start_column
@@ -77,19 +69,19 @@ start_of s zero = refl
 start_of s (suc k) = start_in (content_after (suc k) s)
 
 -- a refused answer comes with no starts
-pub refused_count : (s : List ℕ) (x y : Answer) → (x.reason ≡ 0 → ⊥) → y ≡ x → (n : ℕ) → n ≡ 0 → n ≡ cond (eqb y.reason 0) (length (starts_of (sheet_of s))) 0
-refused_count s x y z e n f = f ∙ sym (ap (λ (b : Bool). cond b (length (starts_of (sheet_of s))) 0) (ap (λ (v : Answer). eqb v.reason 0) e ∙ ne_eqb x.reason 0 z))
+pub refused_count : (s : List ℕ) (r : Reason) (y : Answer) (n : ℕ) → y.reason ≡ number r → n ≡ 0
+    → (n ≡ cond (eqb y.reason 0) (length (starts_of (sheet_of s))) 0) × ((n ≤ 4096) × (y.reason ≡ 0 → ⊥))
+refused_count s r y n e f =
+    let z : y.reason ≡ 0 → ⊥ = λ x. absurd (omega (arith, x, e, positive r)) in
+    (f ∙ sym (ap (λ (b : Bool). cond b (length (starts_of (sheet_of s))) 0) (ne_eqb y.reason 0 z)), (omega (arith, f), z))
 
 -- less is left after a later place
 pub less_left : (s : List ℕ) (at next : ℕ) → at < length s → at < next → length s - next < length s - at
 less_left s at next t h = omega (arith, t, h)
 
-module _ (s first given : List ℕ) (a : Arrays) (p : Progress) (at : ℕ) (g : Standing s first given a p at) where
+module _ (s first given : List ℕ) (b : Books) (p : Progress) (at : ℕ) (g : Standing s first given b p at) where
   abbrev k : ℕ
   k = g.done
-
-  pub places : length first ≡ 4096 → length given ≡ 4096
-  places e = ap length g.going.starts_are ∙ length-sets first 0 (starts_up_to (lines_of s) k) ∙ e
 
   -- the line at the place is the next one of the sheet
   line_now : lines_of s k ≡ line_seen s at
@@ -110,52 +102,59 @@ module _ (s first given : List ℕ) (a : Arrays) (p : Progress) (at : ℕ) (g : 
     inside : k < line_count s - 1
     inside = omega (arith, one_more s p.line at g.here t, g.going.line_is)
 
-    pub ready : line_count s ≤ 4096 → length first ≡ 4096 → Ready (line_seen s at) given a p
-    ready c e = record {
+    pub ready : line_count s ≤ 4096 → Ready (line_seen s at) given b p
+    ready c = record {
       lines = lines_of s;
       done = k;
       first = first;
       going = g.going;
       here = line_now;
       few = omega (arith, inside, c);
-      places = places e;
     }
 
-    module _ (r : Advanced) (next_given : List ℕ) (next : Arrays) (w : Went (line_seen s at) (column_seen s at) given a p r next_given next) where
-      gives : Next (lines_of s) k (column_seen s at) first given a p r next_given next
-      gives = w (lines_of s) k first g.going line_now
+    abbrev Gone : Result Unit Refusal → List ℕ → Books → Progress → Type 0
+    Gone = Went (line_seen s at) (column_seen s at) given b p
+
+    module _ (o : Result Unit Refusal) (next_given : List ℕ) (next : Books) (q : Progress) (w : Gone o next_given next q) where
+      abbrev Gives : Result Unit Refusal → Type 0
+      Gives x = Next (lines_of s) k (column_seen s at) first given b p x next_given next q
+
+      gives : (x : Result Unit Refusal) → o ≡ x → Gives x
+      gives x e = subst Gives e (w (lines_of s) k first g.going line_now)
 
       -- refused: the sheet stops here
-      module _ (z : r.reason ≡ 0 → ⊥) where
+      module _ (r : Refusal) (e : o ≡ Err r) where
+        why : Gives (Err r)
+        why = gives (Err r) e
+
         stops : stop_by ours (lines_of s) (line_count s - 1) ≡ k
         stops = omega (arith, not-lt, not_gt)
           where
             not-lt : stop_by ours (lines_of s) (line_count s - 1) < k → ⊥
-            not-lt q =
-                let h = stop_hit ours (lines_of s) (line_count s - 1) (omega (arith, q, inside)) in
-                omega (arith, h, g.going.accepted (stop_by ours (lines_of s) (line_count s - 1)) q)
+            not-lt i =
+                let h = stop_hit ours (lines_of s) (line_count s - 1) (omega (arith, i, inside)) in
+                omega (arith, h, g.going.accepted (stop_by ours (lines_of s) (line_count s - 1)) i)
 
             not_gt : k < stop_by ours (lines_of s) (line_count s - 1) → ⊥
-            not_gt q = z (gives.reasons ∙ stop_before ours (lines_of s) (line_count s - 1) k q)
+            not_gt i = absurd (omega (arith, why.reasons, stop_before ours (lines_of s) (line_count s - 1) k i, positive r.reason))
 
-        pub refuses : (room : ℕ) → headed s ≡ true → answer r.reason r.progress.line r.column r.progress.held r.progress.peak ≡ answer_of (sheet_of s) room
+        pub refuses : (room : ℕ) → headed s ≡ true → answer (number r.reason) q.line r.column q.held q.peak ≡ answer_of (sheet_of s) room
         refuses room h =
-            let e = (gives.stops z).0 in
-            let n : r.progress.line ≡ k + 2 = omega (arith, ap (λ (x : Progress). x.line) e, g.going.line_is) in
-            let held = ap (λ (x : Progress). x.held) e ∙ g.going.held_is in
-            let peak = ap (λ (x : Progress). x.peak) e ∙ g.going.peak_is in
-            let b : stop_by ours (lines_of s) (line_count s - 1) < line_count s - 1 = omega (arith, stops, inside) in
-            let column = gives.points z ∙ column_now (position_by ours (lines_of s) k) in
-            (λ i. answer (gives.reasons i) (n i) (column i) (held i) (peak i))
-            ∙ sym (at_stop ours (sheet_of s) room h b ∙ ap (λ (j : ℕ). answer (reason_by ours (lines_of s) j) (j + 2) (byte_columns s (suc j) (position_by ours (lines_of s) j)) (held_after (lines_of s) j) (peak_up_to (lines_of s) j)) stops)
-
-        pub same_places : length first ≡ 4096 → length next_given ≡ 4096
-        same_places e = ap length (gives.stops z).1.0 ∙ places e
+            let n : q.line ≡ k + 2 = omega (arith, ap (λ (x : Progress). x.line) why.counted, g.going.line_is) in
+            let held = ap (λ (x : Progress). x.held) why.counted ∙ g.going.held_is in
+            let peak = ap (λ (x : Progress). x.peak) why.counted ∙ g.going.peak_is in
+            let i : stop_by ours (lines_of s) (line_count s - 1) < line_count s - 1 = omega (arith, stops, inside) in
+            let column = why.points ∙ column_now (position_by ours (lines_of s) k) in
+            (λ i. answer (why.reasons i) (n i) (column i) (held i) (peak i))
+            ∙ sym (at_stop ours (sheet_of s) room h i ∙ ap (λ (j : ℕ). answer (reason_by ours (lines_of s) j) (j + 2) (byte_columns s (suc j) (position_by ours (lines_of s) j)) (held_after (lines_of s) j) (peak_up_to (lines_of s) j)) stops)
 
       -- accepted
-      module _ (z : r.reason ≡ 0) where
-        found : (o : Option lines.Line) → o ≡ line_at s at → (r : lines.Line) × (Some r ≡ line_at s at)
-        found None e = absurd (omega (arith, z, gives.reasons, fault_2 e))
+      module _ (e : o ≡ Ok tt) where
+        more : Gives (Ok tt)
+        more = gives (Ok tt) e
+
+        found : (l : Option lines.Line) → l ≡ line_at s at → (r : lines.Line) × (Some r ≡ line_at s at)
+        found None e = absurd (omega (arith, more.0, fault_2 e))
         found (Some r) e = (r, e)
 
         abbrev line : lines.Line
@@ -167,14 +166,13 @@ module _ (s first given : List ℕ) (a : Arrays) (p : Progress) (at : ℕ) (g : 
         pub goes : (n : ℕ) → n ≡ next_of (line_at s at) → at < n
         goes n e = omega (arith, e ∙ ap next_of (sym line_is), step_more s p.line at g.here line line_is)
 
-        pub goes_on : (n : ℕ) → n ≡ next_of (line_at s at) → Standing s first next_given next r.progress n
+        pub goes_on : (n : ℕ) → n ≡ next_of (line_at s at) → Standing s first next_given next q n
         goes_on n e =
-            let more = gives.goes_on z in
-            let l : p.line + 1 ≡ r.progress.line = omega (arith, g.going.line_is, more.line_is) in
+            let l : p.line + 1 ≡ q.line = omega (arith, g.going.line_is, more.1.line_is) in
             record {
               done = suc k;
-              going = more;
-              here = subst (λ (x : ℕ). After s r.progress.line x) (ap next_of line_is ∙ sym e) (subst (λ (x : ℕ). After s x line.next) l (step_after s p.line at g.here line line_is));
+              going = more.1;
+              here = subst (λ (x : ℕ). After s q.line x) (ap next_of line_is ∙ sym e) (subst (λ (x : ℕ). After s x line.next) l (step_after s p.line at g.here line line_is));
             }
 
   -- ---- at the end
@@ -186,7 +184,7 @@ module _ (s first given : List ℕ) (a : Arrays) (p : Progress) (at : ℕ) (g : 
     ends-count = g.going.requests_is ∙ ap (λ (j : ℕ). length (starts_up_to (lines_of s) j)) done_all
 
     pub ends_few : line_count s ≤ 4096 → p.requests ≤ 4096
-    ends_few c = omega (arith, going.few (lines_of s) k first given a p g.going, done_all, c)
+    ends_few c = omega (arith, going.few (lines_of s) k first given b p g.going, done_all, c)
 
     pub ends-starts : line_count s ≤ 4096 → length first ≡ 4096 → take p.requests given ≡ starts_of (sheet_of s)
     ends-starts c e =
@@ -197,7 +195,7 @@ module _ (s first given : List ℕ) (a : Arrays) (p : Progress) (at : ℕ) (g : 
         ∙ take-append_seam w (drop (0 + length w) first)
         ∙ ap (starts_up_to (lines_of s)) done_all
 
-    pub ends : (room : ℕ) → headed s ≡ true → closing p.status.exited p.requests room p.line start_column p.held p.peak ≡ answer_of (sheet_of s) room
+    pub ends : (room : ℕ) → headed s ≡ true → closing b.exited p.requests room p.line start_column p.held p.peak ≡ answer_of (sheet_of s) room
     unfolding closing
     ends room h =
         let zeros : (j : ℕ) → j < line_count s - 1 → reason_by ours (lines_of s) j ≡ 0 = λ j q. g.going.accepted j (omega (arith, q, done_all)) in
@@ -214,7 +212,7 @@ module _ (s first given : List ℕ) (a : Arrays) (p : Progress) (at : ℕ) (g : 
     counted_by false n e c = (e, omega (arith, e))
 
     pub ends-counted : line_count s ≤ 4096 → length first ≡ 4096 → (x : Answer) (n : ℕ) → n ≡ cond (eqb x.reason 0) p.requests 0
-        → (n ≡ cond (eqb x.reason 0) (length (starts_of (sheet_of s))) 0) × (((n ≤ 4096) × (length given ≡ 4096)) × (x.reason ≡ 0 → take n given ≡ starts_of (sheet_of s)))
+        → (n ≡ cond (eqb x.reason 0) (length (starts_of (sheet_of s))) 0) × ((n ≤ 4096) × (x.reason ≡ 0 → take n given ≡ starts_of (sheet_of s)))
     ends-counted c e x n f =
         let a = counted_by (eqb x.reason 0) n f c in
-        (a.0, ((a.1, places e), λ z. ap (λ (m : ℕ). take m given) (f ∙ ap (λ (b : Bool). cond b p.requests 0) (eq-eqb x.reason 0 z)) ∙ ends-starts c e))
+        (a.0, (a.1, λ z. ap (λ (m : ℕ). take m given) (f ∙ ap (λ (b : Bool). cond b p.requests 0) (eq-eqb x.reason 0 z)) ∙ ends-starts c e))

@@ -1,14 +1,14 @@
 -- The whole answer: reason 1, then line 1, then what the loop over the lines gives. Assumes nothing.
-use Prim.Native.Nat.{ℕ, ◌≤◌}
-use mathlib.Core.Path.{◌≡◌, sym, ap, ◌∙◌, subst}
+use Prim.Native.Nat.{ℕ, ◌+◌, ◌≤◌}
+use mathlib.Core.Path.{◌≡◌, refl, sym, ap, ◌∙◌, subst}
 use mathlib.Core.Bool.{Bool, true, false, cond}
-use mathlib.Core.List.{List}
+use mathlib.Core.List.{List, ◌++◌}
 use mathlib.Core.Logic.{inl, inr}
 use native.Mathlib.Omega.{arith}
 use lib.Dec.{ltb, eqb}
 use lib.ListN.{length, take, drop}
-use lib.Seq.{sets, take-append_seam}
-use borrow.Author.Tests.{eq-eqb, ne_eqb, ltb-false}
+use lib.Seq.{sets, sets-eq, take-append_seam}
+use borrow.Author.Tests.{eq-eqb, ne_eqb, eqb-true, eqb-false, ltb-false}
 use Rattle.laws.proofs.BoolLaws.{or_neither}
 use Rattle.lines.specs.Sheet.{line_count, headed, oversize}
 use Rattle.rules.specs.declared.Answer.{Answer}
@@ -90,15 +90,41 @@ module _ (s old : List ℕ) where
         sym (ap (λ (c : Bool). cond c old (places_after (sheet_of s) old)) o ∙ ap (λ (c : Bool). cond c (sets old 0 (starts_of (sheet_of s))) old) q)
 
     -- refused: the list is as it was
-    pub refused_whole : (r.answer.reason ≡ 0 → ⊥) → Whole s old r old
+    refused_whole : (r.answer.reason ≡ 0 → ⊥) → Whole s old r old
     refused_whole z = whole old (after_by false (ne_eqb r.answer.reason 0 z))
 
     -- passed: the starts stand over its first places, and there is room for them
-    pub passed_room : r.answer.reason ≡ 0 → length (starts_of (sheet_of s)) ≤ length old
+    passed_room : r.answer.reason ≡ 0 → length (starts_of (sheet_of s)) ≤ length old
     passed_room z = (figures_exact ours (sheet_of s) (length old)).roomy (ap (λ (x : Answer). x.reason) (sym e) ∙ z)
 
-    pub passed_whole : r.answer.reason ≡ 0 → (w new : List ℕ) → w ≡ starts_of (sheet_of s) → new ≡ sets old 0 w → Whole s old r new
+    passed_whole : r.answer.reason ≡ 0 → (w new : List ℕ) → w ≡ starts_of (sheet_of s) → new ≡ sets old 0 w → Whole s old r new
     passed_whole z w new f g = whole new (g ∙ ap (sets old 0) f ∙ after_by true (eq-eqb r.answer.reason 0 z))
+
+    -- as many places as there are starts are put: all starts on a pass, else none
+    module _ (given : List ℕ) (g : r.answer.reason ≡ 0 → take r.starts given ≡ starts_of (sheet_of s)) where
+      few_by : (b : Bool) → eqb r.answer.reason 0 ≡ b → r.starts ≤ length old
+      few_by true z = omega (arith, n ∙ ap (λ (c : Bool). cond c (length (starts_of (sheet_of s))) 0) z, passed_room (eqb-true r.answer.reason 0 z))
+      few_by false z = omega (arith, n ∙ ap (λ (c : Bool). cond c (length (starts_of (sheet_of s))) 0) z)
+
+      pub few : r.starts ≤ length old
+      few = few_by (eqb r.answer.reason 0) refl
+
+      abbrev Put : ℕ → Type 0
+      Put m = Whole s old r (take m given ++ drop m old)
+
+      put_by : (b : Bool) → eqb r.answer.reason 0 ≡ b → Put r.starts
+      put_by true z =
+          let q = eqb-true r.answer.reason 0 z in
+          let w = take r.starts given in
+          let l : r.starts ≡ 0 + length w = omega (arith, n ∙ ap (λ (c : Bool). cond c (length (starts_of (sheet_of s))) 0) z, ap length (g q)) in
+          let f : 0 + length w ≤ length old = omega (arith, few, l) in
+          passed_whole q w _ (g q) (ap (λ (m : ℕ). w ++ drop m old) l ∙ sym (sets-eq w old 0 f))
+      put_by false z =
+          let m : r.starts ≡ 0 = n ∙ ap (λ (c : Bool). cond c (length (starts_of (sheet_of s))) 0) z in
+          subst Put (sym m) (refused_whole (eqb-false r.answer.reason 0 z))
+
+      pub put : Put r.starts
+      put = put_by (eqb r.answer.reason 0) refl
 
   -- line 1 is wrong
   pub headless : oversize s ≡ false → headed s ≡ false → (r : Judged) → (r.answer ≡ answer 2 1 1 0 0) × (r.starts ≡ 0) → Whole s old r old

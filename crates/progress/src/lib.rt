@@ -1,39 +1,43 @@
 // One line of a sheet: read, judged, booked and counted.
 #![tactic(auto)]
 
-ghost use Rattle.std.specs.Prelude.{◌≡◌, cond, ◌+◌, ◌-◌, ◌%◌, ◌≤◌, ◌<◌, max, eqb, length, set};
-ghost use Rattle.lines.specs.Sheet.{most_lines, line_at, next_of};
-ghost use Rattle.steps.specs.Steps.{arrays_now, arrays_in, arrays_out, only, Sized, LineDone};
-ghost use Rattle.progress.specs.Going.{opening, line_seen, column_seen, TextBlamed, ColumnDone, passed_by, counted_of, Small, Ready, Went};
+ghost use Rattle.std.specs.Prelude.{◌≡◌, ◌<◌, true, is_err};
+ghost use Rattle.std.proofs.lemmas.List.Edits.{sets};
+ghost use Rattle.reasons.specs.Reasons.{number};
+ghost use Rattle.statement.specs.declared.Position.TheVariants.{Token};
+ghost use Rattle.statement.specs.Positions.{byte_column};
+ghost use Rattle.statement.specs.Reading.{read_of, reason_of};
+ghost use Rattle.rules.specs.Sheet.{line_of};
+ghost use Rattle.lines.specs.Sheet.{line_at, next_of};
+ghost use Rattle.steps.specs.Steps.{LineDone, starts_of};
+ghost use Rattle.progress.specs.Going.{opening, line_seen, column_seen, unplaced, Pointed, counted_of, Small, Ready, Went};
 
-use steps::{Status, Step};
+use reasons::Reason;
+use statement::Reading;
+use steps::{Books, Step};
 
-// What is known after some accepted lines, beside the arrays and the starts: what is kept, the requests, the columns held and
-// the most that were, and how many lines there are.
+// What is known after some accepted lines, beside the books and the starts: the requests, the columns held and the most that were, and how many lines
+// there are.
 #[derive(Clone, Copy)]
 pub struct Progress {
-    pub status: Status,
     pub requests: usize,
     pub held: u32,
     pub peak: u32,
     pub line: usize,
 }
 
-// One line more: its reason, or 0, the column of a line that is refused, and where the next line starts.
+// Why a line is refused, and its column.
 #[derive(Clone, Copy)]
-pub struct Advanced {
-    pub progress: Progress,
-    pub reason: u32,
+pub struct Refusal {
+    pub reason: Reason,
     pub column: usize,
-    pub next: usize,
 }
 
-// What a line gives, its column, and where the next line starts.
+// One line more: where the next line starts, and whether it is refused.
 #[derive(Clone, Copy)]
-struct Stepped {
-    step: Step,
-    column: usize,
-    next: usize,
+pub struct Advanced {
+    pub next: usize,
+    pub answer: Result<(), Refusal>,
 }
 
 // After line 1.
@@ -41,12 +45,6 @@ pub fn opening() -> Progress
     ensures { result ≡ opening }
 {
     Progress {
-        status: Status {
-            fixed: false,
-            warp: 0,
-            relinquished: false,
-            exited: false,
-        },
         requests: 0,
         held: 0,
         peak: 0,
@@ -54,215 +52,88 @@ pub fn opening() -> Progress
     }
 }
 
-// A line that is refused before its statement.
-fn refused(reason: u32, column: usize, status: Status, next: usize) -> Stepped
-    ensures { (result.step ≡ only status reason) × (result.column ≡ column) × (result.next ≡ next) }
+// A text that did not read is refused where reading stopped.
+fn unread(text: &[u8], reading: Reading) -> Refusal
+    requires read { reading ≡ read_of text.now }
+    requires unread { is_err reading ≡ true }
+    ensures reason { number result.reason ≡ reason_of reading }
+    ensures column { result.column ≡ byte_column text.now Token }
 {
-    Stepped {
-        step: Step {
-            reason,
-            start: 0,
-            asked: 0,
-            returned: 0,
-            status,
-        },
+    let Err(misread) = reading else {
+        unreachable!()
+    };
+    let column = places::stopped(text, reading);
+    Refusal {
+        reason: misread.reason(),
         column,
-        next,
     }
 }
 
-// The column of a text that is refused for a reason: what the reason of its statement points at; of one that does not read, as `step` never asks for, where
-// that is. 0 for no reason: a text is read again on a refusal alone.
-fn text_column<'a>(
-    text: &[u8],
-    hi: &'a [u64; 16],
-    lo: &'a [u64; 16],
-    columns: &'a [u16; 16],
-    value_hi: &'a [u64; 128],
-    value_lo: &'a [u64; 128],
-    numbers: &'a [u64; 128],
-    widths: &'a [u8; 128],
-    reason: u32,
-) -> usize
-    ensures passed { reason ≡ 0 → result ≡ 0 }
-    ensures refused { TextBlamed text.now hi.now lo.now columns.now value_hi.now value_lo.now numbers.now widths.now reason result }
+// The text of a line of a warp: read, judged and booked.
+fn step(text: &[u8], warp: u8, books: &mut Books, held: u32) -> Result<Step, Refusal>
+    requires { warp < 4 }
+    ensures done { LineDone held (line_of warp (read_of text.now)) books.old (unplaced result) books.new }
+    ensures column { Pointed held (line_of warp (read_of text.now)) (byte_column text.now) books.old result }
 {
-    if reason == reasons::PASSED {
-        return 0;
-    }
     let reading = reader::read(text);
     let Ok(t) = reading else {
-        return places::stopped(text, reading);
+        return Err(unread(text, reading));
     };
-    let p = blame::position(
-        hi, lo, columns, value_hi, value_lo, numbers, widths, t, reason,
-    );
-    places::column(text, p)
-}
-
-// The line that starts at a place: read, judged and booked.
-fn step(
-    sheet: &[u8],
-    at: usize,
-    hi: &mut [u64; 16],
-    lo: &mut [u64; 16],
-    columns: &mut [u16; 16],
-    value_hi: &mut [u64; 128],
-    value_lo: &mut [u64; 128],
-    numbers: &mut [u64; 128],
-    widths: &mut [u8; 128],
-    words: &mut [u16; 8],
-    status: Status,
-    held: u32,
-) -> Stepped
-    requires { Sized value_hi.old value_lo.old numbers.old widths.old }
-    ensures done { LineDone held (line_seen sheet.now at) (arrays_in hi lo columns value_hi value_lo numbers widths words.old) status result.step
-        (arrays_out hi lo columns value_hi value_lo numbers widths words.new) }
-    ensures column { ColumnDone held (line_seen sheet.now at) (column_seen sheet.now at) (arrays_in hi lo columns value_hi value_lo numbers widths words.old) status
-        result.step.reason result.column }
-    ensures next { result.next ≡ next_of (line_at sheet.now at) }
-{
-    let Some(line) = lines::line_at(sheet, at) else {
-        return refused(reasons::LAYOUT, 1, status, 0);
-    };
-    let start = line.start;
-    let end = line.end;
-    let reading = reader::read(&sheet[start..end]);
-    let t = match reading {
-        Ok(t) => t,
-        Err(misread) => {
-            let column = places::stopped(&sheet[start..end], reading);
-            return refused(misread.reason().number(), column, status, line.next);
+    match steps::statement(books, held, warp, t) {
+        Ok(step) => Ok(step),
+        Err(reason) => {
+            let p = blame::position(&books.ledger, &books.values, t, reason);
+            let column = places::column(text, p);
+            Err(Refusal { reason, column })
         }
-    };
-    let step = steps::statement(
-        hi, lo, columns, value_hi, value_lo, numbers, widths, words, status, held, line.warp, t,
-    );
-    let column = text_column(
-        &sheet[start..end],
-        hi,
-        lo,
-        columns,
-        value_hi,
-        value_lo,
-        numbers,
-        widths,
-        step.reason,
-    );
-    Stepped {
-        step,
-        column,
-        next: line.next,
     }
 }
 
-// A start in 16 bits.
-fn narrow(start: u32) -> u16
-    ensures { result ≡ start % 65536 }
+// An accepted line is counted, and the start that it is given goes to its place.
+fn count(p: &mut Progress, given: &mut [u16; lines::LINES], step: Step)
+    requires { Small p.old step }
+    ensures counted { p.new ≡ counted_of p.old step }
+    ensures starts { given.new ≡ sets given.old p.old.requests (starts_of step.asked) }
 {
-    (start % 65536) as u16
-}
-
-// The start of a request goes to its place; where nothing is asked for the list stays as it is.
-fn put_start(given: &mut [u16; lines::LINES], place: usize, asked: u32, start: u32)
-    requires { (place < most_lines) × (length given.old ≡ most_lines) }
-    ensures { given.new ≡ cond (eqb asked 0) given.old (set given.old place (start % 65536)) }
-{
-    if asked != 0 {
-        given[place] = narrow(start);
+    if let Some(span) = step.asked {
+        given[p.requests] = span.start as u16;
+        p.requests += 1;
+        p.held += span.columns;
     }
-}
-
-// One request more where columns are asked for.
-fn more(requests: usize, asked: u32) -> usize
-    requires { requests ≤ most_lines }
-    ensures { result ≡ cond (eqb asked 0) requests (requests + 1) }
-{
-    if asked == 0 { requests } else { requests + 1 }
-}
-
-fn larger(x: u32, y: u32) -> u32
-    ensures { result ≡ max x y }
-{
-    if x < y { y } else { x }
-}
-
-// An accepted line is counted.
-fn counted(p: Progress, step: Step) -> Progress
-    requires { Small p step }
-    ensures { result ≡ counted_of p step }
-{
-    let requests = more(p.requests, step.asked);
-    let held = p.held + step.asked - step.returned;
-    let peak = larger(p.peak, held);
-    let line = p.line + 1;
-    let status = step.status;
-    Progress {
-        status,
-        requests,
-        held,
-        peak,
-        line,
-    }
-}
-
-// A line that is refused: it has its number, and all else stays.
-fn passed_by(p: Progress) -> Progress
-    requires { p.line < most_lines }
-    ensures { result ≡ passed_by p }
-{
-    let status = p.status;
-    let line = p.line + 1;
-    Progress {
-        status,
-        requests: p.requests,
-        held: p.held,
-        peak: p.peak,
-        line,
-    }
+    p.held -= step.returned;
+    p.peak = p.peak.max(p.held);
 }
 
 // The line that starts at a place: judged and booked, its start put, and counted. A refused line changes its number alone.
 pub fn advance(
     sheet: &[u8],
     at: usize,
-    hi: &mut [u64; 16],
-    lo: &mut [u64; 16],
-    columns: &mut [u16; 16],
-    value_hi: &mut [u64; 128],
-    value_lo: &mut [u64; 128],
-    numbers: &mut [u64; 128],
-    widths: &mut [u8; 128],
-    words: &mut [u16; 8],
+    books: &mut Books,
     given: &mut [u16; lines::LINES],
-    p: Progress,
+    p: &mut Progress,
 ) -> Advanced
-    requires { Ready (line_seen sheet.now at) given.old (arrays_now hi lo columns value_hi value_lo numbers widths words.old) p }
-    ensures went { Went (line_seen sheet.now at) (column_seen sheet.now at) given.old (arrays_in hi lo columns value_hi value_lo numbers widths words.old) p result given.new
-        (arrays_out hi lo columns value_hi value_lo numbers widths words.new) }
+    requires { Ready (line_seen sheet.now at) given.old books.old p.old }
+    ensures went { Went (line_seen sheet.now at) (column_seen sheet.now at) given.old books.old p.old result.answer given.new books.new p.new }
     ensures next { result.next ≡ next_of (line_at sheet.now at) }
 {
-    let status = p.status;
-    let done = step(
-        sheet, at, hi, lo, columns, value_hi, value_lo, numbers, widths, words, status, p.held,
-    );
-    let step = done.step;
-    let reason = step.reason;
-    if reason != reasons::PASSED {
-        let progress = passed_by(p);
-        return Advanced {
-            progress,
-            reason,
-            column: done.column,
-            next: done.next,
-        };
-    }
-    put_start(given, p.requests, step.asked, step.start);
-    let progress = counted(p, step);
-    Advanced {
-        progress,
-        reason: reasons::PASSED,
-        column: 0,
-        next: done.next,
+    p.line += 1;
+    let Some(line) = lines::line_at(sheet, at) else {
+        let reason = Reason::Layout;
+        let answer = Err(Refusal { reason, column: 1 });
+        return Advanced { next: 0, answer };
+    };
+    let next = line.next;
+    match step(&sheet[line.start..line.end], line.warp, books, p.held) {
+        Ok(step) => {
+            count(p, given, step);
+            Advanced {
+                next,
+                answer: Ok(()),
+            }
+        }
+        Err(refusal) => Advanced {
+            next,
+            answer: Err(refusal),
+        },
     }
 }

@@ -2,14 +2,11 @@
 -- nothing.
 use Prim.Native.Nat.{◌-◌}
 use lib.ListN.{length}
-use Rattle.steps.specs.Steps.{arrays}
 use Rattle.judge.specs.Standing.{Standing}
 use Rattle.judge.proofs.judge_lines.Given as goal
 
 abbrev pub invariant-loop-at : goal.invariant-loop-at
-invariant-loop-at l =
-    Standing l.sheet l.initial.given l.given (arrays l.hi l.lo l.columns l.value_hi l.value_lo l.numbers l.widths l.words) l.p l.at
+invariant-loop-at l = Standing l.sheet l.initial.given l.given l.books l.p l.at
 
 abbrev pub decreases-loop-at : goal.decreases-loop-at
-decreases-loop-at l =
-    length l.sheet - l.at
+decreases-loop-at l = length l.sheet - l.at

@@ -1,26 +1,37 @@
 -- `progress::advance` meets its contract: a refused line changes its number alone, an accepted one leads from after k lines to after k + 1. Assumes
 -- nothing.
-use Rattle.progress.proofs.Going.{stops, goes, ready_sized, ready_line, ready_place, ready_small}
+use mathlib.Core.Path.{ap}
+use native.Mathlib.Omega.{arith}
+use Rattle.lines.specs.Sheet.{content_seen}
+use Rattle.progress.proofs.StepLaws.{part, content_is, warp_small}
+use Rattle.progress.proofs.Going.{at_fault, refuses, accepts, counts}
 use Rattle.progress.proofs.advance.Goals as goal
 
-pub step-done-requires : goal.step-done-requires
-step-done-requires c = ready_sized _ _ _ _ c.requires
+pub returns-in_default-clause-went : goal.returns-in_default-clause-went
+returns-in_default-clause-went c = at_fault _ _ _ _ (ap (content_seen _) c.in_default.ensures)
 
-pub passed_by-progress-requires : goal.passed_by-progress-requires
-passed_by-progress-requires c = ready_line _ _ _ _ c.requires
+pub slice_bounds-step-count : goal.slice_bounds-step-count
+slice_bounds-step-count c = (part _ _ _ c.in-Some.ensures).0
 
-pub returns-then-reason-ne-PASSED : goal.returns-then-reason-ne-PASSED
-returns-then-reason-ne-PASSED c =
-    let x = c.step-done.ensures in
-    (record { went = stops _ _ _ _ _ _ _ x.done c.if-reason-ne-PASSED.true _ x.column _ c.passed_by-progress.ensures _; next = x.next })
+pub slice_bounds-step-start : goal.slice_bounds-step-start
+slice_bounds-step-start c = (part _ _ _ c.in-Some.ensures).0
 
-pub put_start-requires : goal.put_start-requires
-put_start-requires c = ready_place _ _ _ _ c.requires
+pub slice_bounds-step-end : goal.slice_bounds-step-end
+slice_bounds-step-end c = (part _ _ _ c.in-Some.ensures).1
 
-pub counted-progress-requires : goal.counted-progress-requires
-counted-progress-requires c = ready_small _ _ _ _ c.requires _ _ c.step-done.ensures.done c.if-reason-ne-PASSED.false
+pub step-requires : goal.step-requires
+step-requires c = omega (arith, warp_small _ _ _ c.in-Some.ensures)
 
-pub returns : goal.returns
-returns c =
-    let x = c.step-done in
-    (record { went = goes _ _ _ _ _ _ _ x.ensures.done c.if-reason-ne-PASSED.false _ c.put_start.ensures _ c.counted-progress.ensures _; next = x.ensures.next })
+pub count-requires : goal.count-requires
+count-requires c =
+    counts _ _ _ c.args.p.now _ _ (content_is _ _ _ c.in-Some.ensures) c.step.new.books _ c.in-Ok.ensures.done c.requires
+
+pub returns-in-Ok-clause-went : goal.returns-in-Ok-clause-went
+returns-in-Ok-clause-went c =
+    let t = c.count.ensures in
+    accepts _ _ _ c.args.p.now _ _ (content_is _ _ _ c.in-Some.ensures) c.step.new.books _ c.in-Ok.ensures.done _ t.starts _ t.counted
+
+pub returns-in-Err-clause-went : goal.returns-in-Err-clause-went
+returns-in-Err-clause-went c =
+    let r = c.in-Err.ensures in
+    refuses _ _ _ c.args.p.now _ _ (content_is _ _ _ c.in-Some.ensures) c.step.new.books _ r.done r.column
