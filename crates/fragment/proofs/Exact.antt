@@ -2,17 +2,15 @@
 use Prim.Native.Nat.{ℕ, ◌*◌, ◌<◌}
 use mathlib.Core.Path.{◌≡◌, sym, ap, subst, ◌∙◌}
 use mathlib.Core.Bool.{true}
-use mathlib.Core.Option.{Option, none, some}
+use Rattle.std.specs.Prelude.{Option, None, Some}
 use native.Mathlib.Omega.{arith}
 use lib.ListN.{get_or, length}
 use Rattle.laws.proofs.BoolLaws.{chosen}
-use Rattle.fragment.specs.Fragment.{matrix_of, threads, elements, place, holder, place_of, entry_of, table_of, origin, holder_of, in_warp, in_matrix, place_found, no_place, holder_found, no_holder, place_in, place_read, held_by, holder_in, holder_read}
+use Rattle.fragment.specs.Fragment.{matrix_of, threads, elements, place, holder, place_of, entry_of, table_of, origin, holder_of, in_warp, in_matrix, place_found, no_place, holder_found, no_holder, place_in, place_read, held_by, holder_in, holder_read, PlaceRead, HolderRead}
 use Rattle.fragment.specs.Claims.{Once, TableExact, BothWays, FragmentsExact}
 use Rattle.fragment.specs.declared.Matrix.{Matrix}
 use Rattle.fragment.specs.declared.Place.{Place}
 use Rattle.fragment.specs.declared.Holder.{Holder}
-use Rattle.fragment.specs.declared.PlaceRead.{PlaceRead}
-use Rattle.fragment.specs.declared.HolderRead.{HolderRead}
 use Rattle.fragment.proofs.FragmentLaws.{holder_at, index_of, leads_back_lem, is-held, index_below, entry_in, table_size, table_at, table-rule, only-entry, holder-of, place-in, holder_in_lem}
 
 -- ---- the table of a matrix
@@ -37,30 +35,30 @@ table_exact m = record { size = table_size m; rule = table-rule m; inside = insi
 
 -- ---- both ways
 -- what a place that was found says
-place_found_lem : (m : Matrix) (h : Holder) (p : Place) → place_in (some m) h ≡ place_found p → (in_warp m h ≡ true) × (place_of m h ≡ p)
+place_found_lem : (m : Matrix) (h : Holder) (p : Place) → place_in (Some m) h ≡ place_found p → (in_warp m h ≡ true) × (place_of m h ≡ p)
 place_found_lem m h p e =
     let w : in_warp m h ≡ true = chosen (λ (a : PlaceRead). a.reason ≡ 0) (in_warp m h) (place_found (place_of m h)) no_place (λ z. omega (arith, z)) (ap (λ (a : PlaceRead). a.reason) e) in
     (w, ap (λ (a : PlaceRead). a.place) (sym (place-in m h true w) ∙ e))
 
 -- a place of the matrix has the holder that the code computes, and a holder that was found is that one
-answered_by : (m : Matrix) (p : Place) → in_matrix m p ≡ true → holder_in (some m) p ≡ holder_found (holder_at m p)
+answered_by : (m : Matrix) (p : Place) → in_matrix m p ≡ true → holder_in (Some m) p ≡ holder_found (holder_at m p)
 answered_by m p e = holder_in_lem m p true e ∙ ap held_by (holder-of m p e)
 
-holder-found : (m : Matrix) (p : Place) (h : Holder) → holder_in (some m) p ≡ holder_found h → (in_matrix m p ≡ true) × (holder_at m p ≡ h)
+holder-found : (m : Matrix) (p : Place) (h : Holder) → holder_in (Some m) p ≡ holder_found h → (in_matrix m p ≡ true) × (holder_at m p ≡ h)
 holder-found m p h e =
     let w : in_matrix m p ≡ true = chosen (λ (a : HolderRead). a.reason ≡ 0) (in_matrix m p) (held_by (holder_of m p)) no_holder (λ z. omega (arith, z)) (ap (λ (a : HolderRead). a.reason) e) in
     (w, ap (λ (a : HolderRead). a.holder) (sym (answered_by m p w) ∙ e))
 
 back_in : (o : Option Matrix) (h : Holder) (p : Place) → place_in o h ≡ place_found p → holder_in o p ≡ holder_found h
-back_in none h p e = absurd (omega (arith, ap (λ (a : PlaceRead). a.reason) e))
-back_in (some m) h p e =
+back_in None h p e = absurd (omega (arith, ap (λ (a : PlaceRead). a.reason) e))
+back_in (Some m) h p e =
     let s = place_found_lem m h p e in
     let l = leads_back_lem m h s.0 in
     answered_by m p (sym (ap (in_matrix m) s.1) ∙ l.0) ∙ ap holder_found (ap (holder_at m) (sym s.1) ∙ l.1)
 
 out_in : (o : Option Matrix) (p : Place) (h : Holder) → holder_in o p ≡ holder_found h → place_in o h ≡ place_found p
-out_in none p h e = absurd (omega (arith, ap (λ (a : HolderRead). a.reason) e))
-out_in (some m) p h e =
+out_in None p h e = absurd (omega (arith, ap (λ (a : HolderRead). a.reason) e))
+out_in (Some m) p h e =
     let s = holder-found m p h e in
     let l = is-held m p s.0 in
     place-in m h true (sym (ap (in_warp m) s.1) ∙ l.0) ∙ ap place_found (ap (place_of m) (sym s.1) ∙ l.1)

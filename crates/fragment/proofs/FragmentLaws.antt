@@ -5,7 +5,7 @@ use native.Mathlib.Omega.{arith}
 use mathlib.Core.Path.{◌≡◌, refl, sym, ap, subst, ◌∙◌}
 use mathlib.Core.Bool.{Bool, true, ◌&&◌, cond}
 use mathlib.Core.List.{List, map}
-use mathlib.Core.Option.{some}
+use Rattle.std.specs.Prelude.{Some}
 use native.Mathlib.Nat.{le_trans, zero-add, mod-lt, div-add-mod', div-lt_iff_lt-mul}
 use lib.Arith.{digits_lt, digits_div, digits_mod}
 use lib.Dec.{eqb, ltb}
@@ -171,7 +171,7 @@ entry_place m h n e is =
 pub only-entry : (m : Matrix) (p : Place) (k : ℕ) → k < threads * elements m → place_of m (entry_of m k) ≡ p → k ≡ index_of m (holder_at m p)
 only-entry m p k l e = sym (div-add-mod' k (elements m)) ∙ ap (index_of m) (sym (leads_back_lem m (entry_of m k) (entry_in m k l)).1 ∙ ap (holder_at m) e)
 
-pub holder-of : (m : Matrix) (p : Place) → in_matrix m p ≡ true → holder_of m p ≡ some (holder_at m p)
+pub holder-of : (m : Matrix) (p : Place) → in_matrix m p ≡ true → holder_of m p ≡ Some (holder_at m p)
 unfolding holder_of
 holder-of m p e =
     let k : ℕ = index_of m (holder_at m p) in
@@ -180,11 +180,11 @@ holder-of m p e =
     let there : place_of m (entry_of m k) ≡ p = ap (place_of m) same ∙ held.1 in
     find-only (λ g. same_place (place_of m g) p) (entry_of m) (threads * elements m) k (index_below m (holder_at m p) held.0)
     (ap (λ q. same_place q p) there ∙ itself p) (λ j l t. only-entry m p j l (same_place_lem (place_of m (entry_of m j)) p t))
-    ∙ ap some same
+    ∙ ap Some same
 
 -- ---- the answers, as the test of each goes
-pub place-in : (m : Matrix) (h : Holder) (b : Bool) → in_warp m h ≡ b → place_in (some m) h ≡ cond b (place_found (place_of m h)) no_place
+pub place-in : (m : Matrix) (h : Holder) (b : Bool) → in_warp m h ≡ b → place_in (Some m) h ≡ cond b (place_found (place_of m h)) no_place
 place-in m h b e = ap (λ x. cond x (place_found (place_of m h)) no_place) e
 
-pub holder_in_lem : (m : Matrix) (p : Place) (b : Bool) → in_matrix m p ≡ b → holder_in (some m) p ≡ cond b (held_by (holder_of m p)) no_holder
+pub holder_in_lem : (m : Matrix) (p : Place) (b : Bool) → in_matrix m p ≡ b → holder_in (Some m) p ≡ cond b (held_by (holder_of m p)) no_holder
 holder_in_lem m p b e = ap (λ x. cond x (held_by (holder_of m p)) no_holder) e

@@ -5,10 +5,10 @@ use native.Mathlib.Decide.{dec_le}
 use mathlib.Core.Path.{◌≡◌, refl, ap, ◌∙◌}
 use mathlib.Core.Bool.{Bool, true, false, cond}
 use mathlib.Core.List.{List, [], ◌∷◌, map}
-use mathlib.Core.Option.{Option, some}
+use Rattle.std.specs.Prelude.{Option, Some}
 use mathlib.Core.Logic.{◌⊎◌, inl, inr}
 use lib.ListN.{get_or, length}
-use Rattle.laws.specs.Tests.{find}
+use Rattle.std.specs.Prelude.{find}
 use Rattle.laws.proofs.BoolLaws.{clash, bool}
 use Rattle.fragment.specs.Fragment.{count_from}
 
@@ -29,7 +29,7 @@ count_from_lem (suc n) a = ap suc (count_from_lem n (suc a))
 
 -- ---- a search finds the only one
 find_from : {A : Type 0} (test : A → Bool) (f : ℕ → A) (n a k : ℕ) → a ≤ k → k < a + n → test (f k) ≡ true
-    → ((j : ℕ) → j < a + n → test (f j) ≡ true → j ≡ k) → find test (map f (count_from a n)) ≡ some (f k)
+    → ((j : ℕ) → j < a + n → test (f j) ≡ true → j ≡ k) → find test (map f (count_from a n)) ≡ Some (f k)
 find_from test f zero a k g l t only = absurd (omega (arith, g, l))
 find_from {A = A} test f (suc n) a k g l t only =
     here (bool (test (f a))) (λ later. find_from test f n (suc a) k later (omega (arith, l)) t (λ j b. only j (omega (arith, b))))
@@ -41,10 +41,10 @@ find_from {A = A} test f (suc n) a k g l t only =
     later y (yes q) = let e : k ≡ a = omega (arith, g, q) in absurd (clash t (ap (λ x. test (f x)) e ∙ y))
     later y (no q) = omega arith
 
-    here : (test (f a) ≡ true) ⊎ (test (f a) ≡ false) → (suc a ≤ k → rest ≡ some (f k)) → cond (test (f a)) (some (f a)) rest ≡ some (f k)
-    here (inl y) i = rw y (ap (λ x. some (f x)) (only a (omega arith) y))
+    here : (test (f a) ≡ true) ⊎ (test (f a) ≡ false) → (suc a ≤ k → rest ≡ Some (f k)) → cond (test (f a)) (Some (f a)) rest ≡ Some (f k)
+    here (inl y) i = rw y (ap (λ x. Some (f x)) (only a (omega arith) y))
     here (inr y) i = rw y (i (later y (dec_le k a)))
 
 pub find-only : {A : Type 0} (test : A → Bool) (f : ℕ → A) (n k : ℕ) → k < n → test (f k) ≡ true
-    → ((j : ℕ) → j < n → test (f j) ≡ true → j ≡ k) → find test (map f (count_from 0 n)) ≡ some (f k)
+    → ((j : ℕ) → j < n → test (f j) ≡ true → j ≡ k) → find test (map f (count_from 0 n)) ≡ Some (f k)
 find-only test f n k l t only = find_from test f n 0 k (omega arith) (omega (arith, l)) t (λ j b. only j (omega (arith, b)))

@@ -1,6 +1,5 @@
 -- What is claimed of the fragments beyond what each function does; proofs/Exact.antt has the proofs. Assumes nothing.
-use Rattle.std.specs.Prelude.{ℕ, ◌+◌, ◌*◌, ◌<◌, ◌≡◌, true, List, get_or, length}
-use Rattle.std.proofs.Math.Option.{some}
+use Rattle.std.specs.Prelude.{ℕ, ◌+◌, ◌*◌, ◌<◌, ◌≡◌, true, List, get_or, length, Some}
 use Rattle.fragment.specs.Fragment.{matrix_of, threads, elements, place, holder, place_of, table_of, origin, in_warp, in_matrix, place_found, holder_found, place_read, holder_read}
 use Rattle.fragment.specs.declared.Matrix.{Matrix}
 use Rattle.fragment.specs.declared.Place.{Place}
@@ -31,8 +30,8 @@ pub record BothWays (n : ℕ) : Type 0 where
   -- the holder of a row and column has its place there
   pub out : (r c : ℕ) (h : Holder) → holder_read n r c ≡ holder_found h → place_read n h.thread h.element ≡ place_found (place r c)
   -- every element of the warp has a place, and every place of the matrix a holder
-  pub all_placed : (m : Matrix) (t i : ℕ) → matrix_of n ≡ some m → in_warp m (holder t i) ≡ true → (place_read n t i).reason ≡ 0
-  pub all_held : (m : Matrix) (r c : ℕ) → matrix_of n ≡ some m → in_matrix m (place r c) ≡ true → (holder_read n r c).reason ≡ 0
+  pub all_placed : (m : Matrix) (t i : ℕ) → matrix_of n ≡ Some m → in_warp m (holder t i) ≡ true → (place_read n t i).reason ≡ 0
+  pub all_held : (m : Matrix) (r c : ℕ) → matrix_of n ≡ Some m → in_matrix m (place r c) ≡ true → (holder_read n r c).reason ≡ 0
 
 -- For each of the three matrices, and for every number.
 pub record FragmentsExact : Type 0 where

@@ -1,14 +1,12 @@
 -- The fragments of the warp-level `mma.m16n8k16` on f16 (docs/FORMAT.md, 'Fragments'): which thread holds which element of the matrices A, B and C.
 -- Assumes nothing.
-use Rattle.std.specs.Prelude.{ℕ, zero, suc, ◌+◌, ◌*◌, ◌/◌, ◌%◌, Bool, ◌&&◌, cond, List, [], ◌∷◌, map, eqb, ltb, leb}
-use Rattle.std.proofs.Math.Option.{Option, none, some}
-use Rattle.laws.specs.Tests.{among, find}
+use Rattle.std.specs.Prelude.{ℕ, zero, suc, ◌+◌, ◌*◌, ◌/◌, ◌%◌, Bool, ◌&&◌, cond, List, [], ◌∷◌, map, eqb, ltb, leb, find, Option, None, Some, Result, Ok, Err}
+use Rattle.laws.specs.Tests.{among}
+use Rattle.reasons.specs.declared.Reason.{Reason}
+use Rattle.reasons.specs.Reasons.{number}
 use Rattle.fragment.specs.declared.Matrix.{Matrix}
-use Rattle.fragment.specs.declared.MatrixRead.{MatrixRead}
 use Rattle.fragment.specs.declared.Place.{Place}
 use Rattle.fragment.specs.declared.Holder.{Holder}
-use Rattle.fragment.specs.declared.PlaceRead.{PlaceRead}
-use Rattle.fragment.specs.declared.HolderRead.{HolderRead}
 
 -- the matrices by number: A 0, B 1, C 2
 abbrev pub matrix_number : Matrix → ℕ
@@ -18,10 +16,6 @@ matrix_number Matrix.C = 2
 
 abbrev pub matrix_of : ℕ → Option Matrix
 matrix_of n = find (λ m. eqb n (matrix_number m)) (Matrix.A ∷ Matrix.B ∷ Matrix.C ∷ [])
-
-abbrev pub matrix_seen : MatrixRead → Option Matrix
-matrix_seen (MatrixRead.Is m) = some m
-matrix_seen MatrixRead.Unknown = none
 
 -- A is 16 by 16; B, whose rows are k, and C are 16 by 8.
 abbrev pub rows : ℕ
@@ -112,6 +106,16 @@ in_warp m h = ltb h.thread threads && ltb h.element (elements m)
 abbrev pub in_matrix : Matrix → Place → Bool
 in_matrix m p = ltb p.row rows && ltb p.column (columns m)
 
+-- 0 and the place, or 22 and zeros
+pub record PlaceRead : Type 0 where
+  pub reason : ℕ
+  pub place : Place
+
+-- 0 and the holder, or 22 and zeros
+pub record HolderRead : Type 0 where
+  pub reason : ℕ
+  pub holder : Holder
+
 -- Answers: 0 with the place or the holder, or 22 with zeros.
 abbrev pub place_found : Place → PlaceRead
 place_found p = record { reason = 0; place = p }
@@ -127,23 +131,32 @@ no_holder = record { reason = 22; holder = holder 0 0 }
 
 -- the place of a thread's element in the matrix of a number
 abbrev pub place_in : Option Matrix → Holder → PlaceRead
-place_in none h = no_place
-place_in (some m) h = cond (in_warp m h) (place_found (place_of m h)) no_place
+place_in None h = no_place
+place_in (Some m) h = cond (in_warp m h) (place_found (place_of m h)) no_place
 
 unfoldable pub place_read : ℕ → ℕ → ℕ → PlaceRead
 place_read n t i = place_in (matrix_of n) (holder t i)
 
 -- who holds a row and column of the matrix of a number; a place of the matrix is never without a holder (`all_held` in Claims.antt)
 abbrev pub held_by : Option Holder → HolderRead
-held_by none = no_holder
-held_by (some h) = holder_found h
+held_by None = no_holder
+held_by (Some h) = holder_found h
 
 abbrev pub holder_in : Option Matrix → Place → HolderRead
-holder_in none p = no_holder
-holder_in (some m) p = cond (in_matrix m p) (held_by (holder_of m p)) no_holder
+holder_in None p = no_holder
+holder_in (Some m) p = cond (in_matrix m p) (held_by (holder_of m p)) no_holder
 
 unfoldable pub holder_read : ℕ → ℕ → ℕ → HolderRead
 holder_read n r c = holder_in (matrix_of n) (place r c)
+
+-- what an answer of the code stands for: the place or the holder with 0, or the reason with zeros
+abbrev pub place_answer : Result Place Reason → PlaceRead
+place_answer (Ok p) = place_found p
+place_answer (Err r) = record { reason = number r; place = origin }
+
+abbrev pub holder_answer : Result Holder Reason → HolderRead
+holder_answer (Ok h) = holder_found h
+holder_answer (Err r) = record { reason = number r; holder = holder 0 0 }
 
 -- a place and a holder as two numbers
 abbrev pub place_numbers : Place → List ℕ

@@ -182,6 +182,52 @@ impl Fields {
     }
 }
 
+// Thirteen numbers as fields.
+impl From<[u32; 13]> for Fields {
+    ghost from_gives = { λ l f. f ≡ fields_in l };
+
+    fn from(l: [u32; 13]) -> Fields {
+        Fields {
+            selector: l[0],
+            sparse: l[1],
+            saturate: l[2],
+            dtype: l[3],
+            atype: l[4],
+            btype: l[5],
+            anegate: l[6],
+            bnegate: l[7],
+            atranspose: l[8],
+            btranspose: l[9],
+            n: l[10],
+            m: l[11],
+            shift: l[12],
+        }
+    }
+}
+
+// Fields as thirteen numbers.
+impl From<Fields> for [u32; 13] {
+    ghost from_gives = { λ f l. l ≡ values f };
+
+    fn from(f: Fields) -> [u32; 13] {
+        [
+            f.selector,
+            f.sparse,
+            f.saturate,
+            f.dtype,
+            f.atype,
+            f.btype,
+            f.anegate,
+            f.bnegate,
+            f.atranspose,
+            f.btranspose,
+            f.n,
+            f.m,
+            f.shift,
+        ]
+    }
+}
+
 impl Opcode {
     // Sparsity, saturation, negation and shift are such as the opcode allows.
     fn allows(self, f: Fields) -> bool

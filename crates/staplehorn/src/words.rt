@@ -79,48 +79,6 @@ fn k_of(kind: u32, sp: u32) -> Result<u32, Reason>
     Ok(opcode.k())
 }
 
-// An array as fields.
-fn fields_at(l: [u32; 13]) -> Fields
-    ensures { result ≡ I.fields_in l }
-{
-    Fields {
-        selector: l[0],
-        sparse: l[1],
-        saturate: l[2],
-        dtype: l[3],
-        atype: l[4],
-        btype: l[5],
-        anegate: l[6],
-        bnegate: l[7],
-        atranspose: l[8],
-        btranspose: l[9],
-        n: l[10],
-        m: l[11],
-        shift: l[12],
-    }
-}
-
-// Fields as an array.
-fn array_of(f: Fields) -> [u32; 13]
-    ensures { result ≡ I.values f }
-{
-    [
-        f.selector,
-        f.sparse,
-        f.saturate,
-        f.dtype,
-        f.atype,
-        f.btype,
-        f.anegate,
-        f.bnegate,
-        f.atranspose,
-        f.btranspose,
-        f.n,
-        f.m,
-        f.shift,
-    ]
-}
-
 // Reads an instruction descriptor.
 pub fn staplehorn_instruction_decode(
     kind: u32,
@@ -134,7 +92,7 @@ pub fn staplehorn_instruction_decode(
 {
     let read = decode_word(kind, ws, sp, word);
     *fields = match read {
-        Ok(f) => array_of(f),
+        Ok(f) => f.into(),
         Err(_) => [0; 13],
     };
     answered(read)
@@ -151,7 +109,7 @@ pub fn staplehorn_instruction_encode(
     ensures reason { result ≡ (encoded_for (opcode_of kind ws sp) (I.fields_in fields.now)).reason }
     ensures word { word.new ≡ (encoded_for (opcode_of kind ws sp) (I.fields_in fields.now)).word }
 {
-    let written = encode_numbers(kind, ws, sp, fields_at(*fields));
+    let written = encode_numbers(kind, ws, sp, Fields::from(*fields));
     *word = written.unwrap_or(0);
     answered(written)
 }
@@ -167,7 +125,7 @@ pub fn staplehorn_instruction_judge(kind: u32, ws: u32, sp: u32, word: u32) -> u
 pub fn staplehorn_instruction_listed(kind: u32, ws: u32, sp: u32, fields: &[u32; 13]) -> u32
     ensures { result ≡ listed_for (opcode_of kind ws sp) (I.fields_in fields.now) }
 {
-    answered(judge_fields(kind, ws, sp, fields_at(*fields)))
+    answered(judge_fields(kind, ws, sp, Fields::from(*fields)))
 }
 
 // K of a kind, dense or sparse.

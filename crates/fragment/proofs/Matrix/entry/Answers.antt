@@ -1,10 +1,10 @@
--- `fragment::entry` meets its contract: each table is computed to be the matrix's, as a whole. Assumes nothing.
+-- `fragment::Matrix::entry` meets its contract: each table is computed to be the matrix's, as a whole. Assumes nothing.
 use Prim.Native.Nat.{ℕ, ◌*◌, ◌<◌}
 use mathlib.Core.Path.{◌≡◌, refl, subst}
 use Rattle.fragment.specs.Fragment.{threads, elements, table_of}
 use Rattle.fragment.specs.declared.Matrix.{Matrix}
 use Rattle.fragment.proofs.FragmentLaws.{entry-is}
-use Rattle.fragment.proofs.entry.Goals as goal
+use Rattle.fragment.proofs.Matrix.entry.Goals as goal
 
 -- in an arm the matrix is known, and so the length of its table
 within : {m n : Matrix} {k : ℕ} → m ≡ n → k < threads * elements m → k < threads * elements n
