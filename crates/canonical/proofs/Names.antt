@@ -13,6 +13,8 @@ use lib.Dec.{eqb}
 use borrow.Author.Tests.{eqb-true}
 use Rattle.laws.proofs.BoolLaws.{and_l, and_r}
 use Rattle.tokens.specs.declared.Name.{Name}
+use Rattle.std.proofs.Common.{suc, zero, ◌<◌, ◌++◌, get_or, set, add-one}
+use lib.Seq.{take-suc-set}
 use Rattle.statement.specs.declared.Access.{Access}
 use Rattle.statement.specs.declared.Statement.{Statement}
 use Rattle.statement.specs.declared.Statement.TheVariants as s
@@ -66,6 +68,29 @@ can text t e = (writable t (registers_of text)).exactly.1 (text, (e, refl))
 -- one number of each name, found in an array that they were written to
 half : (f : Name → ℕ) (ns : List Name) (x xs : List ℕ) (k : ℕ) → k ≡ length ns → length ns ≤ 128 → length x ≡ 128 → xs ≡ sets x 0 (map f ns) → take k xs ≡ map f ns
 half f ns x xs k c m p e = ap₂ take (c ∙ sym (length-map ns f)) e ∙ front x (map f ns) (rw (length-map ns f, p) m)
+
+-- ---- two arrays as one
+pub take-paired : (n : ℕ) (a b : List ℕ) → take n (paired a b) ≡ paired (take n a) (take n b)
+take-paired zero a b = refl
+take-paired (suc n) [] b = refl
+take-paired (suc n) (x ∷ a) [] = refl
+take-paired (suc n) (x ∷ a) (y ∷ b) = ap (λ (m : List Name). record { hi = x; lo = y } ∷ m) (take-paired n a b)
+
+paired_more : (i : ℕ) (a b : List ℕ) → i < length a → i < length b → paired (take (suc i) a) (take (suc i) b) ≡ paired (take i a) (take i b) ++ record { hi = get_or a i 0; lo = get_or b i 0 } ∷ []
+paired_more i [] b p q = absurd (omega arith)
+paired_more i (x ∷ a) [] p q = absurd (omega arith)
+paired_more zero (x ∷ a) (y ∷ b) p q = refl
+paired_more (suc i) (x ∷ a) (y ∷ b) p q = ap (λ (m : List Name). record { hi = x; lo = y } ∷ m) (paired_more i a b (omega arith) (omega arith))
+
+-- one name more
+pub joined_more : (ns : List Name) (a b : List ℕ) (i : ℕ) → i < length ns → i < length a → i < length b → take i ns ≡ paired (take i a) (take i b)
+    → take (i + 1) (set ns i (record { hi = get_or a i 0; lo = get_or b i 0 })) ≡ paired (take (i + 1) a) (take (i + 1) b)
+joined_more ns a b i h p q e =
+    rw (add-one i, take-suc-set ns i (record { hi = get_or a i 0; lo = get_or b i 0 }) h, e, paired_more i a b p q)
+
+-- all of them
+pub joined_all : (ns : List Name) (a b : List ℕ) (n : ℕ) → length ns ≤ n → length a ≤ n → length b ≤ n → take n ns ≡ paired (take n a) (take n b) → ns ≡ paired a b
+joined_all ns a b n h p q e = sym (take_all n ns h) ∙ e ∙ ap₂ paired (take_all n a p) (take_all n b q)
 
 -- the names found in the arrays, as many as the statement says
 pub found : (text : List ℕ) (t : Statement) (x y hs ls : List ℕ) → read_of text ≡ Ok t → length x ≡ 128 → length y ≡ 128

@@ -2,12 +2,13 @@
 #![tactic(auto)]
 
 ghost use Rattle.std.specs.Prelude.{◌≡◌, length};
-ghost use Rattle.statement.specs.Reading.{read_of, registers_of};
+ghost use Rattle.statement.specs.Reading.{read_of, registers_of, paired};
 ghost use Rattle.writer.specs.Outputs.{written_of, left_by};
 ghost use Rattle.canonical.specs.Alone.{alone_of, alone_in, rewritten, left_of};
 
 use reasons::Reason;
 use statement::{Misread, Statement};
+use tokens::Name;
 
 // Why a text is refused, and the column that it is found in, from 1.
 #[derive(Clone, Copy, Debug, PartialEq, Eq)]
@@ -46,6 +47,20 @@ pub fn judge_text(text: &[u8]) -> Result<(), Refusal>
     }
 }
 
+// The names that two arrays hold.
+fn joined(hi: &[u64; 128], lo: &[u64; 128]) -> [Name; 128]
+    ensures { result ≡ paired hi.now lo.now }
+{
+    let mut names = [Name { hi: 0, lo: 0 }; 128];
+    for i in 0..128 {
+        names[i] = Name {
+            hi: hi[i],
+            lo: lo[i],
+        };
+    }
+    names
+}
+
 // The canonical text of a text that reads, with two arrays for its registers' names.
 fn rewrite_in(
     text: &[u8],
@@ -59,7 +74,7 @@ fn rewrite_in(
     ensures left { room.new ≡ left_by room.old t (registers_of text.now) }
 {
     reader::registers(text, hi, lo);
-    writer::write(t, hi, lo, room)
+    writer::write(t, &joined(hi, lo), room)
 }
 
 // The canonical text of a statement in the first places of a room, and how long it is; a text that does not read gives

@@ -16,11 +16,13 @@ pub struct Text<const N: usize> {
 
 // Clauses see the text, and none once a part was refused.
 impl<const N: usize> Model for Text<N> {
-    ghost use Rattle.std.specs.Prelude.{ℕ, List, Option, Some, None, cond};
+    ghost use Rattle.std.specs.Prelude.{ℕ, ◌≤◌, List, Option, Some, None, cond, length};
 
     ghost Value = { Option (List ℕ) };
 
     ghost view = { λ t. cond t.refused None (Some t.bytes.items) };
+
+    ghost invariant = { λ t. length t.bytes.items ≤ N };
 }
 
 impl<const N: usize> Text<N> {

@@ -1,31 +1,20 @@
 -- A packed name is such as reading gives exactly where its halves are: no first half is short before a second one. Assumes nothing.
 use Prim.Native.Nat.{ℕ, zero, suc, ◌+◌, ◌-◌, ◌*◌, ◌/◌, ◌%◌, ◌^◌, ◌<◌, ◌≤◌}
 use native.Mathlib.Omega.{arith}
-use native.Mathlib.Numerals.{add-one}
 use mathlib.Core.Path.{◌≡◌, refl, sym, ap, ◌∙◌}
 use mathlib.Core.List.{List, [], ◌∷◌, ◌++◌, append-nil}
 use mathlib.Core.Bool.{Bool, true, false, ◌&&◌, ◌||◌, cond, and_assoc, and_comm}
-use lib.ListN.{length, get_or, take, drop, length-append, length-drop, drop_of_length-le}
-use lib.Seq.{take_all, take_at, drop_at, take-append-add, drop-cons}
+use lib.ListN.{length, get_or, take, drop, length-append, drop_of_length-le}
+use lib.Seq.{take_all, take_at, drop_at, take-append-add}
 use lib.Dec.{ltb, leb, eqb}
 use borrow.Author.Tests.{eq-eqb, ne_eqb, eqb-true, eqb-false}
 use Rattle.tokens.specs.declared.Name.{Name}
 use Rattle.tokens.specs.Bytes.{letter, word_byte, all}
 use Rattle.tokens.specs.Names.{sigil, is_name, byte_digits, packed, low_bytes, strip, name_bytes, name_given}
-use Rattle.writer.specs.Outputs.{failed_at, Out, out_seen, add_c, halves_given}
+use Rattle.writer.specs.Outputs.{halves_given}
 use Rattle.tokens.proofs.Lengths.{strip_short, low_length}
-use Rattle.laws.proofs.BoolLaws.{same_test}
-use Rattle.laws.proofs.StoreLaws.{tail_is}
-use Rattle.writer.proofs.Laws.{refused, join}
+use Rattle.writer.proofs.Laws.{all_append}
 use Rattle.pieces.proofs.DigitLaws.{power, short, q256, r256, less256, bytes_law}
-
--- two tests that hold together
-eqb_iff : (a b c d : ℕ) → (a ≡ b → c ≡ d) → (c ≡ d → a ≡ b) → eqb a b ≡ eqb c d
-eqb_iff a b c d f g = same_test (eqb a b) (eqb c d) (λ e. eq-eqb c d (f (eqb-true a b e))) (λ e. eq-eqb a b (g (eqb-true c d e)))
-
-all_append : (f : ℕ → Bool) (l m : List ℕ) → all f (l ++ m) ≡ (all f l && all f m)
-all_append f [] m = refl
-all_append f (x ∷ l) m = rw (all_append f l m, and_assoc (f x) (all f l) (all f m))
 
 -- ---- `halves`
 none_by : (y : List ℕ) → false ≡ halves_given [] y
@@ -33,29 +22,23 @@ unfolding halves_given is_name
 none_by [] = refl
 none_by (x ∷ l) = rw (ne_eqb (suc (length l)) 0 (λ e. absurd (omega arith)))
 
-pub halves_none : (h y : List ℕ) (a : ℕ) → length h ≤ a → false ≡ halves_given (drop a h) y
-halves_none h y a e = rw (drop_of_length-le h e) (none_by y)
+pub halves_none : (h y : List ℕ) → length h < 1 → false ≡ halves_given h y
+halves_none [] y e = none_by y
+halves_none (x ∷ h) y e = absurd (omega arith)
 
 some_by : (x : ℕ) (l y : List ℕ) (n : ℕ) → length (l ++ y) ≡ n
     → ((letter x || sigil x && ltb 0 n) && leb n 15) && (all word_byte l && all word_byte y) ≡ is_name (x ∷ (l ++ y))
 unfolding is_name
 some_by x l y n e = rw (← e, ← all_append word_byte l y) (and_assoc (letter x || sigil x && ltb 0 (length (l ++ y))) (leb (length (l ++ y)) 15) (all word_byte (l ++ y)))
 
-pub halves_some : (h l : List ℕ) (a b : ℕ) (s p q : Bool) → length h ≡ 8 → length l ≡ 8 → a < 8 → b ≤ 8
-    → s ≡ ((letter (get_or h a 0) || sigil (get_or h a 0) && ltb 0 (7 - a + (8 - b))) && leb (7 - a + (8 - b)) 15)
-    → p ≡ all word_byte (drop (a + 1) h) → q ≡ all word_byte (drop b l)
-    → ((eqb a 0 || eqb b 8) && (s && (p && q))) ≡ halves_given (drop a h) (drop b l)
+pub halves_some : (h y : List ℕ) (s p q : Bool) → 1 ≤ length h
+    → s ≡ ((letter (get_or h 0 0) || sigil (get_or h 0 0) && ltb 0 (length (take (length h - 1) (drop 1 h)) + length y)) && leb (length (take (length h - 1) (drop 1 h)) + length y) 15)
+    → p ≡ all word_byte (take (length h - 1) (drop 1 h)) → q ≡ all word_byte y → ((eqb (length h) 8 || eqb (length y) 0) && (s && (p && q))) ≡ halves_given h y
 unfolding halves_given
-halves_some h l a b s p q eh el ha hb es ep eq =
-    let x = get_or h a 0 in
-    let r = drop (suc a) h in
-    let y = drop b l in
-    let lr : length r ≡ 7 - a = omega (arith, length-drop (suc a) h) in
-    let ly : length y ≡ 8 - b = omega (arith, length-drop b l) in
-    let n : length (r ++ y) ≡ 7 - a + (8 - b) = omega (arith, length-append r y) in
-    let u : eqb a 0 ≡ eqb (suc (length r)) 8 = eqb_iff a 0 (suc (length r)) 8 (λ e. omega arith) (λ e. omega arith) in
-    let v : eqb b 8 ≡ eqb (length y) 0 = eqb_iff b 8 (length y) 0 (λ e. omega arith) (λ e. omega arith) in
-    rw (es, ep, eq, add-one a, some_by x r y (7 - a + (8 - b)) n, u, v, drop-cons h a 0 (omega arith))
+halves_some [] y s p q e es ep eq = absurd (omega arith)
+halves_some (x ∷ l) y s p q e es ep eq =
+    let t : take (suc (length l) - 1) l ≡ l = take_all (suc (length l) - 1) l (omega arith) in
+    rw (es, ep, eq, t, some_by x l y (length l + length y) (length-append l y))
 
 -- ---- packing
 append_digits : (v : ℕ) (l m : List ℕ) → byte_digits v (l ++ m) ≡ byte_digits (byte_digits v l) m
@@ -128,26 +111,3 @@ given_law n a b =
     let y = strip (low_bytes 8 n.lo) in
     let e : Same x y n.hi n.lo ≡ (eqb (length x) 8 || eqb (length y) 0) = same x y n.hi n.lo (half_length n.hi) (half_value n.hi a) (half_value n.lo b) (led (low_bytes 8 n.lo)) in
     rw e (and_comm (is_name (x ++ y)) (eqb (length x) 8 || eqb (length y) 0))
-
--- ---- `name`: h from a on and l from b on are the two halves
-module _ (n : Name) (h l : List ℕ) (a b : ℕ) (ok : Bool) (eh : drop a h ≡ strip (low_bytes 8 n.hi)) (el : drop b l ≡ strip (low_bytes 8 n.lo)) (is : ok ≡ halves_given (drop a h) (drop b l)) (hi : n.hi < 2 ^ 64) (lo : n.lo < 2 ^ 64) where
-  name_by : name_given n ≡ ok
-  name_by = rw (is, eh, el) (given_law n hi lo)
-
-  -- a name that is not such as reading gives
-  pub name-none : (t : List ℕ) (at : ℕ) → ok ≡ false → out_seen t failed_at ≡ add_c (name_bytes n) (name_given n) (out_seen t at)
-  name-none t at e = rw (name_by, e) (refused t (name_bytes n) at)
-
-  module _ (ah : length h ≡ 8) (al : length l ≡ 8) (o u : Out) (e : ok ≡ true) (p : u ≡ add_c (take (8 - a) (drop a h)) true o) where
-    -- one half after the other
-    pub name-some : (r : Out) → r ≡ add_c (take (8 - b) (drop b l)) true u → r ≡ add_c (name_bytes n) (name_given n) o
-    unfolding name_bytes
-    name-some r q = rw (name_by, e, q, p, tail_is h 8 a ah, tail_is l 8 b al, eh, el, join)
-
-    -- the first alone, where the second is empty
-    pub name_short : 8 ≤ b → u ≡ add_c (name_bytes n) (name_given n) o
-    unfolding name_bytes
-    name_short g =
-        let f : length l ≤ b = omega arith in
-        let z : strip (low_bytes 8 n.lo) ≡ [] = sym el ∙ drop_of_length-le l f in
-        rw (name_by, e, p, tail_is h 8 a ah, eh, z, append-nil)

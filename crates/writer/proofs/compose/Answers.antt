@@ -1,11 +1,14 @@
 -- `writer::compose` meets its contract: each statement is added by the function of its form. Assumes nothing.
+use Rattle.std.proofs.Common.{append_assoc, [], ◌∷◌}
+use Rattle.tokens.specs.Text.{byte}
+use Rattle.tokens.specs.Names.{name_bytes}
 use Rattle.statement.specs.Forms.{word}
 use Rattle.statement.specs.Canonical.{row_text, more_row_text, row_given, text_of, given}
 use Rattle.writer.proofs.compose.Goals as goal
 
 pub returns-in-Mov32 : goal.returns-in-Mov32
 unfolding word row_text more_row_text row_given text_of given
-returns-in-Mov32 c = rw c.in-Mov32.is c.name_number.ensures
+returns-in-Mov32 c = rw (c.in-Mov32.is, c.name_number.ensures, c.from.ensures)
 
 pub returns-in-Mov64 : goal.returns-in-Mov64
 unfolding word row_text more_row_text row_given text_of given
@@ -13,11 +16,11 @@ returns-in-Mov64 c = rw c.in-Mov64.is c.name_number-in-Mov64.ensures
 
 pub returns-in-Alloc : goal.returns-in-Alloc
 unfolding word row_text more_row_text row_given text_of given
-returns-in-Alloc c = rw c.in-Alloc.is c.name_number-in-Alloc.ensures
+returns-in-Alloc c = rw (c.in-Alloc.is, append_assoc (name_bytes c.in-Alloc.n) (byte "]" ∷ []), c.name_number-in-Alloc.ensures, c.from-in-Alloc.ensures)
 
 pub returns-in-Dealloc : goal.returns-in-Dealloc
 unfolding word row_text more_row_text row_given text_of given
-returns-in-Dealloc c = rw c.in-Dealloc.is c.name_number-in-Dealloc.ensures
+returns-in-Dealloc c = rw (c.in-Dealloc.is, c.name_number-in-Dealloc.ensures, c.from-in-Dealloc.ensures)
 
 pub returns-in-Relinquish : goal.returns-in-Relinquish
 unfolding word row_text row_given text_of given

@@ -1,9 +1,7 @@
 -- `writer::form::multiply` meets its contract: the additions follow the row that the metadata decides. Assumes nothing.
-use mathlib.Core.List.{[], ◌∷◌}
-use mathlib.Core.Bool.{true, false}
+use Rattle.std.proofs.Common.{[], ◌∷◌, true, false}
 use Rattle.statement.specs.declared.Opcode.TheVariants.{Multiply}
-use Rattle.statement.specs.Forms.{word, name, address, operand}
-use Rattle.writer.specs.Outputs.{out_seen}
+use Rattle.statement.specs.Forms.{word, address, operand, name}
 use Rattle.writer.proofs.Rows.{row_law}
 use Rattle.writer.proofs.form.multiply.Goals as goal
 
@@ -11,12 +9,12 @@ pub returns-in-Dense : goal.returns-in-Dense
 returns-in-Dense c =
     let a = c.args in
     let m = a.m in
-    rw (c.in-Dense.is, c.mma_back.ensures, c.mma_front-a.ensures)
-    (row_law (word (Multiply m.ws false m.kind)) address (operand ∷ name ∷ name ∷ name ∷ []) (m.d, (m.a, (m.b, (m.idesc, (m.predicate, tt))))) (out_seen a.t.now 0))
+    rw (c.in-Dense.is, c.mma_back.ensures, c.mma_front.ensures)
+    (row_law (word (Multiply m.ws false m.kind)) address (operand ∷ name ∷ name ∷ name ∷ []) (m.d, (m.a, (m.b, (m.idesc, (m.predicate, tt))))) a.t.now)
 
 pub returns-in-Sparse : goal.returns-in-Sparse
 returns-in-Sparse c =
     let a = c.args in
     let m = a.m in
-    rw (c.in-Sparse.is, c.mma_back-in-Sparse.ensures, c.address-c.ensures, c.put-b.ensures, c.mma_front-a-in-Sparse.ensures)
-    (row_law (word (Multiply m.ws true m.kind)) address (operand ∷ name ∷ address ∷ name ∷ name ∷ []) (m.d, (m.a, (m.b, (_, (m.idesc, (m.predicate, tt)))))) (out_seen a.t.now 0))
+    rw (c.in-Sparse.is, c.mma_back-in-Sparse.ensures, c.address.ensures, c.put.ensures, c.mma_front-in-Sparse.ensures)
+    (row_law (word (Multiply m.ws true m.kind)) address (operand ∷ name ∷ address ∷ name ∷ name ∷ []) (m.d, (m.a, (m.b, (_, (m.idesc, (m.predicate, tt)))))) a.t.now)

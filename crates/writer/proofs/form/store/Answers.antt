@@ -1,23 +1,16 @@
 -- `writer::form::store` meets its contract: the additions follow the row of its opcode, and the count goes with the names. Assumes nothing.
-use lib.ListN.{length}
-use lib.Dec.{eqb}
+use Rattle.std.proofs.Common.{eqb, length, take}
 use Rattle.statement.specs.declared.Opcode.TheVariants.{Store}
 use Rattle.statement.specs.Forms.{word, names}
 use Rattle.statement.specs.Canonical.{row_text, more_row_text, row_given, slot_given, names_text, address_text, address_given}
-use Rattle.writer.specs.Outputs.{out_seen, firsts}
 use Rattle.writer.proofs.Rows.{store_law}
 use Rattle.writer.proofs.form.store.Goals as goal
 
 pub returns : goal.returns
 unfolding word row_text more_row_text row_given
 returns c =
-    let c₁ = c in
-    let c₂ = c₁ in
-    let c₃ = c₂ in
-    let c₄ = c₃ in
-    let a = c₄.args in
+    let a = c.args in
     let x = a.a in
-    let ns = firsts a.hi.now a.lo.now x.registers in
-    let w = word (Store x.shape x.num) in
-    rw (c.put.ensures, c₁.names-e.ensures, c₂.put-d.ensures, c₃.address-c.ensures, c₄.access_word-b.ensures)
-    (store_law w (address_text x.address) (names_text ns) (eqb x.registers (length ns)) (address_given x.address) (slot_given names ns) (out_seen a.t.now 0))
+    let ns = take x.registers a.registers.now in
+    rw (c.put-2.ensures, c.names.ensures, c.put.ensures, c.address.ensures, c.access_word.ensures)
+    (store_law (word (Store x.shape x.num)) (address_text x.address) (names_text ns) (eqb x.registers (length ns)) (address_given x.address) (slot_given names ns) a.t.now)

@@ -1,34 +1,26 @@
--- `writer::operand::names` meets its contract: each test that fails refuses what is not given, and after all of them the names alone decide. Assumes nothing.
-use Prim.Native.Nat.{◌<◌}
-use native.Mathlib.Omega.{arith}
-use Rattle.statement.specs.Canonical.{names_text}
-use Rattle.writer.specs.Outputs.{firsts}
-use Rattle.writer.proofs.Laws.{refused}
-use Rattle.writer.proofs.Rows.{names-zero, names_many, names_left, names_right, names-all}
+-- `writer::operand::names` meets its contract: a count that does not fit is refused, as it is not given. Assumes nothing.
+use Rattle.std.proofs.Common.{take, ap, sym, ◌∙◌}
+use Rattle.std.proofs.lemmas.Slice.{first_rest}
+use Rattle.statement.specs.Canonical.{names_text, all_names}
+use Rattle.pieces.proofs.Texts.{added_none}
+use Rattle.writer.specs.Outputs.{capacity, add_c}
+use Rattle.writer.proofs.Rows.{names_empty, names_none, names_all}
 use Rattle.writer.proofs.operand.names.Goals as goal
-
-pub returns-then-count-eq0 : goal.returns-then-count-eq0
-returns-then-count-eq0 c =
-    let a = c.args in
-    rw (names-zero a.hi.now a.lo.now a.count c.if-count-eq0.true) (refused a.t.now (names_text (firsts a.hi.now a.lo.now a.count)) a.at)
 
 pub returns-then-count-gt-NAMES : goal.returns-then-count-gt-NAMES
 returns-then-count-gt-NAMES c =
     let a = c.args in
-    rw (names_many a.hi.now a.lo.now a.count c.if-count-gt-NAMES.true) (refused a.t.now (names_text (firsts a.hi.now a.lo.now a.count)) a.at)
+    rw (names_none a.names.now a.count c.then-count-gt-NAMES.either) (c.refuse.ensures ∙ added_none capacity (names_text (take a.count a.names.now)) a.t.now)
 
-pub returns-then-hi-count : goal.returns-then-hi-count
-returns-then-hi-count c =
+pub returns-in-empty : goal.returns-in-empty
+returns-in-empty c =
     let a = c.args in
-    rw (names_left a.hi.now a.lo.now a.count c.if-hi-count.true) (refused a.t.now (names_text (firsts a.hi.now a.lo.now a.count)) a.at)
+    let ns = take a.count a.names.now in
+    rw (names_empty a.count ns c.in-empty.len_below) (c.refuse-in-empty.ensures ∙ added_none capacity (names_text ns) a.t.now)
 
-pub returns-then-lo-count : goal.returns-then-lo-count
-returns-then-lo-count c =
+pub returns-in-len1-up : goal.returns-in-len1-up
+returns-in-len1-up c =
     let a = c.args in
-    rw (names_right a.hi.now a.lo.now a.count c.if-lo-count.true) (refused a.t.now (names_text (firsts a.hi.now a.lo.now a.count)) a.at)
-
-pub returns : goal.returns
-returns c =
-    let a = c.args in
-    let some : 0 < a.count = omega arith in
-    rw (names-all a.hi.now a.lo.now a.count some (omega arith) (omega arith) (omega arith)) c.listed.ensures
+    let ns = take a.count a.names.now in
+    rw (names_all a.names.now a.count c.if-count-gt-NAMES.false c.if-names-count.false c.in-len1-up.len_at_least)
+    (c.listed.ensures ∙ ap (λ l. add_c (names_text l) (all_names l) a.t.now) (sym (first_rest ns _ c.in-len1-up.len_at_least)))

@@ -1,13 +1,10 @@
--- `writer::output::halves` meets its contract: a first half with a byte is tested by its first byte, its length and the other bytes. Assumes nothing.
-use native.Mathlib.Omega.{arith}
-use lib.ListN.{drop}
+-- `writer::output::halves` meets its contract: a first half with a byte is tested by its first byte, the length and the other bytes. Assumes nothing.
 use Rattle.writer.proofs.Halves.{halves_none, halves_some}
 use Rattle.writer.proofs.output.halves.Goals as goal
 
-pub returns-then-a-ge8 : goal.returns-then-a-ge8
-returns-then-a-ge8 c = let a = c.args in halves_none a.h.now (drop a.b a.l.now) a.a (omega arith)
+pub returns-in_default : goal.returns-in_default
+returns-in_default c = halves_none c.args.h.now c.args.l.now c.in_default.len_below
 
 pub returns : goal.returns
 returns c =
-    let a = c.args in
-    halves_some a.h.now a.l.now a.a a.b c.shaped.result c.all_words.result c.all_words-2.result (omega arith) (omega arith) (omega arith) (omega arith) c.shaped.ensures c.all_words.ensures c.all_words-2.ensures
+    halves_some c.args.h.now c.args.l.now c.shaped-shaped.result c.all_words.result c.all_words-2.result c.in-len1-up.len_at_least c.shaped-shaped.ensures c.all_words.ensures c.all_words-2.ensures
