@@ -35,7 +35,7 @@ fn is_lane(warp: u8, lanes: usize, offset: u32) -> bool
 {
     let lane = offset / LANE;
     let first = 32 * u32::from(warp);
-    (lane == first) | ((lanes == 16) & (lane == first + 16))
+    lane == first || (lanes == 16 && lane == first + 16)
 }
 
 // Some columns from an offset's column on are among those of an allocation.
@@ -49,7 +49,7 @@ fn ends_within(offset: u32, needed: u32, columns: u32) -> bool
 fn mma_within(offset: u32, needed: u32, columns: u32) -> bool
     ensures { result ≡ eqb (offset / per_lane) 0 && leb (offset % per_lane + needed) columns }
 {
-    (offset / LANE == 0) & ends_within(offset, needed, columns)
+    offset / LANE == 0 && ends_within(offset, needed, columns)
 }
 
 // The columns of an access.
@@ -160,6 +160,7 @@ pub fn metadata_tested(ledger: &Ledger, metadata: Metadata) -> Tested
     }
 }
 
+// There is metadata.
 pub fn is_sparse(metadata: Metadata) -> bool
     ensures { result ≡ sparse metadata }
 {
@@ -188,6 +189,7 @@ pub fn word_of(value: Option<Value>) -> Option<u32>
 }
 
 // The reason of an mma from the allocation of d, the tests of the operands a and b and of the metadata e, and the word of idesc.
+// `&` on tests that are there already: `&&` has thirteen ways through in place of six, and as many goals.
 fn operands_reason(
     m: Mma,
     d: Option<Span>,
