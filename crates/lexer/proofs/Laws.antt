@@ -1,5 +1,5 @@
 -- Laws of runs, tokens and digits, which the functions' proofs cite. Assumes nothing.
-use Prim.Native.Nat.{ℕ, suc, ◌+◌, ◌-◌, ◌<◌, ◌≤◌}
+use Prim.Native.Nat.{ℕ, suc, ◌+◌, ◌<◌, ◌≤◌}
 use native.Mathlib.Omega.{arith}
 use native.Mathlib.Decide.{dec_le}
 use mathlib.Core.Path.{◌≡◌, refl, ap}
@@ -10,7 +10,6 @@ use lib.Seq.{drop-cons, drop-drop}
 use lib.Dec.{leb, eqb}
 use borrow.Author.Tests.{eq-eqb, ne_eqb, le-leb, lt-leb}
 use Rattle.tokens.specs.Bytes.{letter, word_byte, opcode_byte, blank, run_len, token_len, after_token, after_blanks}
-use Rattle.tokens.specs.Numbers.{digit_of}
 use Rattle.tokens.specs.declared.Cursor.{Cursor}
 use Rattle.tokens.specs.Cursors.{Rest, seen}
 use Rattle.tokens.proofs.Runs.{run_le}
@@ -54,34 +53,6 @@ module _ (x : ℕ) where
   opcode_mid g h =
       simp (lt-leb 97 x h, le-leb 48 x (omega arith), lt-leb x 57 (omega arith), ne_eqb x 46 (omega arith), ne_eqb x 58 (omega arith), or-false)
 
-  pub digit_09 : 48 ≤ x → x ≤ 57 → x - 48 ≡ digit_of x
-  unfolding digit_of
-  digit_09 g h = rw (le-leb 48 x g, le-leb x 57 h)
-
-  pub digit-AF : 65 ≤ x → x ≤ 70 → x - 55 ≡ digit_of x
-  unfolding digit_of
-  digit-AF g h = rw (le-leb 48 x (omega arith), lt-leb x 57 (omega arith), le-leb 65 x g, le-leb x 70 h)
-
-  pub digit_af : 97 ≤ x → x ≤ 102 → x - 87 ≡ digit_of x
-  unfolding digit_of
-  digit_af g h = rw (le-leb 48 x (omega arith), lt-leb x 57 (omega arith), le-leb 65 x (omega arith), lt-leb x 70 (omega arith), le-leb 97 x g, le-leb x 102 h)
-
-  pub digit_before : x < 48 → 16 ≡ digit_of x
-  unfolding digit_of
-  digit_before h = rw (lt-leb 48 x h, lt-leb 65 x (omega arith), lt-leb 97 x (omega arith))
-
-  pub digit_after_9 : 57 < x → x < 65 → 16 ≡ digit_of x
-  unfolding digit_of
-  digit_after_9 g h = rw (le-leb 48 x (omega arith), lt-leb x 57 g, lt-leb 65 x h, lt-leb 97 x (omega arith))
-
-  pub digit_after-F : 70 < x → x < 97 → 16 ≡ digit_of x
-  unfolding digit_of
-  digit_after-F g h = rw (le-leb 48 x (omega arith), lt-leb x 57 (omega arith), le-leb 65 x (omega arith), lt-leb x 70 g, lt-leb 97 x h)
-
-  pub digit_after_f : 102 < x → 16 ≡ digit_of x
-  unfolding digit_of
-  digit_after_f h = rw (le-leb 48 x (omega arith), lt-leb x 57 (omega arith), le-leb 65 x (omega arith), lt-leb x 70 (omega arith), le-leb 97 x (omega arith), lt-leb x 102 h)
-
 pub word_0 : word_byte 0 ≡ false
 unfolding word_byte letter
 word_0 = refl
@@ -114,9 +85,8 @@ token_within s i h = omega (arith, token_le (drop i s), length-drop i s)
 pub blank-within : (s : List ℕ) (at i : ℕ) → i ≡ at + run_len blank (drop at s) → at ≤ length s → i ≤ length s
 blank-within s at i e h = omega (arith, run_le blank (drop at s), length-drop at s)
 
-pub end-within : (s : List ℕ) (i e : ℕ) (b : Bool) → e ≡ cond b (i + token_len (drop i s)) i → i ≤ length s → e ≤ length s
-end-within s i e true t h = omega (arith, t, token_within s i h)
-end-within s i e false t h = omega (arith, t)
+pub end-within : (s : List ℕ) (i e : ℕ) → e ≡ i + token_len (drop i s) → i ≤ length s → e ≤ length s
+end-within s i e t h = omega (arith, t, token_within s i h)
 
 pub far_within : (n : ℕ) (b : Bool) (a i : ℕ) → a ≤ n → i ≤ n → cond b a i ≤ n
 far_within n true a i g h = g

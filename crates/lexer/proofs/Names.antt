@@ -16,7 +16,7 @@ use Rattle.tokens.specs.declared.Name.{Name}
 use Rattle.tokens.specs.Bytes.{between, letter, word_byte, run_len, token_len, token_of, after_token}
 use Rattle.tokens.specs.Names.{sigil, is_name, byte_digits, packed, no_name}
 use Rattle.tokens.specs.Cursors.{Rest, Took, on, off, name_here}
-use Rattle.lexer.specs.Runs.{words_len, there_by, name_there}
+use Rattle.lexer.specs.Runs.{words_len, NameThere, there_by, name_there}
 use mathlib.Core.Bool.{and-false, and-true}
 use Rattle.laws.proofs.BoolLaws.{and_split, or_neither}
 use Rattle.laws.proofs.ListLaws.{drop-take}
@@ -187,13 +187,21 @@ module _ (s : List ℕ) (at : ℕ) where
             rw (there, whole_by, y, le-leb (7 + n) 15 (omega arith), p, r, drop-drop (7 + n) (at + 1) s, q, ← pack_long x n (drop (at + 1) s), rest_by)
 
 -- ---- the name at the cursor
-pub here_law : (r : Rest) (l : List ℕ)
-    → record { value = (name_there l).value; next = record { rest = (name_there l).rest; ok = (name_there l).ok; over = r.over; far = r.far } } ≡ name_here r l
-unfolding name_there
-here_law r l = by (is_name (token_of l))
-  where
-    by : (b : Bool) → ◌≡◌ {A = Took Name}
-        (record { value = (there_by b l).value; next = record { rest = (there_by b l).rest; ok = (there_by b l).ok; over = r.over; far = r.far } })
-        (cond b (record { value = packed (token_of l); next = on r (after_token l) }) (record { value = no_name; next = off r l }))
-    by true = refl
-    by false = refl
+module _ (r : Rest) (l : List ℕ) where
+  pub name_is : (n : Name) (m : List ℕ) → ◌≡◌ {A = NameThere} (record { ok = true; value = n; rest = m }) (name_there l) → record { value = n; next = on r m } ≡ name_here r l
+  unfolding name_there
+  name_is n m e = by (is_name (token_of l)) e
+    where
+      by : (b : Bool) → ◌≡◌ {A = NameThere} (record { ok = true; value = n; rest = m }) (there_by b l)
+          → ◌≡◌ {A = Took Name} (record { value = n; next = on r m }) (cond b (record { value = packed (token_of l); next = on r (after_token l) }) (record { value = no_name; next = off r l }))
+      by true e = ap (λ (t : NameThere). record { value = t.value; next = on r t.rest }) e
+      by false e = absurd (true≢false (ap (λ (t : NameThere). t.ok) e))
+
+  pub name_none : ◌≡◌ {A = NameThere} (record { ok = false; value = no_name; rest = l }) (name_there l) → record { value = no_name; next = off r l } ≡ name_here r l
+  unfolding name_there
+  name_none e = by (is_name (token_of l)) e
+    where
+      by : (b : Bool) → ◌≡◌ {A = NameThere} (record { ok = false; value = no_name; rest = l }) (there_by b l)
+          → ◌≡◌ {A = Took Name} (record { value = no_name; next = off r l }) (cond b (record { value = packed (token_of l); next = on r (after_token l) }) (record { value = no_name; next = off r l }))
+      by true e = absurd (true≢false (ap (λ (t : NameThere). t.ok) (sym e)))
+      by false e = refl

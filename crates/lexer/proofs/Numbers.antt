@@ -10,42 +10,47 @@ use mathlib.Core.Bool.{Bool, true, false, ◌&&◌, ◌||◌, not, true≢false,
 use lib.ListN.{length, get_or, take, drop, drop_of_length-le}
 use lib.Seq.{drop-cons, drop-drop, get_or-drop, length-take-le}
 use lib.Dec.{ltb, leb, eqb}
-use borrow.Author.Tests.{eq-eqb, ne_eqb, eqb-true, le-leb, lt-leb, lt-ltb, le-ltb, ltb-true, ltb-false}
+use borrow.Author.Tests.{eq-eqb, ne_eqb, eqb-true, le-leb, lt-leb, lt-ltb, le-ltb, ltb-false}
+use Rattle.std.specs.Prelude.{Option, None, Some}
+use Rattle.std.proofs.lemmas.Option.{none-some, cond_some}
 use Rattle.laws.proofs.BoolLaws.{never, and_l, and_split}
 use Rattle.tokens.specs.declared.Numeral.{Numeral}
 use Rattle.tokens.specs.Text.{bytes}
 use Rattle.tokens.specs.Bytes.{same_bytes, word_byte, letter, run_len, all, token_len, token_of, after_token}
-use Rattle.tokens.specs.Numbers.{digit_of, among, positional, Notation, hexadecimals, binaries, octals, decimals, notations, begins, row_for, row_of, body, digits_len, ending, spells, worth, is_number, value_of, numeral_of, fitted, no_numeral}
+use Rattle.tokens.specs.Numbers.{digit_of, among, positional, Notation, hexadecimals, binaries, octals, decimals, notations, begins, row_for, row_of, body, digits_len, ending, spells, worth, is_number, value_of, numeral_of, fit}
 use Rattle.tokens.specs.Cursors.{Rest, on, off, number_here}
 use Rattle.lexer.specs.declared.number.Base.{Base}
 use Rattle.lexer.specs.declared.number.Base.TheVariants as base
-use Rattle.lexer.specs.Runs.{notation_of, digit_below, roomy_of, words_of, suffix_len, row_numeral}
-use Rattle.tokens.proofs.Runs.{run_stop, run_past}
+use Rattle.lexer.specs.Runs.{notation_of, digit_below, row_for_base, words_of, suffix_len, row_numeral}
+use Rattle.tokens.proofs.Runs.{run_stop, run_past, run_prefix}
+use Rattle.std.specs.List.{prefix_len}
+use Rattle.std.proofs.lemmas.Slice.{between_to_end}
+use Rattle.lexer.specs.declared.number.Row.{Row}
 use Rattle.tokens.proofs.Lengths.{token_le}
 use Rattle.tokens.proofs.Notations.{among-each, not-among, digits_below_lem, digits_below, each, row-of, prefix_words, wordy, notations_wordy, begins-length, number-words}
 use Rattle.lexer.proofs.Laws.{word_0}
 
 -- ---- what is computed once for each base
-record Row (b : Base) : Type 0 where
+record Facts (b : Base) : Type 0 where
   below : digits_below_lem (notation_of b) ≡ true
   words : all word_byte (notation_of b).digits ≡ true
   unsigned : (notation_of b).unsigned ≡ true
   some : 0 < (notation_of b).base
   short : length (notation_of b).prefix ≤ 2
 
-row : (b : Base) → Row b
+facts : (b : Base) → Facts b
 unfolding digit_of word_byte letter
-row base.Hexadecimal = record { below = refl; words = refl; unsigned = refl; some = omega arith; short = omega arith }
-row base.Binary = record { below = refl; words = refl; unsigned = refl; some = omega arith; short = omega arith }
-row base.Octal = record { below = refl; words = refl; unsigned = refl; some = omega arith; short = omega arith }
-row base.Decimal = record { below = refl; words = refl; unsigned = refl; some = omega arith; short = omega arith }
+facts base.Hexadecimal = record { below = refl; words = refl; unsigned = refl; some = omega arith; short = omega arith }
+facts base.Binary = record { below = refl; words = refl; unsigned = refl; some = omega arith; short = omega arith }
+facts base.Octal = record { below = refl; words = refl; unsigned = refl; some = omega arith; short = omega arith }
+facts base.Decimal = record { below = refl; words = refl; unsigned = refl; some = omega arith; short = omega arith }
 
 pub prefix_le : (b : Base) → length (notation_of b).prefix ≤ 2
-prefix_le b = (row b).short
+prefix_le b = (facts b).short
 
 -- ---- digits
 digit_same : (b : Base) (x : ℕ) → among (notation_of b).digits x ≡ digit_below (notation_of b).base x
-digit_same b x = digits_below (notation_of b) (row b).below x
+digit_same b x = digits_below (notation_of b) (facts b).below x
 
 pub digit_no : (b : Base) (x : ℕ) → (notation_of b).base ≤ digit_of x → among (notation_of b).digits x ≡ false
 digit_no b x h = digit_same b x ∙ le-ltb _ _ h
@@ -61,51 +66,80 @@ pub run_below : (b : Base) (l : List ℕ) → run_len (digit_below (notation_of 
 run_below b l = sym (run_same (among (notation_of b).digits) (digit_below (notation_of b).base) (digit_same b) l)
 
 -- ---- room for a digit more
-pub room_below : (b : Base) (v d : ℕ) → d < (notation_of b).base → v ≤ roomy_of b → true ≡ ltb (v * (notation_of b).base + d) (2 ^ 64)
-room_below base.Hexadecimal v d h p = rw (lt-ltb (v * 16 + d) (2 ^ 64) (omega arith))
-room_below base.Binary v d h p = rw (lt-ltb (v * 2 + d) (2 ^ 64) (omega arith))
-room_below base.Octal v d h p = rw (lt-ltb (v * 8 + d) (2 ^ 64) (omega arith))
-room_below base.Decimal v d h p = rw (lt-ltb (v * 10 + d) (2 ^ 64) (omega arith))
+-- what the code keeps of a base is its row
+pub row_base : (b : Base) → (row_for_base b).base ≡ (notation_of b).base
+row_base base.Hexadecimal = refl
+row_base base.Binary = refl
+row_base base.Octal = refl
+row_base base.Decimal = refl
 
-room_last : (v d : ℕ) → d < 10 → 1844674407370955160 < v → (eqb v 1844674407370955161 && leb d 5) ≡ ltb (v * 10 + d) (2 ^ 64)
-room_last v d h g = go (dec_le (2 ^ 64) (v * 10 + d))
+pub row_prefix : (b : Base) → (row_for_base b).prefix ≡ length (notation_of b).prefix
+row_prefix base.Hexadecimal = refl
+row_prefix base.Binary = refl
+row_prefix base.Octal = refl
+row_prefix base.Decimal = refl
+
+pub row_fewest : (b : Base) → (row_for_base b).fewest ≡ (notation_of b).fewest
+row_fewest base.Hexadecimal = refl
+row_fewest base.Binary = refl
+row_fewest base.Octal = refl
+row_fewest base.Decimal = refl
+
+-- n, which is v and then the digit d, is below 2^64 exactly where v is below most, or at it and d at most the last digit
+room_by : (most last v d n : ℕ) → (v < most → n < 2 ^ 64) → (v ≡ most → d ≤ last → n < 2 ^ 64) → (v ≡ most → last < d → 2 ^ 64 ≤ n) → (most < v → 2 ^ 64 ≤ n)
+    → (ltb v most || eqb v most && leb d last) ≡ ltb n (2 ^ 64)
+room_by most last v d n below fits more above = go (dec_le (suc v) most) (dec_le v most) (dec_le d last)
   where
-    over : Dec (v ≤ 1844674407370955161) → (2 ^ 64 ≤ v * 10 + d) → (eqb v 1844674407370955161 && leb d 5) ≡ false
-    over (yes p) o = rw (eq-eqb v 1844674407370955161 (omega arith), lt-leb d 5 (omega arith))
-    over (no q) o = rw (ne_eqb v 1844674407370955161 (omega arith))
+    go : Dec (suc v ≤ most) → Dec (v ≤ most) → Dec (d ≤ last) → (ltb v most || eqb v most && leb d last) ≡ ltb n (2 ^ 64)
+    go (yes p) q r = rw (lt-ltb v most (omega arith), lt-ltb n (2 ^ 64) (below (omega arith)))
+    go (no p) (yes q) (yes r) =
+        let e : v ≡ most = omega arith in
+        rw (le-ltb v most (omega arith), eq-eqb v most e, le-leb d last r, lt-ltb n (2 ^ 64) (fits e r))
+    go (no p) (yes q) (no r) =
+        let e : v ≡ most = omega arith in
+        rw (le-ltb v most (omega arith), eq-eqb v most e, lt-leb d last (omega arith), le-ltb n (2 ^ 64) (more e (omega arith)))
+    go (no p) (no q) r = rw (le-ltb v most (omega arith), ne_eqb v most (omega arith), le-ltb n (2 ^ 64) (above (omega arith)))
 
-    go : Dec (2 ^ 64 ≤ v * 10 + d) → (eqb v 1844674407370955161 && leb d 5) ≡ ltb (v * 10 + d) (2 ^ 64)
-    go (yes p) = rw (le-ltb (v * 10 + d) (2 ^ 64) p) (over (dec_le v 1844674407370955161) p)
-    go (no q) = rw (lt-ltb (v * 10 + d) (2 ^ 64) (omega arith), eq-eqb v 1844674407370955161 (omega arith), le-leb d 5 (omega arith))
+pub room : (b : Base) (v d : ℕ) → d < (notation_of b).base → (ltb v (row_for_base b).most || eqb v (row_for_base b).most && leb d (row_for_base b).last) ≡ ltb (v * (notation_of b).base + d) (2 ^ 64)
+room base.Hexadecimal v d h = room_by _ _ v d (v * 16 + d) (λ p. omega arith) (λ p q. omega arith) (λ p q. omega arith) (λ p. omega arith)
+room base.Binary v d h = room_by _ _ v d (v * 2 + d) (λ p. omega arith) (λ p q. omega arith) (λ p q. omega arith) (λ p. omega arith)
+room base.Octal v d h = room_by _ _ v d (v * 8 + d) (λ p. omega arith) (λ p q. omega arith) (λ p q. omega arith) (λ p. omega arith)
+room base.Decimal v d h = room_by _ _ v d (v * 10 + d) (λ p. omega arith) (λ p q. omega arith) (λ p q. omega arith) (λ p. omega arith)
 
--- and past that
-abbrev room_by : Base → ℕ → ℕ → Bool
-room_by base.Hexadecimal v d = false
-room_by base.Binary v d = false
-room_by base.Octal v d = false
-room_by base.Decimal v d = eqb v 1844674407370955161 && leb d 5
+-- ---- a byte by the row that the code keeps
+module _ (b : Base) (r : Row) (e : r ≡ row_for_base b) where
+  row-base : r.base ≡ (notation_of b).base
+  row-base = ap (λ (r : Row). r.base) e ∙ row_base b
 
-room_over : (b : Base) (v d : ℕ) → d < (notation_of b).base → roomy_of b < v → room_by b v d ≡ ltb (v * (notation_of b).base + d) (2 ^ 64)
-room_over base.Hexadecimal v d h p = rw (le-ltb (v * 16 + d) (2 ^ 64) (omega arith))
-room_over base.Binary v d h p = rw (le-ltb (v * 2 + d) (2 ^ 64) (omega arith))
-room_over base.Octal v d h p = rw (le-ltb (v * 8 + d) (2 ^ 64) (omega arith))
-room_over base.Decimal v d h p = room_last v d h p
+  pub no_digit : (x d : ℕ) → d ≡ digit_of x → r.base ≤ d → (notation_of b).base ≤ digit_of x
+  no_digit x d g h = rw (g, row-base) at h
 
-pub room_past : (b k : Base) (most v d : ℕ) → b ≡ k → (most ≡ roomy_of b) × (d < (notation_of b).base) → most < v → room_by k v d ≡ ltb (v * (notation_of b).base + d) (2 ^ 64)
-room_past b k most v d e h g = ap (λ (k : Base). room_by k v d) (sym e) ∙ room_over b v d h.1 (rw h.0 at g)
+  pub is_digit : (x d : ℕ) → d ≡ digit_of x → d < r.base → digit_of x < (notation_of b).base
+  is_digit x d g h = rw (g, row-base) at h
+
+  pub room_row : (v d : ℕ) → d < (notation_of b).base → (ltb v r.most || eqb v r.most && leb d r.last) ≡ ltb (v * (notation_of b).base + d) (2 ^ 64)
+  room_row v d h = rw e (room b v d h)
+
+  pub count_digits : (s : List ℕ) (i n : ℕ) → n ≡ prefix_len (digit_below r.base) (take (length s - i) (drop i s)) → n ≡ digits_len (notation_of b) (drop i s)
+  count_digits s i n h =
+      h
+      ∙ ap (prefix_len (digit_below r.base)) (between_to_end s i (length s) (omega arith))
+      ∙ run_prefix (digit_below r.base) (drop i s)
+      ∙ ap (λ (k : ℕ). run_len (digit_below k) (drop i s)) row-base
+      ∙ run_below b (drop i s)
 
 -- a number is at least what stands before its last digits
 grows : (base v : ℕ) → 0 < base → (l : List ℕ) → v ≤ positional base v l
 grows base v h [] = omega arith
 grows base v h (x ∷ l) = omega (arith, grows base (v * base + digit_of x) h l, le-mul_of_pos_right v h)
 
-pub fit_small : (used v w : ℕ) → v < 2 ^ 64 → v ≡ w → record { ok = true; over = false; value = v; used = used } ≡ fitted used w
-unfolding fitted
-fit_small used v w h e = rw (← e, lt-ltb v (2 ^ 64) h)
+pub fit_small : (v w : ℕ) → v < 2 ^ 64 → v ≡ w → Some v ≡ fit w
+unfolding fit
+fit_small v w h e = rw (← e, lt-ltb v (2 ^ 64) h)
 
-pub fit_over : (used w : ℕ) → 2 ^ 64 ≤ w → record { ok = true; over = true; value = 0; used = used } ≡ fitted used w
-unfolding fitted
-fit_over used w h = rw (le-ltb w (2 ^ 64) h)
+pub fit_over : (w : ℕ) → 2 ^ 64 ≤ w → None ≡ fit w
+unfolding fit
+fit_over w h = rw (le-ltb w (2 ^ 64) h)
 
 -- the number that the digits are, after v
 abbrev pub digits_after : Notation → ℕ → List ℕ → ℕ
@@ -130,7 +164,7 @@ module _ (b : Base) (s : List ℕ) (v i : ℕ) where
   pub after-over : i < length s → digit_of (get_or s i 0) < (notation_of b).base → 2 ^ 64 ≤ v * (notation_of b).base + digit_of (get_or s i 0) → 2 ^ 64 ≤ digits_after (notation_of b) v (drop i s)
   after-over h g o =
       rw (after_step h g)
-      (omega (arith, grows (notation_of b).base (v * (notation_of b).base + digit_of (get_or s i 0)) (row b).some (take (digits_len (notation_of b) (drop (i + 1) s)) (drop (i + 1) s))))
+      (omega (arith, grows (notation_of b).base (v * (notation_of b).base + digit_of (get_or s i 0)) (facts b).some (take (digits_len (notation_of b) (drop (i + 1) s)) (drop (i + 1) s))))
 
 -- ---- the word bytes at the head
 -- of n bytes of a run at the head of l, all of them word bytes, and the word bytes w there
@@ -196,7 +230,7 @@ suffix_by (x ∷ m) h = go (eqb x 85) (word_byte x) refl refl h
 -- ---- a number by its row, in the words of the code: its digits start at `first` and end at `last`
 module _ (b : Base) (s : List ℕ) (first last : ℕ) (h : last ≡ first + digits_len (notation_of b) (drop first s)) where
   parts : Parts (among (notation_of b).digits) (drop first s) (digits_len (notation_of b) (drop first s)) (words_of (drop first s))
-  parts = words_parts (among (notation_of b).digits) (λ x. among-each word_byte (notation_of b).digits x (row b).words) (drop first s)
+  parts = words_parts (among (notation_of b).digits) (λ x. among-each word_byte (notation_of b).digits x (facts b).words) (drop first s)
 
   count : last - first ≡ digits_len (notation_of b) (drop first s)
   count = omega (arith, h)
@@ -206,28 +240,29 @@ module _ (b : Base) (s : List ℕ) (first last : ℕ) (h : last ≡ first + digi
 
   row-spells : spells (notation_of b) (words_of (drop first s)) ≡ (leb (notation_of b).fewest (last - first) && not (word_byte (get_or s (last + suffix_len (drop last s)) 0)))
   unfolding spells
-  row-spells = rw (parts.0, parts.2, after, count, (row b).unsigned, ending_by (drop last s), get_or-drop last s (suffix_len (drop last s)) 0)
+  row-spells = rw (parts.0, parts.2, after, count, (facts b).unsigned, ending_by (drop last s), get_or-drop last s (suffix_len (drop last s)) 0)
 
   row-worth : worth (notation_of b) (words_of (drop first s)) ≡ worth (notation_of b) (drop first s)
   unfolding worth
   row-worth = rw (parts.0, parts.1)
 
-  pub spelled_few : leb (notation_of b).fewest (last - first) ≡ false → no_numeral ≡ row_numeral (notation_of b) (drop first s)
+  pub spelled_few : leb (notation_of b).fewest (last - first) ≡ false → None ≡ row_numeral (notation_of b) (drop first s)
   unfolding row_numeral
   spelled_few e = rw (row-spells, e)
 
-  pub spelled_more : word_byte (get_or s (last + suffix_len (drop last s)) 0) ≡ true → no_numeral ≡ row_numeral (notation_of b) (drop first s)
+  pub spelled_more : word_byte (get_or s (last + suffix_len (drop last s)) 0) ≡ true → None ≡ row_numeral (notation_of b) (drop first s)
   unfolding row_numeral
   spelled_more e = rw (row-spells, e, and-false (leb (notation_of b).fewest (last - first)))
 
-  pub spelled_is : (used : ℕ) (d : Numeral) → leb (notation_of b).fewest (last - first) ≡ true → word_byte (get_or s (last + suffix_len (drop last s)) 0) ≡ false
-      → used ≡ length (notation_of b).prefix + (last - first) + suffix_len (drop last s) → d ≡ fitted used (worth (notation_of b) (drop first s)) → d ≡ row_numeral (notation_of b) (drop first s)
+  pub spelled_is : (used : ℕ) (v : Option ℕ) → leb (notation_of b).fewest (last - first) ≡ true → word_byte (get_or s (last + suffix_len (drop last s)) 0) ≡ false
+      → used ≡ length (notation_of b).prefix + (last - first) + suffix_len (drop last s) → v ≡ fit (worth (notation_of b) (drop first s))
+      → Some (record { value = v; used = used }) ≡ row_numeral (notation_of b) (drop first s)
   unfolding row_numeral
-  spelled_is used d e g k q =
+  spelled_is used v e g k q =
       let m : length (words_of (drop first s)) ≡ digits_len (notation_of b) (drop first s) + length (words_of (drop last s)) = parts.3 ∙ rw after in
       let t = suffix_by (drop last s) (rw (get_or-drop last s (suffix_len (drop last s)) 0) g) in
       let u : used ≡ length (notation_of b).prefix + length (words_of (drop first s)) = omega (arith, k, m, t, count) in
-      rw (row-spells, e, g, row-worth, ← u) q
+      rw (row-spells, e, g, row-worth, ← u, ← q)
 
 -- ---- a token by the first row with whose prefix it begins
 prefix_begins : (p : List (List ℕ)) → prefix_words p ≡ true → (l : List ℕ) → begins p (words_of l) ≡ begins p l
@@ -255,7 +290,7 @@ row_same (r ∷ rows) h l =
     rw (prefix_begins r.prefix (and_l (prefix_words r.prefix) _ q.0) l, row_same rows q.1 l)
 
 row_numeral_lem : (r : Notation) (l : List ℕ) → prefix_words r.prefix ≡ true → begins r.prefix l ≡ true
-    → cond (spells r (body r (words_of l))) (fitted (length (words_of l)) (worth r (body r (words_of l)))) no_numeral ≡ row_numeral r (body r l)
+    → cond (spells r (body r (words_of l))) (Some (record { value = fit (worth r (body r (words_of l))); used = length (words_of l) })) None ≡ row_numeral r (body r l)
 unfolding row_numeral
 row_numeral_lem r l h e = rw (begins-length r.prefix (words_of l) (prefix_begins r.prefix h l ∙ e), words_prefix r.prefix h l e)
 
@@ -267,11 +302,11 @@ no_number x u e = go (is_number (x ∷ u)) refl
     go true q = never (sym e ∙ (and_split (word_byte x) (all word_byte u) (number-words (x ∷ u) q).0).0)
     go false q = refl
 
-no_numeral_lem : (x : ℕ) (u : List ℕ) → word_byte x ≡ false → numeral_of (x ∷ u) ≡ no_numeral
+no_numeral : (x : ℕ) (u : List ℕ) → word_byte x ≡ false → numeral_of (x ∷ u) ≡ None
 unfolding numeral_of
-no_numeral_lem x u e = rw (no_number x u e)
+no_numeral x u e = rw (no_number x u e)
 
-empty_numeral : numeral_of [] ≡ no_numeral
+empty_numeral : numeral_of [] ≡ None
 unfolding numeral_of is_number spells
 empty_numeral = refl
 
@@ -282,7 +317,7 @@ token_words (x ∷ l) = go (word_byte x) refl
   where
     go : (w : Bool) → word_byte x ≡ w → numeral_of (x ∷ take (cond (w || eqb x 37) (run_len word_byte l) 0) l) ≡ numeral_of (take (cond w (suc (run_len word_byte l)) 0) (x ∷ l))
     go true e = refl
-    go false e = no_numeral_lem x (take (cond (eqb x 37) (run_len word_byte l) 0) l) e ∙ sym empty_numeral
+    go false e = no_numeral x (take (cond (eqb x 37) (run_len word_byte l) 0) l) e ∙ sym empty_numeral
 
 numeral_row : (l : List ℕ) → numeral_of (token_of l) ≡ row_numeral (row_of l) (body (row_of l) l)
 unfolding numeral_of is_number value_of
@@ -291,15 +326,15 @@ numeral_row l =
     token_words l ∙ rw (row_same notations notations_wordy l) (row_numeral_lem (row_of l) l (and_l (prefix_words (row_of l).prefix) _ r.1) r.0)
 
 -- ---- the token at a position
-zero_numeral : record { ok = true; over = false; value = 0; used = 1 } ≡ numeral_of (48 ∷ [])
-unfolding numeral_of is_number value_of spells worth fitted
+zero_numeral : Some (record { value = Some 0; used = 1 }) ≡ numeral_of (48 ∷ [])
+unfolding numeral_of is_number value_of spells worth fit
 zero_numeral = refl
 
 word_48 : word_byte 48 ≡ true
 unfolding word_byte letter
 word_48 = refl
 
-pub numeral_past : (s : List ℕ) (at : ℕ) → length s ≤ at → no_numeral ≡ numeral_of (token_of (drop at s))
+pub numeral_past : (s : List ℕ) (at : ℕ) → length s ≤ at → None ≡ numeral_of (token_of (drop at s))
 unfolding token_of token_len
 numeral_past s at h = rw (drop_of_length-le s h) (sym empty_numeral)
 
@@ -317,7 +352,7 @@ module _ (s : List ℕ) (at : ℕ) (h : at < length s) where
     pub numeral_hexadecimal : begins (bytes "xX" ∷ []) (drop (at + 1) s) ≡ true → row_numeral hexadecimals (drop (at + 2) s) ≡ numeral_of (token_of (drop at s))
     numeral_hexadecimal m = rw (numeral_row (drop at s), starts, m, third)
 
-    pub numeral_zero : word_byte (get_or s (at + 1) 0) ≡ false → record { ok = true; over = false; value = 0; used = 1 } ≡ numeral_of (token_of (drop at s))
+    pub numeral_zero : word_byte (get_or s (at + 1) 0) ≡ false → Some (record { value = Some 0; used = 1 }) ≡ numeral_of (token_of (drop at s))
     numeral_zero e =
         let d : word_byte (get_or (drop (at + 1) s) 0 0) ≡ false = rw (get_or-drop, add-zero) e in
         rw (token_words (drop at s), starts, word_48, words-none (drop (at + 1) s) d) zero_numeral
@@ -329,60 +364,45 @@ module _ (s : List ℕ) (at : ℕ) (h : at < length s) where
       pub numeral_octal : begins (bytes "bB" ∷ []) (drop (at + 1) s) ≡ false → row_numeral octals (drop (at + 1) s) ≡ numeral_of (token_of (drop at s))
       numeral_octal m = rw (numeral_row (drop at s), starts, no, m)
 
--- what a numeral tells of a value and a limit
-abbrev numeral_by : Bool → Bool → ℕ → ℕ → Numeral
-numeral_by b c k v = cond b (cond c (record { ok = true; over = false; value = v; used = k }) (record { ok = true; over = true; value = 0; used = k })) no_numeral
-
-none_by : (b c : Bool) (k v : ℕ) (n : Numeral) → n ≡ numeral_by b c k v → n.ok ≡ false → b ≡ false
-none_by true true k v n e o = absurd (true≢false (sym (ap (λ (m : Numeral). m.ok) e) ∙ o))
-none_by true false k v n e o = absurd (true≢false (sym (ap (λ (m : Numeral). m.ok) e) ∙ o))
-none_by false c k v n e o = refl
-
-used_by : (b c : Bool) (k v : ℕ) (n : Numeral) → n ≡ numeral_by b c k v → n.ok ≡ true → n.used ≡ k
-used_by true true k v n e o = ap (λ (m : Numeral). m.used) e
-used_by true false k v n e o = ap (λ (m : Numeral). m.used) e
-used_by false c k v n e o = absurd (true≢false (sym o ∙ ap (λ (m : Numeral). m.ok) e))
-
-module _ (limit : ℕ) (small : limit < 2 ^ 64) where
-  big_by : (b c : Bool) (k v : ℕ) (n : Numeral) → ltb v (2 ^ 64) ≡ c → n ≡ numeral_by b c k v → n.ok ≡ true → (n.over || ltb limit n.value) ≡ true
-      → (b ≡ true) × (leb v limit ≡ false)
-  big_by true true k v n t e o h = (refl, lt-leb v limit (ltb-true limit v (rw e at h)))
-  big_by true false k v n t e o h = (refl, lt-leb v limit (omega (arith, ltb-false v (2 ^ 64) t)))
-  big_by false c k v n t e o h = absurd (true≢false (sym o ∙ ap (λ (m : Numeral). m.ok) e))
-
-  small_by : (b c : Bool) (k v : ℕ) (n : Numeral) → n ≡ numeral_by b c k v → n.ok ≡ true → (n.over || ltb limit n.value) ≡ false
-      → (b ≡ true) × (leb v limit ≡ true) × (n.value ≡ v)
-  small_by true true k v n e o h = (refl, le-leb v limit (ltb-false limit v (rw e at h)), ap (λ (m : Numeral). m.value) e)
-  small_by true false k v n e o h = absurd (true≢false (rw e at h))
-  small_by false c k v n e o h = absurd (true≢false (sym o ∙ ap (λ (m : Numeral). m.ok) e))
-
 -- ---- the number at the cursor
--- a number takes the bytes of its token
-pub used_token : (l : List ℕ) (n : Numeral) → n ≡ numeral_of (token_of l) → n.ok ≡ true → n.used ≡ token_len l
-unfolding numeral_of fitted token_of
-used_token l n e o =
-    let w = take (token_len l) l in
-    used_by (is_number w) (ltb (value_of w) (2 ^ 64)) (length w) (value_of w) n e o ∙ length-take-le (token_len l) l (token_le l)
+module _ (l : List ℕ) (o : Option Numeral) (p : o ≡ numeral_of (token_of l)) where
+  -- no numeral, no number
+  not_number : o ≡ None → is_number (token_of l) ≡ false
+  unfolding numeral_of
+  not_number e = by (is_number (token_of l)) refl
+    where
+      by : (b : Bool) → is_number (token_of l) ≡ b → b ≡ false
+      by true h = absurd (none-some _ (sym e ∙ rw h at p))
+      by false h = refl
 
-module _ (limit : ℕ) (small : limit < 2 ^ 64) (l : List ℕ) (r : Rest) (n : Numeral) (p : n ≡ numeral_of (token_of l)) where
-  pub number-none : n.ok ≡ false → number_here limit r l ≡ record { value = 0; next = off r l }
-  unfolding numeral_of fitted
-  number-none o =
-      let w = token_of l in
-      rw (none_by (is_number w) (ltb (value_of w) (2 ^ 64)) (length w) (value_of w) n p o)
+  -- a number takes the bytes of its token
+  module _ (n : Numeral) (e : o ≡ Some n) where
+    is : (is_number (token_of l) ≡ true) × (record { value = fit (value_of (token_of l)); used = length (token_of l) } ≡ n)
+    unfolding numeral_of
+    is = cond_some (is_number (token_of l)) _ n (sym p ∙ e)
 
-  pub number_big : (e : List ℕ) → e ≡ after_token l → n.ok ≡ true → (n.over || ltb limit n.value) ≡ true
-      → number_here limit r l ≡ record { value = 0; next = record { rest = e; ok = true; over = true; far = cond r.over r.far l } }
-  unfolding numeral_of fitted
-  number_big e t o v =
-      let w = token_of l in
-      let q = big_by limit small (is_number w) (ltb (value_of w) (2 ^ 64)) (length w) (value_of w) n refl p o v in
-      rw (t, q.0, q.1)
+    pub used_token : n.used ≡ token_len l
+    unfolding token_of
+    used_token = ap (λ (m : Numeral). m.used) (sym is.1) ∙ length-take-le (token_len l) l (token_le l)
 
-  pub number_small : (e : List ℕ) → e ≡ after_token l → n.ok ≡ true → (n.over || ltb limit n.value) ≡ false
-      → number_here limit r l ≡ record { value = n.value; next = on r e }
-  unfolding numeral_of fitted
-  number_small e t o v =
-      let w = token_of l in
-      let q = small_by limit small (is_number w) (ltb (value_of w) (2 ^ 64)) (length w) (value_of w) n p o v in
-      rw (t, q.0, q.1, q.2)
+  module _ (limit : ℕ) (small : limit < 2 ^ 64) (r : Rest) where
+    pub number-none : o ≡ None → number_here limit r l ≡ record { value = 0; next = off r l }
+    number-none e = rw (not_number e)
+
+    module _ (n : Numeral) (e : o ≡ Some n) (m : List ℕ) (t : m ≡ after_token l) where
+      fits : fit (value_of (token_of l)) ≡ n.value
+      fits = ap (λ (m : Numeral). m.value) (is n e).1
+
+      pub number_small : (v : ℕ) → n.value ≡ Some v → v ≤ limit → number_here limit r l ≡ record { value = v; next = on r m }
+      unfolding fit
+      number_small v f h =
+          let q = cond_some (ltb (value_of (token_of l)) (2 ^ 64)) (value_of (token_of l)) v (fits ∙ f) in
+          rw (t, (is n e).0, q.1, le-leb v limit h)
+
+      pub number_big : ((v : ℕ) → n.value ≡ Some v → limit < v) → number_here limit r l ≡ record { value = 0; next = record { rest = m; ok = true; over = true; far = cond r.over r.far l } }
+      unfolding fit
+      number_big f = rw (t, (is n e).0, lt-leb (value_of (token_of l)) limit (by (ltb (value_of (token_of l)) (2 ^ 64)) refl))
+        where
+          by : (b : Bool) → ltb (value_of (token_of l)) (2 ^ 64) ≡ b → limit < value_of (token_of l)
+          by true h = f (value_of (token_of l)) (sym fits ∙ rw h)
+          by false h = omega (arith, ltb-false (value_of (token_of l)) (2 ^ 64) h)

@@ -3,6 +3,9 @@ ghost use Rattle.std.specs.Prelude.{◌≡◌, ◌-◌, true, cond, length, drop
 ghost use Rattle.tokens.specs.Cursors.{seen, mark_c, end_c, name_c, number_c, read_seen};
 ghost use Rattle.lexer.specs.Places.{within};
 
+use crate::bytes::blanks_end;
+use crate::name::name_at;
+use crate::number::numeral;
 use tokens::{Cursor, Name, Read};
 
 // Past the byte m, which blanks may precede.
@@ -13,30 +16,11 @@ pub fn mark(s: &[u8], k: Cursor, m: u8) -> Cursor
     if !k.ok {
         return k;
     }
-    let at = k.at;
-    let i = crate::bytes::blanks_end(s, at);
-    if s.len() <= i {
-        return Cursor {
-            at: i,
-            ok: false,
-            over: k.over,
-            far: k.far,
-        };
+    let i = blanks_end(s, k.at);
+    if i < s.len() && s[i] == m {
+        return moved(k, i + 1, true);
     }
-    if s[i] == m {
-        return Cursor {
-            at: i + 1,
-            ok: true,
-            over: k.over,
-            far: k.far,
-        };
-    }
-    Cursor {
-        at: i,
-        ok: false,
-        over: k.over,
-        far: k.far,
-    }
+    moved(k, i, false)
 }
 
 // Past the semicolon, and nothing after it.
@@ -45,44 +29,26 @@ pub fn end(s: &[u8], k: Cursor) -> Cursor
     ensures within { within s.now k → within s.now result }
 {
     let d = mark(s, k, b';');
-    let at = d.at;
-    Cursor {
-        at,
-        ok: d.ok & (s.len() <= at),
-        over: d.over,
-        far: d.far,
-    }
+    moved(d, d.at, d.ok & (s.len() <= d.at))
 }
 
 // The cursor at another place.
 fn moved(k: Cursor, at: usize, ok: bool) -> Cursor
     ensures { result ≡ record { at = at; ok = ok; over = k.over; far = k.far } }
 {
-    Cursor {
-        at,
-        ok,
-        over: k.over,
-        far: k.far,
-    }
+    Cursor { at, ok, ..k }
 }
 
 // The cursor past a number that starts at i, ends at e and is too large.
 fn past(k: Cursor, i: usize, e: usize) -> Cursor
     ensures { result ≡ record { at = e; ok = true; over = true; far = cond k.over k.far i } }
 {
-    if k.over {
-        return Cursor {
-            at: e,
-            ok: true,
-            over: true,
-            far: k.far,
-        };
-    }
+    let far = if k.over { k.far } else { i };
     Cursor {
         at: e,
         ok: true,
         over: true,
-        far: i,
+        far,
     }
 }
 
@@ -91,21 +57,23 @@ pub fn name(s: &[u8], k: Cursor) -> Read<Name>
     ensures rest { read_seen s.now result ≡ name_c (seen s.now k) }
     ensures within { within s.now k → within s.now result.next }
 {
+    let no_name = Name { hi: 0, lo: 0 };
     if !k.ok {
         return Read {
-            value: Name { hi: 0, lo: 0 },
+            value: no_name,
             next: k,
         };
     }
-    let at = k.at;
-    let i = crate::bytes::blanks_end(s, at);
-    let n = crate::name::name_at(s, i);
-    let value = n.value;
-    let e = n.end;
-    let ok = n.ok;
-    Read {
-        value,
-        next: moved(k, e, ok),
+    let i = blanks_end(s, k.at);
+    match name_at(s, i) {
+        Some(n) => Read {
+            value: n.value,
+            next: moved(k, n.end, true),
+        },
+        None => Read {
+            value: no_name,
+            next: moved(k, i, false),
+        },
     }
 }
 
@@ -117,26 +85,23 @@ pub fn number(s: &[u8], k: Cursor, limit: u64) -> Read<u64>
     if !k.ok {
         return Read { value: 0, next: k };
     }
-    let at = k.at;
-    let i = crate::bytes::blanks_end(s, at);
-    let n = crate::number::numeral(s, i);
-    if !n.ok {
+    let i = blanks_end(s, k.at);
+    let Some(n) = numeral(s, i) else {
         return Read {
             value: 0,
             next: moved(k, i, false),
         };
-    }
+    };
     let e = i + n.used;
-    let v = n.value;
-    if n.over | (limit < v) {
-        return Read {
+    match n.value {
+        Some(value) if value <= limit => Read {
+            value,
+            next: moved(k, e, true),
+        },
+        _ => Read {
             value: 0,
             next: past(k, i, e),
-        };
-    }
-    Read {
-        value: v,
-        next: moved(k, e, true),
+        },
     }
 }
 
@@ -144,5 +109,5 @@ pub fn number(s: &[u8], k: Cursor, limit: u64) -> Read<u64>
 pub fn place(s: &[u8], at: usize) -> usize
     ensures { result ≡ length s.now - length (drop at s.now) }
 {
-    if at < s.len() { at } else { s.len() }
+    at.min(s.len())
 }

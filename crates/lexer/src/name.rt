@@ -1,23 +1,25 @@
 // Names, packed.
-ghost use Rattle.std.specs.Prelude.{◌≡◌, ◌+◌, ◌-◌, ◌*◌, ◌^◌, ◌≤◌, ◌<◌, min, true, false, ◌&&◌, ◌||◌, cond, length, drop, take, ltb, leb};
+ghost use Rattle.std.specs.Prelude.{◌≡◌, ◌+◌, ◌-◌, ◌*◌, ◌^◌, ◌≤◌, ◌<◌, ◌&&◌, ◌||◌, IfSome, length, drop, take, ltb, leb};
 ghost use Rattle.tokens.specs.Bytes.{letter, token_len};
-ghost use Rattle.tokens.specs.Names.{sigil, byte_digits, no_name};
+ghost use Rattle.tokens.specs.Names.{sigil, byte_digits};
 ghost use Rattle.lexer.specs.Runs.{words_len, name_in, name_there};
 
-use crate::bytes::{is_word, wide, word_at};
+use crate::bytes::{is_word, word_at};
 use tokens::Name;
 
+#[tactic(auto, unfolding(tokens::specs::Bytes::letter))]
 pub fn is_letter(x: u8) -> bool
     ensures { result ≡ letter x }
 {
-    ((b'A' <= x) & (x <= b'Z')) | ((b'a' <= x) & (x <= b'z'))
+    x.is_ascii_alphabetic()
 }
 
 // One of _ $ %.
+#[tactic(auto, unfolding(tokens::specs::Names::sigil))]
 pub fn is_sigil(x: u8) -> bool
     ensures { result ≡ sigil x }
 {
-    (x == b'_') | (x == b'$') | (x == b'%')
+    matches!(x, b'_' | b'$' | b'%')
 }
 
 // Whether a name may start with x.
@@ -34,13 +36,6 @@ pub fn shaped(x: u8, n: usize) -> bool
     (is_letter(x) | (is_sigil(x) & (0 < n))) & (n <= 15)
 }
 
-// The lesser of two numbers.
-fn least(a: usize, b: usize) -> usize
-    ensures { result ≡ min a b }
-{
-    if a < b { a } else { b }
-}
-
 // A run of word bytes as digits at base 256, and where it ends.
 #[derive(Clone, Copy)]
 pub struct Packed {
@@ -54,74 +49,53 @@ fn pack(s: &[u8], at: usize, room: usize, v: u64) -> Packed
     ensures value { result.value ≡ byte_digits v (take (words_len room (drop at s.now)) (drop at s.now)) }
     ensures end { result.end ≡ at + words_len room (drop at s.now) }
 {
-    let stop = least(s.len(), at + room);
-    let mut w = v;
-    let mut i = at;
-    while i < stop {
+    let stop = s.len().min(at + room);
+    let mut value = v;
+    for i in at..stop {
         let x = s[i];
         if !is_word(x) {
-            return Packed { value: w, end: i };
+            return Packed { value, end: i };
         }
-        w = w * 256 + wide(x);
-        i += 1;
+        value = value * 256 + u64::from(x);
     }
-    Packed { value: w, end: i }
+    Packed { value, end: stop }
 }
 
-// A name, if one was there, and where it ends; else where it should start.
+// A name, and where it ends.
 #[derive(Clone, Copy)]
 pub struct Taken {
-    pub ok: bool,
     pub value: Name,
     pub end: usize,
 }
 
-fn got(hi: u64, lo: u64, end: usize) -> Taken
-    ensures { result ≡ record { ok = true; value = record { hi = hi; lo = lo }; end = end } }
-{
-    Taken {
-        ok: true,
-        value: Name { hi, lo },
-        end,
-    }
-}
-
-fn none(at: usize) -> Taken
-    ensures { result ≡ record { ok = false; value = no_name; end = at } }
-{
-    Taken {
-        ok: false,
-        value: Name { hi: 0, lo: 0 },
-        end: at,
-    }
-}
-
 // The name that the token at a position is, if it is one.
-pub fn name_at(s: &[u8], at: usize) -> Taken
-    ensures value { name_in s.now result ≡ name_there (drop at s.now) }
-    ensures end { result.end ≡ cond result.ok (at + token_len (drop at s.now)) at }
+pub fn name_at(s: &[u8], at: usize) -> Option<Taken>
+    ensures value { name_in s.now at result ≡ name_there (drop at s.now) }
+    ensures end { IfSome result (λ n. n.end ≡ at + token_len (drop at s.now)) }
 {
     if s.len() <= at {
-        return none(at);
+        return None;
     }
     let x = s[at];
     if !starts(x) {
-        return none(at);
+        return None;
     }
-    let h = pack(s, at + 1, 7, wide(x));
+    let h = pack(s, at + 1, 7, u64::from(x));
     let hi = h.value;
     let e = h.end;
     if e < at + 8 {
         if is_letter(x) | (at + 1 < e) {
-            return got(hi, 0, e);
+            let value = Name { hi, lo: 0 };
+            return Some(Taken { value, end: e });
         }
-        return none(at);
+        return None;
     }
     let l = pack(s, at + 8, 8, 0);
     let lo = l.value;
     let end = l.end;
     if (at + 16 <= end) & word_at(s, end) {
-        return none(at);
+        return None;
     }
-    got(hi, lo, end)
+    let value = Name { hi, lo };
+    Some(Taken { value, end })
 }

@@ -1,10 +1,11 @@
 // Numbers of any length, in four bases, read in one pass.
-ghost use Rattle.std.specs.Prelude.{◌≡◌, ℕ, ◌+◌, ◌*◌, ◌^◌, ◌<◌, [], ◌∷◌, length, drop, ltb};
-ghost use Rattle.tokens.specs.Bytes.{run_len, token_of};
-ghost use Rattle.tokens.specs.Numbers.{begins, digits_len, worth, fitted, no_numeral, numeral_of};
-ghost use Rattle.lexer.specs.Runs.{notation_of, digit_below, roomy_of, numeral_in, suffix_len, row_numeral};
+ghost use Rattle.std.specs.Prelude.{◌≡◌, ◌+◌, ◌<◌, [], ◌∷◌, ◌&&◌, ◌||◌, length, drop, ltb, leb, eqb};
+ghost use Rattle.std.specs.List.{prefix_len};
+ghost use Rattle.tokens.specs.Bytes.{token_of};
+ghost use Rattle.tokens.specs.Numbers.{begins, digits_len, worth, fit, numeral_of};
+ghost use Rattle.lexer.specs.Runs.{notation_of, digit_below, row_for_base, suffix_len, row_numeral};
 
-use crate::bytes::{digit_of, wide, word_at};
+use crate::bytes::{digit_of, word_at};
 use tokens::Numeral;
 
 // How a number is written: a row of the table of notations.
@@ -16,127 +17,105 @@ pub enum Base {
     Decimal,
 }
 
-// What digits are as a number: one over 2^64-1, or a value; and where they end.
+// A row of that table: its base, how many bytes stand before the digits, how few digits there may be; and the largest number of 64 bits, 2^64-1, by its last digit
+// and what stands before that.
+#[derive(Clone, Copy)]
+struct Row {
+    base: u8,
+    prefix: usize,
+    fewest: usize,
+    most: u64,
+    last: u64,
+}
+
+impl Base {
+    fn row(self) -> Row
+        ensures { result ≡ row_for_base self }
+    {
+        match self {
+            Base::Hexadecimal => Row {
+                base: 16,
+                prefix: 2,
+                fewest: 1,
+                most: 0x0fff_ffff_ffff_ffff,
+                last: 15,
+            },
+            Base::Binary => Row {
+                base: 2,
+                prefix: 2,
+                fewest: 1,
+                most: 0x7fff_ffff_ffff_ffff,
+                last: 1,
+            },
+            Base::Octal => Row {
+                base: 8,
+                prefix: 1,
+                fewest: 0,
+                most: 0x1fff_ffff_ffff_ffff,
+                last: 7,
+            },
+            Base::Decimal => Row {
+                base: 10,
+                prefix: 0,
+                fewest: 1,
+                most: 1844674407370955161,
+                last: 5,
+            },
+        }
+    }
+}
+
+// What digits are as a number, if it is at most 2^64-1; and where they end.
 #[derive(Clone, Copy)]
 pub struct Digits {
-    pub over: bool,
-    pub value: u64,
+    pub value: Option<u64>,
     pub end: usize,
 }
 
-fn base_of(b: Base) -> u8
-    ensures { result ≡ (notation_of b).base }
+// Whether v with one digit more is at most 2^64-1.
+fn has_room(row: Row, v: u64, d: u64) -> bool
+    ensures { result ≡ (ltb v row.most || eqb v row.most && leb d row.last) }
 {
-    match b {
-        Base::Hexadecimal => 16,
-        Base::Binary => 2,
-        Base::Octal => 8,
-        Base::Decimal => 10,
-    }
-}
-
-// How many bytes stand before the digits.
-fn prefix_of(b: Base) -> usize
-    ensures { result ≡ length (notation_of b).prefix }
-{
-    match b {
-        Base::Hexadecimal => 2,
-        Base::Binary => 2,
-        Base::Octal => 1,
-        Base::Decimal => 0,
-    }
-}
-
-// How few digits there may be.
-fn fewest_of(b: Base) -> usize
-    ensures { result ≡ (notation_of b).fewest }
-{
-    match b {
-        Base::Hexadecimal => 1,
-        Base::Binary => 1,
-        Base::Octal => 0,
-        Base::Decimal => 1,
-    }
-}
-
-// The largest value after which each digit has room below 2^64.
-fn roomy(b: Base) -> u64
-    ensures { result ≡ roomy_of b }
-{
-    match b {
-        Base::Hexadecimal => 0x0fff_ffff_ffff_ffff,
-        Base::Binary => 0x7fff_ffff_ffff_ffff,
-        Base::Octal => 0x1fff_ffff_ffff_ffff,
-        Base::Decimal => 1844674407370955160,
-    }
-}
-
-// Whether v with one digit more is below 2^64, which is 18446744073709551616; `most` is roomy(b), asked once before a loop.
-fn has_room(b: Base, most: u64, v: u64, d: u64) -> bool
-    requires most_value { most ≡ roomy_of b }
-    requires d_bound { d < (notation_of b).base }
-    ensures { result ≡ ltb (v * (notation_of b).base + d) (2 ^ 64) }
-{
-    if v <= most {
+    if v < row.most {
         return true;
     }
-    match b {
-        Base::Hexadecimal => false,
-        Base::Binary => false,
-        Base::Octal => false,
-        Base::Decimal => (v == 1844674407370955161) & (d <= 5),
-    }
+    (v == row.most) & (d <= row.last)
 }
 
-// Where a run of digits of a base ends.
-fn digits_end(s: &[u8], at: usize, base: u8) -> usize
-    ensures { result ≡ at + run_len (digit_below base) (drop at s.now) }
+// How many digits of a base there are at the head.
+fn digit_count(s: &[u8], base: u8) -> usize
+    ensures { result ≡ prefix_len (digit_below base) s.now }
 {
-    let mut i = at;
-    while i < s.len() {
-        if base <= digit_of(s[i]) {
-            return i;
-        }
-        i += 1;
-    }
-    i
+    s.iter().take_while(|x| digit_of(**x) < base).count()
 }
 
 // The run of digits at a position.
 fn run(s: &[u8], at: usize, b: Base) -> Digits
-    ensures value { (used : ℕ) → numeral_in used result ≡ fitted used (worth (notation_of b) (drop at s.now)) }
+    ensures value { result.value ≡ fit (worth (notation_of b) (drop at s.now)) }
     ensures end { result.end ≡ at + digits_len (notation_of b) (drop at s.now) }
 {
-    let base = base_of(b);
-    let times = wide(base);
-    let most = roomy(b);
+    let row = b.row();
+    let base = row.base;
+    let times = u64::from(base);
     let mut v: u64 = 0;
-    let mut i = at;
-    while i < s.len() {
-        let x = digit_of(s[i]);
-        if base <= x {
+    for i in at..s.len() {
+        let digit = digit_of(s[i]);
+        if base <= digit {
             return Digits {
-                over: false,
-                value: v,
+                value: Some(v),
                 end: i,
             };
         }
-        let d = wide(x);
-        if !has_room(b, most, v, d) {
-            let end = digits_end(s, i, base);
-            return Digits {
-                over: true,
-                value: 0,
-                end,
-            };
+        let d = u64::from(digit);
+        if !has_room(row, v, d) {
+            let end = i + digit_count(&s[i..], base);
+            return Digits { value: None, end };
         }
         v = v * times + d;
-        i += 1;
     }
     Digits {
-        over: false,
-        value: v,
-        end: i,
+        value: Some(v),
+        end: at.max(s.len()),
     }
 }
 
@@ -144,68 +123,49 @@ fn run(s: &[u8], at: usize, b: Base) -> Digits
 fn suffix_of(s: &[u8], at: usize) -> usize
     ensures { result ≡ suffix_len (drop at s.now) }
 {
-    if s.len() <= at {
-        return 0;
-    }
-    if s[at] == b'U' {
-        return 1;
-    }
-    0
-}
-
-// No number.
-fn none() -> Numeral
-    ensures { result ≡ no_numeral }
-{
-    Numeral {
-        ok: false,
-        over: false,
-        value: 0,
-        used: 0,
+    match s.get(at) {
+        Some(b'U') => 1,
+        _ => 0,
     }
 }
 
 // The number that a token at a position is, if it goes by a base.
-fn spelled(s: &[u8], at: usize, b: Base) -> Numeral
+fn spelled(s: &[u8], at: usize, b: Base) -> Option<Numeral>
     requires { at < length s.now }
     ensures { result ≡ row_numeral (notation_of b) (drop (at + length (notation_of b).prefix) s.now) }
 {
-    let first = at + prefix_of(b);
+    let row = b.row();
+    let first = at + row.prefix;
     let d = run(s, first, b);
     let last = d.end;
-    if last - first < fewest_of(b) {
-        return none();
+    if last - first < row.fewest {
+        return None;
     }
     let end = last + suffix_of(s, last);
     if word_at(s, end) {
-        return none();
+        return None;
     }
+    let value = d.value;
     let used = end - at;
-    Numeral {
-        ok: true,
-        over: d.over,
-        value: d.value,
-        used,
-    }
+    Some(Numeral { value, used })
 }
 
 // Whether one of two bytes stands at a position.
 fn either_at(s: &[u8], at: usize, a: u8, b: u8) -> bool
     ensures { result ≡ begins ((a ∷ (b ∷ [])) ∷ []) (drop at s.now) }
 {
-    if s.len() <= at {
-        return false;
+    match s.get(at) {
+        Some(x) => (*x == a) | (*x == b),
+        None => false,
     }
-    let x = s[at];
-    (x == a) | (x == b)
 }
 
 // The number that the token at a position is, if any, and how many bytes it took. 0 alone is octal; it is met most and told first.
-pub fn numeral(s: &[u8], at: usize) -> Numeral
+pub fn numeral(s: &[u8], at: usize) -> Option<Numeral>
     ensures { result ≡ numeral_of (token_of (drop at s.now)) }
 {
     if s.len() <= at {
-        return none();
+        return None;
     }
     if s[at] != b'0' {
         return spelled(s, at, Base::Decimal);
@@ -215,12 +175,8 @@ pub fn numeral(s: &[u8], at: usize) -> Numeral
         return spelled(s, at, Base::Hexadecimal);
     }
     if !word_at(s, next) {
-        return Numeral {
-            ok: true,
-            over: false,
-            value: 0,
-            used: 1,
-        };
+        let value = Some(0);
+        return Some(Numeral { value, used: 1 });
     }
     if either_at(s, next, b'b', b'B') {
         return spelled(s, at, Base::Binary);

@@ -1,6 +1,6 @@
 -- What bytes are a number, and its value, however large: one table has the four ways to write one. Assumes nothing.
 use Rattle.tokens.specs.Text.{byte, bytes}
-use Rattle.std.specs.Prelude.{ℕ, zero, suc, ◌+◌, ◌-◌, ◌*◌, ◌/◌, ◌%◌, ◌^◌, List, [], ◌∷◌, ◌++◌, Bool, true, false, ◌&&◌, ◌||◌, cond, length, take, drop, ltb, leb, eqb}
+use Rattle.std.specs.Prelude.{ℕ, zero, suc, ◌+◌, ◌-◌, ◌*◌, ◌/◌, ◌%◌, ◌^◌, List, [], ◌∷◌, ◌++◌, Bool, true, false, ◌&&◌, ◌||◌, cond, Option, None, Some, length, take, drop, ltb, leb, eqb}
 use Rattle.tokens.specs.declared.Numeral.{Numeral}
 use Rattle.tokens.specs.Bytes.{between, same_bytes, run_len}
 
@@ -91,16 +91,13 @@ unfoldable pub value_of : List ℕ → ℕ
 value_of w = worth (row_of w) (body (row_of w) w)
 
 -- ---- as it is read
-abbrev pub no_numeral : Numeral
-no_numeral = record { ok = false; over = false; value = 0; used = 0 }
+-- a number as 64 bits hold it; none is over 2^64 - 1
+unfoldable pub fit : ℕ → Option ℕ
+fit v = cond (ltb v (2 ^ 64)) (Some v) None
 
--- of so many bytes: the value, or that it is over 2^64 - 1
-unfoldable pub fitted : ℕ → ℕ → Numeral
-fitted used v = cond (ltb v (2 ^ 64)) (record { ok = true; over = false; value = v; used = used }) (record { ok = true; over = true; value = 0; used = used })
-
--- a number takes all bytes of its token, and no number takes none
-unfoldable pub numeral_of : List ℕ → Numeral
-numeral_of w = cond (is_number w) (fitted (length w) (value_of w)) no_numeral
+-- a number takes all bytes of its token; any other token is none
+unfoldable pub numeral_of : List ℕ → Option Numeral
+numeral_of w = cond (is_number w) (Some (record { value = fit (value_of w); used = length w })) None
 
 -- ---- as it is written
 -- the n low decimal digits of v, as bytes, the highest first

@@ -1,11 +1,12 @@
 -- Tokens with the number that each is, if any, and with what the reader answers. Assumes nothing.
-use Rattle.std.specs.Prelude.{ℕ, ◌-◌, ◌^◌, List, [], ◌∷◌, ◌++◌, true, false, cond}
+use Rattle.std.specs.Prelude.{ℕ, ◌-◌, ◌^◌, List, [], ◌∷◌, ◌++◌, true, false, cond, Some, None}
+use Rattle.std.specs.Prelude as found
 use Prim.Native.String.{String}
 use Rattle.std.proofs.Math.Option.{Option, none, some}
 use Rattle.laws.specs.Worked.{Gives}
 use Rattle.tokens.specs.declared.Numeral.{Numeral}
 use Rattle.tokens.specs.Text.{bytes}
-use Rattle.tokens.specs.Numbers.{is_number, value_of, no_numeral, numeral_of}
+use Rattle.tokens.specs.Numbers.{is_number, value_of, numeral_of}
 
 -- the number that a token is, if any
 abbrev pub number_for : String → Option ℕ
@@ -75,17 +76,17 @@ others =
     ("64abc", none) ∷
     ("", none) ∷ []
 
--- what the reader answers: the value, or that it is over 2^64 - 1, and how many bytes the number took; no number took none
-abbrev pub reads : List (String × Numeral)
+-- what the reader answers: the value, or that it is over 2^64 - 1, and how many bytes the number took; none for no number
+abbrev pub reads : List (String × found.Option Numeral)
 reads =
-    ("0", record { ok = true; over = false; value = 0; used = 1 }) ∷
-    ("0x40U", record { ok = true; over = false; value = 64; used = 5 }) ∷
-    ("18446744073709551615", record { ok = true; over = false; value = 2 ^ 64 - 1; used = 20 }) ∷
-    ("18446744073709551616", record { ok = true; over = true; value = 0; used = 20 }) ∷
-    ("01777777777777777777777", record { ok = true; over = false; value = 2 ^ 64 - 1; used = 23 }) ∷
-    ("02000000000000000000000U", record { ok = true; over = true; value = 0; used = 24 }) ∷
-    ("08", no_numeral) ∷
-    ("64abc", no_numeral) ∷ []
+    ("0", Some (record { value = Some 0; used = 1 })) ∷
+    ("0x40U", Some (record { value = Some 64; used = 5 })) ∷
+    ("18446744073709551615", Some (record { value = Some (2 ^ 64 - 1); used = 20 })) ∷
+    ("18446744073709551616", Some (record { value = None; used = 20 })) ∷
+    ("01777777777777777777777", Some (record { value = Some (2 ^ 64 - 1); used = 23 })) ∷
+    ("02000000000000000000000U", Some (record { value = None; used = 24 })) ∷
+    ("08", None) ∷
+    ("64abc", None) ∷ []
 
 pub record Worked : Type 0 where
   pub numbers_are : Gives number_for (numbers ++ (zeros ++ others))

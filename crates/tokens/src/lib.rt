@@ -18,12 +18,10 @@ pub struct Cursor {
     pub far: usize,
 }
 
-// What a token is as a number: none (not ok), one over 2^64-1, or a value; and how many bytes it took, none for no number.
+// What a token is that is a number: its value, if it is at most 2^64-1, and how many bytes it took.
 #[derive(Clone, Copy)]
 pub struct Numeral {
-    pub ok: bool,
-    pub over: bool,
-    pub value: u64,
+    pub value: Option<u64>,
     pub used: usize,
 }
 

@@ -9,4 +9,4 @@ pub returns-then-x-le58 : goal.returns-then-x-le58
 returns-then-x-le58 c = opcode_low c.args.x c.if-x-le58.true
 
 pub returns : goal.returns
-returns c = opcode_mid c.args.x c.if-x-le58.false c.if-x-ge97.false
+returns c = rw c.is_ascii_uppercase.ensures.value (opcode_mid c.args.x c.if-x-le58.false c.if-x-ge97.false)

@@ -9,4 +9,4 @@ pub returns-then-x-le57 : goal.returns-then-x-le57
 returns-then-x-le57 c = word_low c.args.x c.if-x-le57.true
 
 pub returns : goal.returns
-returns c = word_mid c.args.x c.if-x-le57.false c.if-x-ge97.false
+returns c = rw c.is_ascii_uppercase.ensures.value (word_mid c.args.x c.if-x-le57.false c.if-x-ge97.false)

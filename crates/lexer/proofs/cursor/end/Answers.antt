@@ -3,8 +3,6 @@ use Rattle.tokens.specs.Cursors.{end_c}
 use Rattle.lexer.proofs.Laws.{end_law}
 use Rattle.lexer.proofs.cursor.end.Goals as goal
 
-pub returns : goal.returns
+pub returns-clause-rest : goal.returns-clause-rest
 unfolding end_c
-returns c =
-    let m = c.mark-d in
-    (record { rest = rw (← m.ensures.rest, end_law c.args.s.now m.result.at); within = m.ensures.within })
+returns-clause-rest c = let m = c.mark-d in rw (c.moved.ensures, ← m.ensures.rest, end_law c.args.s.now m.result.at)

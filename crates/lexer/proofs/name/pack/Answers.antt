@@ -1,9 +1,8 @@
--- `lexer::name::pack` meets its contract. The loop's invariant: the bytes from here, after w, are the bytes from the start after v, and end where these do; w has at most eight bits for each byte there was room for. Assumes nothing.
+-- `lexer::name::pack` meets its contract. The loop's invariant: the bytes from here, after the value, are the bytes from the start after v, and end where these do; the value has at most eight bits for each byte there was room for. Assumes nothing.
 use Prim.Native.Nat.{◌+◌, ◌-◌, ◌<◌}
 use mathlib.Core.Path.{◌≡◌, refl, sym, ◌∙◌}
 use lib.ListN.{length, drop, length-drop}
 use native.Mathlib.Omega.{arith}
-use borrow.Author.Tests.{not-true, not-false}
 use Rattle.tokens.specs.Bytes.{word_byte}
 use Rattle.lexer.specs.Runs.{words_len}
 use Rattle.tokens.proofs.Runs.{run_le, run_step, run_stop}
@@ -21,15 +20,15 @@ returns-then-not-is_word c =
     let a = c.args in
     let l = c.loop-i in
     let d : l.i < length a.s.now = omega arith in
-    let r = run_stop word_byte a.s.now l.i d (sym c.is_word.ensures ∙ not-true _ c.if-not-is_word.true-raw) in
+    let r = run_stop word_byte a.s.now l.i d (sym c.is_word.ensures ∙ c.if-not-is_word.true) in
     let z : words_len (a.at + a.room - l.i) (drop l.i a.s.now) ≡ 0 = omega arith in
-    (record { value = sym (pack-none (drop l.i a.s.now) l.w _ z) ∙ l.invariant.3; end = omega arith })
+    (record { value = sym (pack-none (drop l.i a.s.now) l.value _ z) ∙ l.invariant.3; end = omega arith })
 
-pub overflow_mul-w : goal.overflow_mul-w
-overflow_mul-w c = omega (arith, cap_small (8 - c.args.room + (c.loop-i.i - c.args.at)) (omega arith))
+pub overflow_mul-value : goal.overflow_mul-value
+overflow_mul-value c = omega (arith, cap_small (8 - c.args.room + (c.loop-i.i - c.args.at)) (omega arith))
 
-pub overflow_add-w : goal.overflow_add-w
-overflow_add-w c = omega (arith, cap_small (8 - c.args.room + (c.loop-i.i - c.args.at)) (omega arith), c.shared_slice_known-in-loop-i-1.given c.loop-i.i)
+pub overflow_add-value : goal.overflow_add-value
+overflow_add-value c = omega (arith, c.from.ensures, cap_small (8 - c.args.room + (c.loop-i.i - c.args.at)) (omega arith), c.shared_slice_known-in-loop-i-1.given c.loop-i.i)
 
 pub loop-i-preserved : goal.loop-i-preserved
 loop-i-preserved c =
@@ -37,13 +36,13 @@ loop-i-preserved c =
     let l = c.loop-i in
     let d : l.i < length a.s.now = omega arith in
     let q : l.i < a.at + a.room = omega arith in
-    let b = sym c.is_word.ensures ∙ not-false _ c.if-not-is_word.false-raw in
+    let b = sym c.is_word.ensures ∙ c.if-not-is_word.false in
     let k = 8 - a.room + (l.i - a.at) in
-    rw c.wide.ensures (
+    rw c.from.ensures (
       omega arith,
       omega arith,
       rw (cap_next a.room a.at l.i l.invariant.0) (omega (arith, cap_step k, c.shared_slice_known-in-loop-i-1.given l.i)),
-      sym (pack_step a.s.now l.w (a.at + a.room) l.i q d b) ∙ l.invariant.3,
+      sym (pack_step a.s.now l.value (a.at + a.room) l.i q d b) ∙ l.invariant.3,
       omega (arith, run_step word_byte a.s.now l.i d b),
     )
 
@@ -52,4 +51,4 @@ returns c =
     let a = c.args in
     let l = c.loop-i in
     let z : words_len (a.at + a.room - l.i) (drop l.i a.s.now) ≡ 0 = omega (arith, run_le word_byte (drop l.i a.s.now), length-drop l.i a.s.now) in
-    (record { value = sym (pack-none (drop l.i a.s.now) l.w _ z) ∙ l.invariant.3; end = omega arith })
+    (record { value = sym (pack-none (drop l.i a.s.now) l.value _ z) ∙ l.invariant.3; end = omega arith })

@@ -1,11 +1,10 @@
 -- `lexer::number::numeral` meets its contract: a token goes by the row of the table that its first two bytes tell, and 0 alone is 0. Assumes nothing.
 use mathlib.Core.Path.{sym, ◌∙◌}
-use borrow.Author.Tests.{not-true}
 use Rattle.lexer.proofs.Numbers.{numeral_past, numeral_decimal, numeral_hexadecimal, numeral_zero, numeral_binary, numeral_octal}
 use Rattle.lexer.proofs.number.numeral.Goals as goal
 
 pub returns-then-s-at : goal.returns-then-s-at
-returns-then-s-at c = let a = c.args in c.none.ensures ∙ numeral_past a.s.now a.at c.if-s-at.true
+returns-then-s-at c = numeral_past c.args.s.now c.args.at c.if-s-at.true
 
 pub spelled-requires : goal.spelled-requires
 spelled-requires c = c.if-s-at.false
@@ -24,7 +23,7 @@ returns-then-either_at c =
 pub returns-then-not-word_at : goal.returns-then-not-word_at
 returns-then-not-word_at c =
     let a = c.args in
-    numeral_zero a.s.now a.at c.if-s-at.false c.if-s-at-ne48.false (sym c.word_at.ensures ∙ not-true _ c.if-not-word_at.true-raw)
+    numeral_zero a.s.now a.at c.if-s-at.false c.if-s-at-ne48.false (sym c.word_at.ensures ∙ c.if-not-word_at.true)
 
 pub spelled-requires-then-either_at-2 : goal.spelled-requires-then-either_at-2
 spelled-requires-then-either_at-2 c = c.if-s-at.false
