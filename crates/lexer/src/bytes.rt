@@ -3,7 +3,7 @@ ghost use Rattle.std.specs.Prelude.{◌≡◌, ◌+◌, get_or, drop};
 ghost use Rattle.tokens.specs.Bytes.{word_byte, opcode_byte, blank, run_len};
 ghost use Rattle.tokens.specs.Numbers.{digit_of};
 
-// The value of a digit; 16, which is below no base, for any other byte: with an Option a digit takes a third more instructions.
+// The value of a digit; 16, which is below no base, for any other byte: with an Option a number takes a twentieth more instructions.
 #[tactic(auto, unfolding(tokens::specs::Numbers::digit_of))]
 pub fn digit_of(x: u8) -> u8
     ensures { result ≡ digit_of x }
