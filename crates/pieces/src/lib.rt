@@ -1,27 +1,13 @@
-// Pieces of a text that is written: bytes stored in a buffer, and the digits of a number, decimal or at base 256.
+// A text that is written, and the digits of a number, decimal or at base 256.
 #![tactic(auto)]
 
 mod text;
 
-ghost use Rattle.std.specs.Prelude.{◌≡◌, ◌+◌, ◌≤◌, length, take, drop};
-ghost use Rattle.std.proofs.lemmas.List.Edits.{sets};
+ghost use Rattle.std.specs.Prelude.{◌≡◌, ◌≤◌, length, take, drop};
 ghost use Rattle.tokens.specs.Names.{low_bytes, strip};
 ghost use Rattle.tokens.specs.Numbers.{decimal};
 
 pub use text::Text;
-
-// The bytes w, from a place on; answers the place after them.
-pub fn fill(room: &mut [u8], at: usize, w: &[u8]) -> usize
-    requires { at + length w.now ≤ length room.old }
-    ensures { (result ≡ at + length w.now) × (room.new ≡ sets room.old at w.now) }
-{
-    let mut i = 0;
-    while i < w.len() {
-        room[at + i] = w[i];
-        i += 1;
-    }
-    at + i
-}
 
 // The decimal digits of v at the end of out, whose other places stay; answers where they begin.
 pub fn digits(out: &mut [u8; 20], v: u64) -> usize
