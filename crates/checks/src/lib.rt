@@ -1,7 +1,7 @@
 // What a ld, a st or an mma is refused for, by a ledger and a table of values that are left as they are.
 #![tactic(auto)]
 
-ghost use Rattle.std.specs.Prelude.{◌≡◌, ◌&&◌, ◌||◌, ◌+◌, ◌*◌, ◌/◌, ◌%◌, eqb, leb, IfOk};
+ghost use Rattle.std.specs.Prelude.{◌≡◌, ◌&&◌, ◌||◌, ◌+◌, ◌*◌, ◌/◌, ◌%◌, ◌<◌, eqb, leb, IfOk};
 ghost use Rattle.laws.specs.Rules.{first_broken};
 ghost use Rattle.reasons.specs.Reasons.{number, answered};
 ghost use Rattle.statement.specs.Canonical.{sparse};
@@ -63,6 +63,7 @@ fn columns_needed(shape: Shape, num: Num) -> u32
 pub fn access_judged(ledger: &Ledger, warp: u8, a: Access) -> Result<u32, Reason>
     ensures reason { AccessJudged ledger.now warp a (answered result) }
     ensures start { IfOk result (StartsAt ledger.now a.address.base) }
+    ensures inside { IfOk result (λ start. start < 512) }
 {
     if cells::is_miscounted(a) {
         return Err(Reason::Registers);

@@ -1,6 +1,7 @@
 -- Laws that belong to no one function.
-pub mod PlaceLaws
-pub mod BookingLaws
-pub mod SlotLaws
-pub mod ShowLaws
+pub mod AllocationLaws
 pub mod FoundLaws
+pub mod PlaceLaws
+pub mod SlotLaws
+pub mod BookingLaws
+pub mod ShowLaws

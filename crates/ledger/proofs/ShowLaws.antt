@@ -2,15 +2,19 @@
 -- ledger's, by the laws of the slots. Assumes nothing.
 use Prim.Native.Nat.{ℕ, ◌*◌, ◌<◌}
 use mathlib.Core.Path.{◌≡◌, refl, sym, ap, ◌∙◌, subst}
-use mathlib.Core.Bool.{Bool, true, false, not, ◌&&◌, ◌||◌, cond}
+use mathlib.Core.Bool.{Bool, true, false, not, ◌&&◌, cond}
 use mathlib.Core.List.{List, [], ◌∷◌}
-use mathlib.Core.Option.{Option, none, some}
+use mathlib.Core.Option as maybe
+use mathlib.Core.Option.{some, none}
 use native.Mathlib.Omega.{arith}
+use lib.ListN.{set}
 use lib.Dec.{ltb, eqb}
-use lib.ListN.{get_or, set, replicate, get_or-replicate}
 use borrow.Author.Tests.{ltb-true, lt-ltb, eqb-true, not-true}
+use Rattle.std.specs.Prelude.{Option, Some, None, option_map}
+use Rattle.std.specs.Option as code
 use Rattle.laws.specs.Rules.{first_broken}
 use Rattle.laws.specs.Tests.{is_some}
+use Rattle.laws.proofs.BoolLaws.{clash}
 use Rattle.request.specs.Request.{legal}
 use Rattle.tokens.specs.declared.Name.{Name}
 use Rattle.statement.specs.declared.Statement.TheVariants.{Alloc, Dealloc, Relinquish}
@@ -21,12 +25,14 @@ use Rattle.rules.specs.Reasons.{is_warp, open_rules}
 use Rattle.rules.specs.Sheet.{effect, start_list, added, fixed}
 use Rattle.rules.proofs.CountingLaws.{least_hit}
 use Rattle.rules.proofs.ByAct.{first_broken_lem}
+use Rattle.ledger.specs.declared.Holding.{Holding}
 use Rattle.ledger.specs.declared.Ledger.{Ledger}
-use Rattle.ledger.specs.Slots.{fits_at, place_of, total}
-use Rattle.ledger.specs.Booking.{Booking, empty, slot, place, is_live, may_book, columns_of, alloc_rules, release_rules, relinquish_rules, with_allocation, without_allocation, after_relinquish, booked, alloc_of, release_of, relinquish_of}
-use Rattle.ledger.specs.Shows.{slot_at, Slots, Shows, or_busy, Stays, Tells}
+use Rattle.ledger.specs.Slots.{slot_i, fits_at, place_of}
+use Rattle.ledger.specs.Booking.{Booking, empty, slot, place, is_live, is_own, may_book, columns_of, alloc_rules, release_rules, relinquish_rules, with_allocation, without_allocation, after_relinquish, booked, alloc_of, release_of, relinquish_of}
+use Rattle.ledger.specs.Shows.{allocation, slot_at, Live, fixed_warp, Shows, or_busy, Taken, name_of, name_at, Stays, Tells}
 use Rattle.ledger.proofs.BookingLaws.{legal_range}
-use Rattle.ledger.proofs.SlotLaws.{slot_own, live_slot, columns-slot, place-slot, place-empty, slot_other, slot_emptied, slots_none, slots_alloc, slots_release}
+use Rattle.ledger.proofs.FoundLaws.{slot_own, slot_some, found_live, found_size}
+use Rattle.ledger.proofs.SlotLaws.{place-slot, place-empty, slot_other, live_none, live_alloc, live_release}
 
 -- ---- what is booked, by its reason
 cond_reason : (l next : Ledger) (reason start : ℕ) (t : Bool) → eqb reason 0 ≡ t
@@ -63,13 +69,13 @@ release_order true false size busy = refl
 release_order false warp size busy = refl
 
 -- ---- the warp
-same_warp : (b : Bool) (v w : ℕ) → not b || eqb v w ≡ is_warp (cond b (some v) none) w
-same_warp true v w = refl
-same_warp false v w = refl
+same_warp : (o : Option ℕ) (w : ℕ) → is_own o w ≡ is_warp (fixed_warp o) w
+same_warp (Some v) w = refl
+same_warp None w = refl
 
-fixes : (b : Bool) (v w : ℕ) → not b || eqb v w ≡ true → some w ≡ fixed (cond b (some v) none) w
-fixes true v w e = ap some (sym (eqb-true v w e))
-fixes false v w e = refl
+fixes : (o : Option ℕ) (w : ℕ) → is_own o w ≡ true → some w ≡ fixed (fixed_warp o) w
+fixes (Some v) w e = ap some (sym (eqb-true v w e))
+fixes None w e = refl
 
 -- ---- the placing
 some_if : (b : Bool) (x : ℕ) → is_some (cond b (some x) none) ≡ b
@@ -86,28 +92,20 @@ placed_at live k p e h = rw (sym e, lt-ltb p 16 h)
 
 -- ---- nothing is allocated
 pub shows_empty : Shows empty opened
-unfolding total
-shows_empty = record {
-  slots = slots_none (replicate 16 0) (replicate 16 0) (replicate 16 0) refl refl refl zeros refl;
-  warp = refl;
-  relinquished = refl;
-}
-  where
-    zeros : (i : ℕ) → i < 16 → ◌≡◌ {A = ℕ} (get_or (replicate 16 0) i 0) 0
-    zeros i h = get_or-replicate 16 i 0 0 h
+shows_empty = record { slots = live_none; warp = refl; relinquished = refl }
 
 module _ (l : Ledger) (s : State) (h : Shows l s) where
   live_test : (n : Name) → is_live l n ≡ rules.is_live n s.live
-  live_test n = live_slot l.hi l.lo l.columns s.live h.slots n
+  live_test n = found_live l s.live h.slots n
 
   columns-test : (n : Name) → columns_of l n ≡ rules.columns_of n s.live
-  columns-test n = columns-slot l.hi l.lo l.columns s.live h.slots n
+  columns-test n = found_size l s.live h.slots n
 
   warp_test : (w : ℕ) → may_book l w ≡ is_warp s.warp w
-  warp_test w = same_warp l.fixed l.warp w ∙ ap (λ (o : Option ℕ). is_warp o w) h.warp
+  warp_test w = same_warp l.warp w ∙ ap (λ (o : maybe.Option ℕ). is_warp o w) h.warp
 
   place-test : (k : ℕ) → legal k ≡ true → place l k ≡ rules.slot s.live k
-  place-test k e = place-slot l.hi l.lo l.columns s.live h.slots k (omega (arith, (legal_range k e).0))
+  place-test k e = place-slot l s.live h.slots k (omega (arith, (legal_range k e).0))
 
   placed-test : (k : ℕ) → legal k ≡ true → ltb (place l k) 16 ≡ is_some (lowest s.live k)
   placed-test k e = ap (λ (p : ℕ). ltb p 16) (place-test k e) ∙ sym (placed_if s.live k)
@@ -152,20 +150,20 @@ module _ (l : Ledger) (s : State) (h : Shows l s) where
       (sym (live_test n) ∙ not-true (is_live l n) a.0, b.0, c.0, ltb-true (place l k) 16 f.0, z)
 
   -- the slot that is found is empty
-  free : (k : ℕ) → legal k ≡ true → place l k < 16 → get_or l.columns (place l k) 0 ≡ 0
+  free : (k : ℕ) → legal k ≡ true → place l k < 16 → slot_i l.slots (place l k) ≡ None
   unfolding place_of
   free k c d =
-      place-empty l.hi l.lo l.columns s.live h.slots k (place l k) d (omega (arith, (legal_range k c).0))
-      (least_hit (fits_at l.columns k) 16 d)
+      place-empty l s.live h.slots k (place l k) d (omega (arith, (legal_range k c).0))
+      (least_hit (fits_at l.slots k) 16 d)
 
   alloc_shows : (n : Name) (w k : ℕ) → rules.is_live n s.live ≡ false → may_book l w ≡ true → legal k ≡ true → place l k < 16
       → Shows (with_allocation l (place l k) n w k) (effect lowest s w (act.requests n k))
   unfolding effect
   alloc_shows n w k a b c d = record {
-    slots = subst (λ (o : Option ℕ). Slots (set l.hi (place l k) n.hi) (set l.lo (place l k) n.lo) (set l.columns (place l k) k) (added n k o s.live))
+    slots = subst (λ (o : maybe.Option ℕ). Live (with_allocation l (place l k) n w k) (added n k o s.live))
         (sym (placed_at s.live k (place l k) (place-test k c) d))
-        (slots_alloc l.hi l.lo l.columns s.live h.slots n k (place l k) d (omega (arith, (legal_range k c).0)) (free k c d) a);
-    warp = fixes l.fixed l.warp w b ∙ ap (λ (o : Option ℕ). fixed o w) h.warp;
+        (live_alloc l s.live h.slots n w k (place l k) d (omega (arith, (legal_range k c).0)) (free k c d) a);
+    warp = fixes l.warp w b ∙ ap (λ (o : maybe.Option ℕ). fixed o w) h.warp;
     relinquished = h.relinquished;
   }
 
@@ -192,7 +190,7 @@ module _ (l : Ledger) (s : State) (h : Shows l s) where
       subst (λ (b : Booking). Shows b.next (effect lowest s w (act.releases n k)))
       (sym (booked-next l (without_allocation l (slot l n)) (first_broken (release_rules l n w k)) 0 z))
       (record {
-        slots = slots_release l.hi l.lo l.columns s.live h.slots n (ltb-true (slot l n) 16 a.0);
+        slots = let p = slot_some l n a.0 in subst (λ (o : Option ℕ). Live (without_allocation l o) (rules.without n s.live)) (sym p.1) (live_release l s.live h.slots n p.0 p.1);
         warp = h.warp;
         relinquished = h.relinquished;
       })
@@ -208,27 +206,33 @@ module _ (l : Ledger) (s : State) (h : Shows l s) where
       let a = kept (may_book l w) 0 8 (omega arith) z in
       subst (λ (b : Booking). Shows b.next (effect lowest s w act.relinquishes))
       (sym (booked-next l (after_relinquish l w) (first_broken (relinquish_rules l w)) 0 z))
-      (record { slots = h.slots; warp = fixes l.fixed l.warp w a.0 ∙ ap (λ (o : Option ℕ). fixed o w) h.warp; relinquished = refl })
+      (record { slots = record { size = h.slots.size; down = h.slots.down; up = h.slots.up; unique = h.slots.unique; sum = h.slots.sum }; warp = fixes l.warp w a.0 ∙ ap (λ (o : maybe.Option ℕ). fixed o w) h.warp; relinquished = refl })
 
   -- the slots that are not booked
-  alloc_stays : (n : Name) (w k i : ℕ) → (alloc_of l n w k).reason ≡ 0 → 0 < get_or l.columns i 0 → Stays l (alloc_of l n w k).next i
+  stays_other : (o : Option Holding) (p i : ℕ) → (i ≡ p → ⊥) → option_map (allocation i) (slot_i (set l.slots p o) i) ≡ slot_at l i
+  stays_other o p i x = ap (option_map (allocation i)) (slot_other l.slots o p i x)
+
+  alloc_stays : (n : Name) (w k i : ℕ) → (alloc_of l n w k).reason ≡ 0 → Taken l i → Stays l (alloc_of l n w k).next i
   unfolding alloc_of
-  alloc_stays n w k i e p =
+  alloc_stays n w k i e t =
       let a = alloc-kept n w k e in
-      let z : get_or l.columns (place l k) 0 ≡ 0 = free k a.2 a.3 in
+      let z = free k a.2 a.3 in
       subst (λ (b : Booking). Stays l b.next i)
       (sym (booked-next l (with_allocation l (place l k) n w k) (first_broken (alloc_rules l n w k)) (place l k * 32) a.4))
-      (slot_other l.hi l.lo l.columns n k (place l k) i (λ q. absurd (omega (arith, p, z, ap (λ (j : ℕ). get_or l.columns j 0) q))))
+      (stays_other (Some (record { name = n; columns = k })) (place l k) i
+      (λ q. clash t (ap (λ (o : Option Holding). code.is_some (option_map (allocation i) o)) (subst (λ j. slot_i l.slots j ≡ None) (sym q) z))))
 
-  release_stays : (n : Name) (w k i : ℕ) → (release_of l n w k).reason ≡ 0 → ((slot_at l.hi l.lo l.columns i).name ≡ n → ⊥) → Stays l (release_of l n w k).next i
+  release_stays : (n : Name) (w k i : ℕ) → (release_of l n w k).reason ≡ 0 → (name_at l i ≡ n → ⊥) → Stays l (release_of l n w k).next i
   unfolding release_of
   release_stays n w k i e o =
       let z : first_broken (release_rules l n w k) ≡ 0 = sym (booked_reason l (without_allocation l (slot l n)) (first_broken (release_rules l n w k)) 0) ∙ e in
-      let a = kept (is_live l n) _ 6 (omega arith) z in
-      let own = (slot_own l.hi l.lo l.columns s.live h.slots n (ltb-true (slot l n) 16 a.0)).0 in
+      let p = slot_some l n (kept (is_live l n) _ 6 (omega arith) z).0 in
+      let own = slot_own l s.live h.slots n p.0 p.1 in
+      let name : name_at l p.0 ≡ n = ap (λ (x : Option Holding). name_of (option_map (allocation p.0) x)) own.1.1 ∙ own.1.2 in
       subst (λ (b : Booking). Stays l b.next i)
       (sym (booked-next l (without_allocation l (slot l n)) (first_broken (release_rules l n w k)) 0 z))
-      (slot_emptied l.hi l.lo l.columns (slot l n) i (λ q. o (ap (λ (j : ℕ). (slot_at l.hi l.lo l.columns j).name) q ∙ own)))
+      (subst (λ (x : Option ℕ). Stays l (without_allocation l x) i) (sym p.1)
+      (stays_other None p.0 i (λ q. o (ap (λ (j : ℕ). name_at l j) q ∙ name))))
 
   relinquish_stays : (w i : ℕ) → (relinquish_of l w).reason ≡ 0 → Stays l (relinquish_of l w).next i
   unfolding relinquish_of

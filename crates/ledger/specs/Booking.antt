@@ -1,5 +1,5 @@
 -- What each method of the ledger answers, and the next ledger (docs/FORMAT.md, 'Booking'). Assumes nothing.
-use Rattle.std.specs.Prelude.{ℕ, ◌*◌, Bool, true, false, not, ◌||◌, cond, List, [], ◌∷◌, ltb, eqb, get_or, set, replicate, Option, Some, None, Result, Ok, Err}
+use Rattle.std.specs.Prelude.{ℕ, ◌*◌, Bool, true, false, not, cond, List, [], ◌∷◌, ltb, eqb, set, replicate, Option, Some, None, is_some, option_map, option_and_then, Result, Ok, Err}
 use Rattle.reasons.specs.declared.Reason.{Reason}
 use Rattle.reasons.specs.Reasons.{answered}
 use Rattle.laws.specs.Rules.{Rule, rule, first_broken}
@@ -8,30 +8,45 @@ use Rattle.tokens.specs.declared.Name.{Name}
 use Rattle.ledger.specs.declared.Ledger.{Ledger}
 use Rattle.ledger.specs.declared.Booked.{Booked}
 use Rattle.ledger.specs.declared.Span.{Span}
-use Rattle.ledger.specs.Slots.{slot_of, place_of}
+use Rattle.ledger.specs.Slots.{Slots, slot_i, slot_of, place_of}
 
 -- no allocation, no warp fixed, not relinquished
 abbrev pub empty : Ledger
-empty = record { hi = replicate 16 0; lo = replicate 16 0; columns = replicate 16 0; fixed = false; warp = 0; relinquished = false }
+empty = record { slots = replicate 16 None; warp = None; relinquished = false }
 
--- the slot of the live allocation of a name, and the slot from which the columns requested are free; 16 for none
-abbrev pub slot : Ledger → Name → ℕ
-slot l name = slot_of l.hi l.lo l.columns name
+-- the slot of the live allocation of a name, if it has one; and the slot from which the columns requested are free, 16 for none
+abbrev pub slot : Ledger → Name → Option ℕ
+slot l name = slot_of l.slots name
 
 abbrev pub place : Ledger → ℕ → ℕ
-place l requested = place_of l.columns requested
+place l requested = place_of l.slots requested
 
--- the name has a live allocation
+-- what is found: the start and the columns of the allocation of slot i, and of a name, if it has one
+abbrev pub span_at : Slots → ℕ → Option Span
+span_at slots i = option_map (λ h. record { start = i * 32; columns = h.columns }) (slot_i slots i)
+
+unfoldable pub found : Ledger → Name → Option Span
+found l name = option_and_then (span_at l.slots) (slot l name)
+
+-- the columns of what is found; 0 where nothing is
+abbrev pub columns_in : Option Span → ℕ
+columns_in (Some span) = span.columns
+columns_in None = 0
+
+-- the name has a live allocation; and its columns
 abbrev pub is_live : Ledger → Name → Bool
-is_live l name = ltb (slot l name) 16
+is_live l name = is_some (found l name)
+
+abbrev pub columns_of : Ledger → Name → ℕ
+columns_of l name = columns_in (found l name)
 
 -- no warp is fixed yet, or it is this one
-abbrev pub may_book : Ledger → ℕ → Bool
-may_book l warp = not l.fixed || eqb l.warp warp
+abbrev pub is_own : Option ℕ → ℕ → Bool
+is_own (Some own) warp = eqb own warp
+is_own None warp = true
 
--- the columns of the allocation of a name
-abbrev pub columns_of : Ledger → Name → ℕ
-columns_of l name = get_or l.columns (slot l name) 0
+abbrev pub may_book : Ledger → ℕ → Bool
+may_book l warp = is_own l.warp warp
 
 -- what each method asks, in order
 abbrev pub alloc_rules : Ledger → Name → ℕ → ℕ → List Rule
@@ -44,29 +59,21 @@ release_rules l name warp released = rule 6 (is_live l name) ∷ rule 8 (may_boo
 abbrev pub relinquish_rules : Ledger → ℕ → List Rule
 relinquish_rules l warp = rule 8 (may_book l warp) ∷ []
 
+-- a slot emptied, if there is one
+abbrev pub emptied : Slots → Option ℕ → Slots
+emptied slots (Some i) = set slots i None
+emptied slots None = slots
+
 -- the next ledger where no rule is broken: the allocation in its slot and the warp fixed; the slot empty; the warp fixed and no more allocs
 abbrev pub with_allocation : Ledger → ℕ → Name → ℕ → ℕ → Ledger
-with_allocation l i name warp requested = record {
-  hi = set l.hi i name.hi;
-  lo = set l.lo i name.lo;
-  columns = set l.columns i requested;
-  fixed = true;
-  warp = warp;
-  relinquished = l.relinquished;
-}
+with_allocation l i name warp requested =
+    record { slots = set l.slots i (Some (record { name = name; columns = requested })); warp = Some warp; relinquished = l.relinquished }
 
-abbrev pub without_allocation : Ledger → ℕ → Ledger
-without_allocation l i = record {
-  hi = l.hi;
-  lo = l.lo;
-  columns = set l.columns i 0;
-  fixed = l.fixed;
-  warp = l.warp;
-  relinquished = l.relinquished;
-}
+abbrev pub without_allocation : Ledger → Option ℕ → Ledger
+without_allocation l at = record { slots = emptied l.slots at; warp = l.warp; relinquished = l.relinquished }
 
 abbrev pub after_relinquish : Ledger → ℕ → Ledger
-after_relinquish l warp = record { hi = l.hi; lo = l.lo; columns = l.columns; fixed = true; warp = warp; relinquished = true }
+after_relinquish l warp = record { slots = l.slots; warp = Some warp; relinquished = true }
 
 -- what a booking answers: the next ledger, the reason or 0, and the start of an alloc that is accepted
 pub record Booking : Type 0 where
@@ -100,19 +107,3 @@ release_of l name warp released = booked l (first_broken (release_rules l name w
 
 unfoldable pub relinquish_of : Ledger → ℕ → Booking
 relinquish_of l warp = booked l (first_broken (relinquish_rules l warp)) 0 (after_relinquish l warp)
-
--- the allocation of a name: its start and its columns; 0 columns where it has none
-unfoldable pub find_in : List ℕ → List ℕ → List ℕ → Name → Span
-find_in hi lo columns name =
-    cond (ltb (slot_of hi lo columns name) 16)
-    (record { start = slot_of hi lo columns name * 32; columns = get_or columns (slot_of hi lo columns name) 0 })
-    (record { start = 0; columns = 0 })
-
--- the same of a ledger: its start and its columns, where it has one
-unfoldable pub found : Ledger → Name → Option Span
-found l name = cond (is_live l name) (Some (record { start = slot l name * 32; columns = columns_of l name })) None
-
--- the columns of what is found; 0 where nothing is
-abbrev pub columns_in : Option Span → ℕ
-columns_in (Some span) = span.columns
-columns_in None = 0

@@ -1,10 +1,11 @@
 -- A ledger shows a state of the rules: its slots are the live allocations, and it has the state's warp and permit. proofs/ShowLaws.antt shows that
 -- every method then answers and goes on as the rules say. Assumes nothing.
-use Rattle.std.specs.Prelude.{ℕ, ◌*◌, ◌/◌, ◌<◌, ◌≡◌, Bool, true, not, cond, List, [], ◌∷◌, eqb, get_or, length, is_some, Some}
-use Rattle.std.proofs.Math.Option.{Option, none, some}
+use Rattle.std.specs.Prelude.{ℕ, ◌*◌, ◌/◌, ◌<◌, ◌≡◌, Bool, true, cond, List, [], ◌∷◌, eqb, length, Option, Some, None, is_some, option_map}
+use Rattle.std.proofs.Math.Option as maybe
 use Rattle.laws.specs.Lists.{Among}
 use Rattle.laws.specs.Rules.{first_broken}
 use Rattle.tokens.specs.declared.Name.{Name}
+use Rattle.tokens.specs.Names.{no_name}
 use Rattle.statement.specs.declared.Statement.TheVariants.{Alloc, Dealloc, Relinquish}
 use Rattle.statement.specs.Views as act
 use Rattle.rules.specs.State as rules
@@ -12,63 +13,57 @@ use Rattle.rules.specs.State.{State, Allocation, lowest}
 use Rattle.rules.specs.Reasons.{open_rules}
 use Rattle.rules.specs.Sheet.{effect, start_list}
 use Rattle.rules.specs.Claims.{Unique}
+use Rattle.ledger.specs.declared.Holding.{Holding}
 use Rattle.ledger.specs.declared.Ledger.{Ledger}
 use Rattle.ledger.specs.declared.Span.{Span}
-use Rattle.ledger.specs.Slots.{total}
-use Rattle.ledger.specs.Booking.{alloc_of, release_of, relinquish_of, find_in, found, columns_in}
+use Rattle.ledger.specs.Slots.{slot_i, total}
+use Rattle.ledger.specs.Booking.{alloc_of, release_of, relinquish_of, found, columns_in}
 
--- the allocation of slot i
-abbrev pub slot_at : List ℕ → List ℕ → List ℕ → ℕ → Allocation
-slot_at hi lo columns i = record { name = record { hi = get_or hi i 0; lo = get_or lo i 0 }; start = i * 32; columns = get_or columns i 0 }
+-- the allocation of slot i, if it has one
+abbrev pub allocation : ℕ → Holding → Allocation
+allocation i h = record { name = h.name; start = i * 32; columns = h.columns }
 
--- the slots that are not empty are the live allocations
-pub record Slots (hi lo columns : List ℕ) (live : List Allocation) : Type 0 where
-  pub hi_16 : length hi ≡ 16
-  pub lo_16 : length lo ≡ 16
-  pub columns_16 : length columns ≡ 16
-  pub down : (a : Allocation) → Among a live → (i : ℕ) × (i < 16) × (a ≡ slot_at hi lo columns i) × (0 < a.columns)
-  pub up : (i : ℕ) → i < 16 → 0 < get_or columns i 0 → Among (slot_at hi lo columns i) live
+abbrev pub slot_at : Ledger → ℕ → Option Allocation
+slot_at l i = option_map (allocation i) (slot_i l.slots i)
+
+-- the allocations of the slots are the live ones
+pub record Live (l : Ledger) (live : List Allocation) : Type 0 where
+  pub size : length l.slots ≡ 16
+  pub down : (a : Allocation) → Among a live → (i : ℕ) × (i < 16) × (slot_at l i ≡ Some a) × (0 < a.columns)
+  pub up : (i : ℕ) (a : Allocation) → i < 16 → slot_at l i ≡ Some a → Among a live
   pub unique : Unique live
   -- the columns of the slots are those of the allocations: what is stored agrees with what is summed over the lines
-  pub sum : total columns 16 ≡ rules.total live
-
--- the same of a ledger: its slots that are not empty are the live allocations
-abbrev pub Live : Ledger → List Allocation → Type 0
-Live l live = Slots l.hi l.lo l.columns live
+  pub sum : total l.slots ≡ rules.total live
 
 -- the warp that is fixed, if any
-abbrev pub warp_of : Ledger → Option ℕ
-warp_of l = cond l.fixed (some l.warp) none
+abbrev pub fixed_warp : Option ℕ → maybe.Option ℕ
+fixed_warp (Some warp) = maybe.some warp
+fixed_warp None = maybe.none
+
+abbrev pub warp_of : Ledger → maybe.Option ℕ
+warp_of l = fixed_warp l.warp
 
 pub record Shows (l : Ledger) (s : State) : Type 0 where
-  pub slots : Slots l.hi l.lo l.columns s.live
+  pub slots : Live l s.live
   pub warp : warp_of l ≡ s.warp
   pub relinquished : l.relinquished ≡ s.relinquished
 
 -- ---- the claims
--- slot i has a live allocation of that name
-pub record Holds (hi lo columns : List ℕ) (i : ℕ) (n : Name) : Type 0 where
-  pub name : (slot_at hi lo columns i).name ≡ n
-  pub live : 0 < get_or columns i 0
-
--- what the slots tell of a name: it is live where an allocation is found, which has its columns
-pub record Finds (hi lo columns : List ℕ) (l : List Allocation) : Type 0 where
-  pub live : (n : Name) → not (eqb (find_in hi lo columns n).columns 0) ≡ rules.is_live n l
-  pub size : (n : Name) → (find_in hi lo columns n).columns ≡ rules.columns_of n l
-  -- where it starts is the one slot that has the name
-  pub own : (n : Name) → rules.is_live n l ≡ true → Holds hi lo columns ((find_in hi lo columns n).start / 32) n
-  pub sole : (n : Name) (i : ℕ) → i < 16 → Holds hi lo columns i n → i ≡ (find_in hi lo columns n).start / 32
-
--- slot i of a ledger has an allocation; and its name
+-- slot i has an allocation; and its name, if it has
 abbrev pub Taken : Ledger → ℕ → Type 0
-Taken l i = 0 < get_or l.columns i 0
+Taken l i = is_some (slot_at l i) ≡ true
+
+abbrev pub name_of : Option Allocation → Name
+name_of (Some a) = a.name
+name_of None = no_name
 
 abbrev pub name_at : Ledger → ℕ → Name
-name_at l i = (slot_at l.hi l.lo l.columns i).name
+name_at l i = name_of (slot_at l i)
 
--- slot i of a ledger has a live allocation of that name
-abbrev pub HoldsIn : Ledger → ℕ → Name → Type 0
-HoldsIn l i n = Holds l.hi l.lo l.columns i n
+-- slot i has a live allocation of that name
+pub record HoldsIn (l : Ledger) (i : ℕ) (n : Name) : Type 0 where
+  pub taken : Taken l i
+  pub name : name_at l i ≡ n
 
 -- what a ledger tells of a name: it is live where an allocation is found, which has its columns
 pub record FindsIn (l : Ledger) (all : List Allocation) : Type 0 where
@@ -84,7 +79,7 @@ or_busy reason busy = cond (eqb reason 0) (cond busy 18 0) reason
 
 -- slot i is in the next ledger as it was
 abbrev pub Stays : Ledger → Ledger → ℕ → Type 0
-Stays l next i = slot_at next.hi next.lo next.columns i ≡ slot_at l.hi l.lo l.columns i
+Stays l next i = slot_at next i ≡ slot_at l i
 
 -- what the methods of a ledger that shows a state tell of it
 pub record Tells (l : Ledger) (s : State) : Type 0 where

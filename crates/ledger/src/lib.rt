@@ -3,23 +3,27 @@
 // is for the one that starts at column 32 * i.
 #![tactic(auto)]
 
-ghost use Rattle.std.specs.Prelude.{◌≡◌, not, ◌||◌, ◌+◌, ◌≤◌, ◌<◌, eqb};
-ghost use Rattle.ledger.specs.Slots.{owns, slot_of, place_of, past_of};
-ghost use Rattle.ledger.specs.Booking.{empty, unchanged, alloc_of, release_of, relinquish_of, find_in, found, booking};
-ghost use Rattle.reasons.specs.Reasons.{number};
+ghost use Rattle.std.specs.Prelude.{◌≡◌, ◌<◌, ◌≤◌, IfOk, IfSome, Some};
+ghost use Rattle.laws.specs.Rules.{first_broken};
+ghost use Rattle.reasons.specs.Reasons.{number, answered};
+ghost use Rattle.ledger.specs.Slots.{in_slots, place_of, past_of};
+ghost use Rattle.ledger.specs.Booking.{empty, slot, place, may_book, alloc_rules, release_rules, booking, unchanged, alloc_of, release_of, relinquish_of, found};
 
 use reasons::Reason;
 use tokens::Name;
 
-// Slot by slot the name and the columns of an allocation, 0 columns where there is none. `fixed`: a warp is fixed, and
-// `warp` says which.
+// An allocation in its slot.
+#[derive(Clone, Copy)]
+pub struct Holding {
+    pub name: Name,
+    pub columns: u16,
+}
+
+// The allocations by slot, and the warp that the first accepted alloc or relinquish fixed.
 #[derive(Clone, Copy)]
 pub struct Ledger {
-    pub hi: [u64; 16],
-    pub lo: [u64; 16],
-    pub columns: [u16; 16],
-    pub fixed: bool,
-    pub warp: u8,
+    pub slots: [Option<Holding>; 16],
+    pub warp: Option<u8>,
     pub relinquished: bool,
 }
 
@@ -30,86 +34,22 @@ pub struct Booked {
     pub start: Result<u32, Reason>,
 }
 
-// The columns of an allocation, from the first on; 0 columns where there is none.
+// The columns of an allocation, from the first on.
 #[derive(Clone, Copy)]
 pub struct Span {
     pub start: u32,
     pub columns: u32,
 }
 
-fn wide(x: u16) -> u32
-    ensures { (result ≡ x) × (result ≤ 65535) }
+// The next slot that may be free, once slot i has been looked at.
+fn past(start: usize, i: usize, slot: Option<Holding>) -> usize
+    requires { (start ≤ 4096) × (i < 16) }
+    ensures next { result ≡ past_of start i slot }
+    ensures near { result ≤ 4096 }
 {
-    x as u32
-}
-
-fn is_owner(hi: u64, lo: u64, columns: u16, name: Name) -> bool
-    ensures { result ≡ owns hi lo columns name }
-{
-    (columns != 0) & ((hi == name.hi) & (lo == name.lo))
-}
-
-// The slot of a name, or 16.
-fn slot_of<'a>(hi: &'a [u64; 16], lo: &'a [u64; 16], columns: &'a [u16; 16], name: Name) -> usize
-    ensures { result ≡ slot_of hi.now lo.now columns.now name }
-{
-    let mut i: usize = 0;
-    while i < 16 {
-        if is_owner(hi[i], lo[i], columns[i], name) {
-            return i;
-        }
-        i += 1;
-    }
-    16
-}
-
-fn past(start: u32, i: u32, columns: u32) -> u32
-    requires { (i < 16) × (columns ≤ 65535) }
-    ensures { result ≡ past_of start i columns }
-{
-    if columns == 0 {
-        return start;
-    }
-    let end = i + (columns + 31) / 32;
-    if start < end { end } else { start }
-}
-
-// The lowest slot from which the columns requested are free, or 16: one pass, with the run of free slots so far.
-fn place_for(columns: &[u16; 16], requested: u32) -> u32
-    requires { (0 < requested) × (requested ≤ 512) }
-    ensures { result ≡ place_of columns.now requested }
-{
-    let mut start: u32 = 0;
-    let mut i: usize = 0;
-    while i < 16 {
-        start = past(start, i as u32, wide(columns[i]));
-        i += 1;
-        if start * 32 + requested <= (i as u32) * 32 {
-            return start;
-        }
-    }
-    16
-}
-
-fn is_allowed(fixed: bool, own: u8, warp: u8) -> bool
-    ensures { result ≡ not fixed || eqb own warp }
-{
-    !fixed | (own == warp)
-}
-
-// The allocation of a name, in a ledger that is left where it is.
-pub fn find_in<'a>(hi: &'a [u64; 16], lo: &'a [u64; 16], columns: &'a [u16; 16], name: Name) -> Span
-    ensures { result ≡ find_in hi.now lo.now columns.now name }
-{
-    let at = slot_of(hi, lo, columns, name);
-    if at < 16 {
-        let start = (at as u32) * 32;
-        let columns = wide(columns[at]);
-        return Span { start, columns };
-    }
-    Span {
-        start: 0,
-        columns: 0,
+    match slot {
+        Some(holding) => start.max(i + usize::from(holding.columns).div_ceil(32)),
+        None => start,
     }
 }
 
@@ -129,93 +69,137 @@ impl Ledger {
         ensures { result ≡ empty }
     {
         Ledger {
-            hi: [0u64; 16],
-            lo: [0u64; 16],
-            columns: [0u16; 16],
-            fixed: false,
-            warp: 0,
+            slots: [None; 16],
+            warp: None,
             relinquished: false,
         }
     }
 
-    // The allocation of a name, if it has one.
-    pub fn find(&self, name: Name) -> Option<Span>
-        ensures { result ≡ found self.now name }
+    // The slot of a name, if it has an allocation.
+    fn slot_of(&self, name: Name) -> Option<usize>
+        ensures { result ≡ slot self.now name }
     {
-        let at = slot_of(&self.hi, &self.lo, &self.columns, name);
-        if at < 16 {
-            let start = (at as u32) * 32;
-            let columns = wide(self.columns[at]);
-            return Some(Span { start, columns });
+        self.slots
+            .iter()
+            .position(|slot| slot.is_some_and(|holding| holding.name == name))
+    }
+
+    // The allocation of a name, if it has one.
+    #[tactic(auto, unfolding(crate::specs::Booking::found))]
+    pub fn find(&self, name: Name) -> Option<Span>
+        ensures found { result ≡ found self.now name }
+        ensures inside { IfSome result (λ span. span.start < 512) }
+    {
+        let at = self.slot_of(name)?;
+        let holding = self.slots[at]?;
+        Some(Span {
+            start: at as u32 * 32,
+            columns: u32::from(holding.columns),
+        })
+    }
+
+    // The lowest slot from which the columns requested are free: one pass, with the run of free slots so far.
+    fn place_for(&self, requested: u32) -> Option<usize>
+        requires { (0 < requested) × (requested ≤ 512) }
+        ensures { result ≡ in_slots (place_of self.now.slots requested) }
+    {
+        let mut start = 0;
+        for (i, slot) in self.slots.iter().enumerate() {
+            start = past(start, i, *slot);
+            if start * 32 + requested as usize <= (i + 1) * 32 {
+                return Some(start);
+            }
         }
         None
     }
 
+    fn is_allowed(&self, warp: u8) -> bool
+        ensures { result ≡ may_book self.now warp }
+    {
+        self.warp.is_none_or(|own| own == warp)
+    }
+
+    // The slot for an alloc; or reason 6, 8, 9, 10 or 11.
+    fn may_alloc(&self, name: Name, warp: u8, requested: u32) -> Result<usize, Reason>
+        ensures reason { answered result ≡ first_broken (alloc_rules self.now name warp requested) }
+        ensures at { IfOk result (λ i. (i ≡ place self.now requested) × (i < 16) × (requested ≤ 512)) }
+    {
+        if self.find(name).is_some() {
+            return Err(Reason::Name);
+        }
+        if !self.is_allowed(warp) {
+            return Err(Reason::Warp);
+        }
+        request::check(requested)?;
+        if self.relinquished {
+            return Err(Reason::Relinquished);
+        }
+        self.place_for(requested).ok_or(Reason::Space)
+    }
+
+    // The slot of a dealloc; or reason 6, 8 or 9.
+    #[tactic(auto, using(crate::proofs::FoundLaws::found_slot))]
+    fn may_release(&self, name: Name, warp: u8, released: u32) -> Result<usize, Reason>
+        ensures reason { answered result ≡ first_broken (release_rules self.now name warp released) }
+        ensures at { IfOk result (λ i. (slot self.now name ≡ Some i) × (i < 16)) }
+    {
+        let Some(span) = self.find(name) else {
+            return Err(Reason::Name);
+        };
+        if !self.is_allowed(warp) {
+            return Err(Reason::Warp);
+        }
+        if span.columns != released {
+            return Err(Reason::Columns);
+        }
+        Ok(span.start as usize / 32)
+    }
+
     // Allocates columns at the lowest start, and fixes the warp; or reason 6, 8, 9, 10 or 11.
+    #[tactic(auto, using(crate::proofs::BookingLaws::made, crate::proofs::BookingLaws::turned_down), unfolding(crate::specs::Booking::alloc_of))]
     pub fn alloc(mut self, name: Name, warp: u8, requested: u32) -> Booked
         ensures { booking result ≡ alloc_of self name warp requested }
     {
-        let at = slot_of(&self.hi, &self.lo, &self.columns, name);
-        if at < 16 {
-            return refused(self, Reason::Name);
-        }
-        if !is_allowed(self.fixed, self.warp, warp) {
-            return refused(self, Reason::Warp);
-        }
-        if reasons::answered(request::check(requested)) != reasons::PASSED {
-            return refused(self, Reason::Columns);
-        }
-        if self.relinquished {
-            return refused(self, Reason::Relinquished);
-        }
-        let place = place_for(&self.columns, requested);
-        if 16 <= place {
-            return refused(self, Reason::Space);
-        }
-        let i = place as usize;
-        let columns = requested as u16;
-        self.hi[i] = name.hi;
-        self.lo[i] = name.lo;
-        self.columns[i] = columns;
-        self.fixed = true;
-        self.warp = warp;
-        let start = place * 32;
-        Booked {
-            next: self,
-            start: Ok(start),
+        match self.may_alloc(name, warp, requested) {
+            Ok(i) => {
+                let columns = requested as u16;
+                self.slots[i] = Some(Holding { name, columns });
+                self.warp = Some(warp);
+                Booked {
+                    next: self,
+                    start: Ok(i as u32 * 32),
+                }
+            }
+            Err(reason) => refused(self, reason),
         }
     }
 
     // Releases the allocation of a name, all of its columns; or reason 6, 8 or 9.
+    #[tactic(auto, using(crate::proofs::BookingLaws::made, crate::proofs::BookingLaws::turned_down), unfolding(crate::specs::Booking::release_of))]
     pub fn release(mut self, name: Name, warp: u8, released: u32) -> Booked
         ensures { booking result ≡ release_of self name warp released }
     {
-        let at = slot_of(&self.hi, &self.lo, &self.columns, name);
-        if 16 <= at {
-            return refused(self, Reason::Name);
-        }
-        if !is_allowed(self.fixed, self.warp, warp) {
-            return refused(self, Reason::Warp);
-        }
-        if wide(self.columns[at]) != released {
-            return refused(self, Reason::Columns);
-        }
-        self.columns[at] = 0;
-        Booked {
-            next: self,
-            start: Ok(0),
+        match self.may_release(name, warp, released) {
+            Ok(i) => {
+                self.slots[i] = None;
+                Booked {
+                    next: self,
+                    start: Ok(0),
+                }
+            }
+            Err(reason) => refused(self, reason),
         }
     }
 
     // No more allocs, and the warp is fixed; or reason 8.
+    #[tactic(auto, unfolding(crate::specs::Booking::relinquish_of))]
     pub fn relinquish(mut self, warp: u8) -> Booked
         ensures { booking result ≡ relinquish_of self warp }
     {
-        if !is_allowed(self.fixed, self.warp, warp) {
+        if !self.is_allowed(warp) {
             return refused(self, Reason::Warp);
         }
-        self.fixed = true;
-        self.warp = warp;
+        self.warp = Some(warp);
         self.relinquished = true;
         Booked {
             next: self,

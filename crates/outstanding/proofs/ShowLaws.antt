@@ -5,9 +5,8 @@ use mathlib.Core.Path.{◌≡◌, refl, sym, ap, ◌∙◌, subst}
 use mathlib.Core.Bool.{Bool, true, false, cond}
 use mathlib.Core.List.{List, [], ◌∷◌}
 use mathlib.Core.Logic.{◌⊎◌, inl, inr}
-use native.Mathlib.Omega.{arith}
 use lib.Dec.{eqb}
-use lib.ListN.{get_or, length-set, get_or-replicate}
+use lib.ListN.{length-set, get_or-replicate}
 use borrow.Author.Tests.{eqb-true, eq-eqb}
 use Rattle.laws.specs.Lists.{Among}
 use Rattle.laws.proofs.BoolLaws.{never, clash, same_test, or_cases, or_left, or_right, or_neither}
@@ -17,16 +16,16 @@ use Rattle.tokens.proofs.Names.{same_true, same_name_lem}
 use Rattle.statement.specs.declared.Transfer.{Transfer}
 use Rattle.rules.specs.State.{Allocation, Mark, is_live, is_by, is_busy, after_wait, after_release}
 use Rattle.rules.proofs.OutstandingProved.{not_is, by_is, is_by_lem}
-use Rattle.std.specs.Prelude.{Option, Some, None, is_some, unwrap_or}
+use Rattle.std.specs.Prelude.{Option, Some, None, is_some}
+use Rattle.std.proofs.lemmas.Option.{same_Some}
 use Rattle.ledger.specs.declared.Ledger.{Ledger}
 use Rattle.ledger.specs.declared.Span.{Span}
-use Rattle.ledger.specs.Booking.{find_in, found}
-use Rattle.ledger.specs.Shows.{slot_at, Slots, Holds}
-use Rattle.ledger.proofs.SlotLaws.{finds, found-start}
-use Rattle.ledger.proofs.FoundLaws.{finds_in, find_in_found}
+use Rattle.ledger.specs.Booking.{found}
+use Rattle.ledger.specs.Shows.{Live, FindsIn, Taken, HoldsIn, name_of, name_at, Stays}
+use Rattle.ledger.proofs.FoundLaws.{finds_in}
 use Rattle.outstanding.specs.declared.Outstanding.{Outstanding}
-use Rattle.outstanding.specs.Words.{word_of, bit_at, marked, none, begun, waited, slots_of, busy_in, busy_on, busy_at}
-use Rattle.outstanding.specs.Shows.{Shows, Tells, ShowsIn, TellsIn}
+use Rattle.outstanding.specs.Words.{word_of, bit_at, marked, none, begun, waited, slots_of, busy_on, busy_at}
+use Rattle.outstanding.specs.Shows.{mark_at, ShowsIn, TellsIn}
 use Rattle.outstanding.proofs.WordLaws.{zero_bit, word_below, which, begun_same, begun_other, waited_same, waited_other, slot-marked, marked-slot}
 
 -- ---- lists of marks
@@ -80,34 +79,39 @@ release_none n [] e = refl
 release_none n (b ∷ l) e = let t = or_neither (same_name b.name n) (is_busy n l) e in rw t.0 (ap (λ k. b ∷ k) (release_none n l t.1))
 
 -- ---- nothing is outstanding
-pub shows_none : (hi lo columns : List ℕ) → Shows none hi lo columns []
+pub shows_none : (l : Ledger) → ShowsIn none l []
 unfolding marked
-shows_none hi lo columns = record {
+shows_none l = record {
   size = refl;
   down = λ m a. absurd a;
   up = λ x w i p q e. absurd (clash e (ap (λ word. bit_at word i) (get_or-replicate 8 (word_of x w) 0 0 (word_below x w p)) ∙ zero_bit i));
 }
 
-module _ (o : Outstanding) (hi lo columns : List ℕ) (l : List Mark) (h : Shows o hi lo columns l) where
-  abbrev At : Name → ℕ
-  At n = (find_in hi lo columns n).start / 32
-
-  busy : (live : List Allocation) → Slots hi lo columns live → (n : Name) → is_live n live ≡ true → busy_in o hi lo columns n ≡ is_busy n l
-  unfolding busy_in
-  busy live s n e = same_test (bit_at (slots_of o) (At n)) (is_busy n l) there back
+module _ (o : Outstanding) (l : Ledger) (marks : List Mark) (h : ShowsIn o l marks) where
+  busy : (live : List Allocation) → Live l live → (n : Name) → is_live n live ≡ true → busy_on o l n ≡ is_busy n marks
+  busy live m n e = at (found l n) refl
     where
-      there : bit_at (slots_of o) (At n) ≡ true → is_busy n l ≡ true
-      there b =
-          let m = slot-marked o (At n) b in
-          let u = h.up m.0 m.1.0 (At n) m.1.1 (found-start hi lo columns n) m.1.2 in
-          among_busy _ l n u.1 ((finds hi lo columns live s).own n e).name
+      t : FindsIn l live
+      t = finds_in l live m
 
-      back : is_busy n l ≡ true → bit_at (slots_of o) (At n) ≡ true
-      back b =
-          let m = busy_among l n b in
-          let d = h.down m.0 m.1 in
-          let i = (finds hi lo columns live s).sole n d.1.0 d.1.1 (subst (λ k. Holds hi lo columns d.1.0 k) m.2 d.1.2) in
-          subst (λ j. bit_at (slots_of o) j ≡ true) i (marked-slot o m.0.transfer m.0.warp d.1.0 d.0 d.1.3)
+      at : (f : Option Span) → found l n ≡ f → busy_at o f ≡ is_busy n marks
+      at None z = absurd (clash (t.live n ∙ e) (ap is_some z))
+      at (Some s) z = same_test (bit_at (slots_of o) (s.start / 32)) (is_busy n marks) there back
+        where
+          there : bit_at (slots_of o) (s.start / 32) ≡ true → is_busy n marks ≡ true
+          there b =
+              let k = slot-marked o (s.start / 32) h.size b in
+              let own = t.own n s z in
+              let u = h.up k.0 k.1.0 (s.start / 32) k.1.1 own.0 k.1.2 in
+              among_busy _ marks n u.1 own.1.name
+
+          back : is_busy n marks ≡ true → bit_at (slots_of o) (s.start / 32) ≡ true
+          back b =
+              let k = busy_among marks n b in
+              let d = h.down k.0 k.1 in
+              let i = t.sole n d.1.0 d.1.1 (subst (λ k. HoldsIn l d.1.0 k) k.2 d.1.2) in
+              let same : d.1.0 ≡ s.start / 32 = i.2 ∙ ap (λ (x : Span). x.start / 32) (same_Some i.0 s (sym i.1 ∙ z)) in
+              subst (λ j. bit_at (slots_of o) j ≡ true) same (marked-slot o d.1.0 h.size k.0.transfer k.0.warp d.0 d.1.3)
 
   module _ (x : Transfer) (w : ℕ) (p : w < 4) where
     -- a bit that is set stays so
@@ -132,44 +136,46 @@ module _ (o : Outstanding) (hi lo columns : List ℕ) (l : List Mark) (h : Shows
         at (inl z) = new z.0 z.1 (or_cases (marked o x w j) (eqb i j) (sym (begun_same o x w h.size p i j) ∙ (rw (z.0, z.1) at e)))
         at (inr z) = inl (sym (begun_other o x w h.size p y v i j z) ∙ e)
 
-    begins : (live : List Allocation) → Slots hi lo columns live → (n : Name) → is_live n live ≡ true
-        → Shows (begun o x w (At n)) hi lo columns (record { name = n; warp = w; transfer = x } ∷ l)
+    begins : (live : List Allocation) → Live l live → (n : Name) (s : Span) → found l n ≡ Some s
+        → ShowsIn (begun o x w (s.start / 32)) l (record { name = n; warp = w; transfer = x } ∷ marks)
     unfolding begun
-    begins live s n e = record { size = length-set o.words (word_of x w) _ ∙ h.size; down = down; up = up }
+    begins live m n s e = record { size = length-set o.words (word_of x w) _ ∙ h.size; down = down; up = up }
       where
-        own : Holds hi lo columns (At n) n
-        own = (finds hi lo columns live s).own n e
+        at : ℕ
+        at = s.start / 32
 
-        set : marked (begun o x w (At n)) x w (At n) ≡ true
-        set = begun_same o x w h.size p (At n) (At n) ∙ or_right (marked o x w (At n)) (eqb (At n) (At n)) (eq-eqb (At n) (At n) refl)
+        own : (at < 16) × HoldsIn l at n
+        own = (finds_in l live m).own n s e
 
-        down : (m : Mark) → Among m (record { name = n; warp = w; transfer = x } ∷ l)
-            → (m.warp < 4) × ((i : ℕ) × (i < 16) × Holds hi lo columns i m.name × (marked (begun o x w (At n)) m.transfer m.warp i ≡ true))
+        set : marked (begun o x w at) x w at ≡ true
+        set = begun_same o x w h.size p at at ∙ or_right (marked o x w at) (eqb at at) (eq-eqb at at refl)
+
+        down : (m : Mark) → Among m (record { name = n; warp = w; transfer = x } ∷ marks)
+            → (m.warp < 4) × ((i : ℕ) × (i < 16) × HoldsIn l i m.name × (marked (begun o x w at) m.transfer m.warp i ≡ true))
         down m (inl q) =
-            subst (λ (m : Mark). (m.warp < 4) × ((i : ℕ) × (i < 16) × Holds hi lo columns i m.name × (marked (begun o x w (At n)) m.transfer m.warp i ≡ true))) (sym q)
-            (p, (At n, found-start hi lo columns n, own, set))
+            subst (λ (m : Mark). (m.warp < 4) × ((i : ℕ) × (i < 16) × HoldsIn l i m.name × (marked (begun o x w at) m.transfer m.warp i ≡ true))) (sym q)
+            (p, (at, own.0, own.1, set))
         down m (inr a) =
             let d = h.down m a in
-            (d.0, (d.1.0, d.1.1, d.1.2, keeps (At n) m.transfer m.warp d.1.0 d.0 d.1.3))
+            (d.0, (d.1.0, d.1.1, d.1.2, keeps at m.transfer m.warp d.1.0 d.0 d.1.3))
 
-        up : (y : Transfer) (v j : ℕ) → v < 4 → j < 16 → marked (begun o x w (At n)) y v j ≡ true
-            → (0 < get_or columns j 0) × Among (record { name = (slot_at hi lo columns j).name; warp = v; transfer = y }) (record { name = n; warp = w; transfer = x } ∷ l)
-        up y v j q r m = at (only (At n) y v j q m)
+        up : (y : Transfer) (v j : ℕ) → v < 4 → j < 16 → marked (begun o x w at) y v j ≡ true
+            → Taken l j × Among (mark_at l y v j) (record { name = n; warp = w; transfer = x } ∷ marks)
+        up y v j q r k = by (only at y v j q k)
           where
-            at : (marked o y v j ≡ true) ⊎ ((y ≡ x) × (v ≡ w) × (j ≡ At n))
-                → (0 < get_or columns j 0) × Among (record { name = (slot_at hi lo columns j).name; warp = v; transfer = y }) (record { name = n; warp = w; transfer = x } ∷ l)
-            at (inl a) = let u = h.up y v j q r a in (u.0, inr u.1)
-            at (inr a) =
-                let f = subst (λ i. Holds hi lo columns i n) (sym a.2) own in
-                (f.live, inl (mark_path (slot_at hi lo columns j).name n v w y x f.name a.1 a.0))
+            by : (marked o y v j ≡ true) ⊎ ((y ≡ x) × (v ≡ w) × (j ≡ at)) → Taken l j × Among (mark_at l y v j) (record { name = n; warp = w; transfer = x } ∷ marks)
+            by (inl a) = let u = h.up y v j q r a in (u.0, inr u.1)
+            by (inr a) =
+                let f = subst (λ i. HoldsIn l i n) (sym a.2) own.1 in
+                (f.taken, inl (mark_path (name_at l j) n v w y x f.name a.1 a.0))
 
-    waits : Shows (waited o x w) hi lo columns (after_wait w x l)
+    waits : ShowsIn (waited o x w) l (after_wait w x marks)
     unfolding waited
     waits = record { size = length-set o.words (word_of x w) 0 ∙ h.size; down = down; up = up }
       where
-        down : (m : Mark) → Among m (after_wait w x l) → (m.warp < 4) × ((i : ℕ) × (i < 16) × Holds hi lo columns i m.name × (marked (waited o x w) m.transfer m.warp i ≡ true))
+        down : (m : Mark) → Among m (after_wait w x marks) → (m.warp < 4) × ((i : ℕ) × (i < 16) × HoldsIn l i m.name × (marked (waited o x w) m.transfer m.warp i ≡ true))
         down m a =
-            let r = wait_out w x m l a in
+            let r = wait_out w x m marks a in
             let d = h.down m r.0 in
             (d.0, (d.1.0, d.1.1, d.1.2, left m r.1 d.1.0 d.1.3 (which x m.transfer w m.warp p d.0)))
           where
@@ -178,67 +184,31 @@ module _ (o : Outstanding) (hi lo columns : List ℕ) (l : List Mark) (h : Shows
             left m f i e (inl z) = absurd (clash (is_by_lem w x m z.1 z.0) f)
             left m f i e (inr z) = waited_other o x w h.size p m.transfer m.warp i z ∙ e
 
-        up : (y : Transfer) (v j : ℕ) → v < 4 → j < 16 → marked (waited o x w) y v j ≡ true
-            → (0 < get_or columns j 0) × Among (record { name = (slot_at hi lo columns j).name; warp = v; transfer = y }) (after_wait w x l)
+        up : (y : Transfer) (v j : ℕ) → v < 4 → j < 16 → marked (waited o x w) y v j ≡ true → Taken l j × Among (mark_at l y v j) (after_wait w x marks)
         up y v j q r m = at (which x y w v p q)
           where
-            at : ((y ≡ x) × (v ≡ w)) ⊎ (word_of y v ≡ word_of x w → ⊥)
-                → (0 < get_or columns j 0) × Among (record { name = (slot_at hi lo columns j).name; warp = v; transfer = y }) (after_wait w x l)
+            at : ((y ≡ x) × (v ≡ w)) ⊎ (word_of y v ≡ word_of x w → ⊥) → Taken l j × Among (mark_at l y v j) (after_wait w x marks)
             at (inl z) = absurd (clash (rw (z.0, z.1) at m) (waited_same o x w h.size p j))
             at (inr z) =
                 let u = h.up y v j q r (sym (waited_other o x w h.size p y v j z) ∙ m) in
-                let mark : Mark = record { name = (slot_at hi lo columns j).name; warp = v; transfer = y } in
-                (u.0, wait_in_lem w x mark l u.1 (not_is (is_by w x mark) (λ b. let e = by_is w x mark b in z (ap (λ t. word_of t v) e.1 ∙ ap (word_of x) e.0))))
+                let mark : Mark = mark_at l y v j in
+                (u.0, wait_in_lem w x mark marks u.1 (not_is (is_by w x mark) (λ b. let e = by_is w x mark b in z (ap (λ t. word_of t v) e.1 ∙ ap (word_of x) e.0))))
 
-  stays : (hi' lo' columns' : List ℕ) → ((i : ℕ) → i < 16 → 0 < get_or columns i 0 → is_busy (slot_at hi lo columns i).name l ≡ true → slot_at hi' lo' columns' i ≡ slot_at hi lo columns i)
-      → Shows o hi' lo' columns' l
-  stays hi' lo' columns' f = record { size = h.size; down = down; up = up }
+  stays : (next : Ledger) → ((i : ℕ) → i < 16 → Taken l i → is_busy (name_at l i) marks ≡ true → Stays l next i) → ShowsIn o next marks
+  stays next f = record { size = h.size; down = down; up = up }
     where
-      -- a slot that is as it was
-      same : (i : ℕ) → slot_at hi' lo' columns' i ≡ slot_at hi lo columns i → ((slot_at hi' lo' columns' i).name ≡ (slot_at hi lo columns i).name) × (get_or columns' i 0 ≡ get_or columns i 0)
-      same i e = (ap (λ (a : Allocation). a.name) e, ap (λ (a : Allocation). a.columns) e)
-
-      down : (m : Mark) → Among m l → (m.warp < 4) × ((i : ℕ) × (i < 16) × Holds hi' lo' columns' i m.name × (marked o m.transfer m.warp i ≡ true))
+      down : (m : Mark) → Among m marks → (m.warp < 4) × ((i : ℕ) × (i < 16) × HoldsIn next i m.name × (marked o m.transfer m.warp i ≡ true))
       down m a =
           let d = h.down m a in
-          let e = same d.1.0 (f d.1.0 d.1.1 d.1.2.live (among_busy m l (slot_at hi lo columns d.1.0).name a (sym d.1.2.name))) in
-          (d.0, (d.1.0, d.1.1, record { name = e.0 ∙ d.1.2.name; live = omega (arith, e.1, d.1.2.live) }, d.1.3))
+          let e = f d.1.0 d.1.1 d.1.2.taken (among_busy m marks (name_at l d.1.0) a (sym d.1.2.name)) in
+          (d.0, (d.1.0, d.1.1, record { taken = ap is_some e ∙ d.1.2.taken; name = ap name_of e ∙ d.1.2.name }, d.1.3))
 
-      up : (x : Transfer) (w i : ℕ) → w < 4 → i < 16 → marked o x w i ≡ true → (0 < get_or columns' i 0) × Among (record { name = (slot_at hi' lo' columns' i).name; warp = w; transfer = x }) l
+      up : (x : Transfer) (w i : ℕ) → w < 4 → i < 16 → marked o x w i ≡ true → Taken next i × Among (mark_at next x w i) marks
       up x w i p q e =
           let u = h.up x w i p q e in
-          let b = same i (f i q u.0 (among_busy _ l (slot_at hi lo columns i).name u.1 refl)) in
-          (omega (arith, b.1, u.0), subst (λ (n : Name). Among (record { name = n; warp = w; transfer = x }) l) (sym b.0) u.1)
-
-  -- THE CLAIM
-  pub tells : Tells o hi lo columns l
-  tells = record { busy = busy; begins = λ live s n e x w p. begins x w p live s n e; waits = waits; releases = λ n e. release_none n l e; stays = stays }
-
--- ---- the same of a ledger
--- what is found of a name is what is found in the arrays
-found_start : (l : Ledger) (n : Name) (s : Span) → found l n ≡ Some s → s.start ≡ (find_in l.hi l.lo l.columns n).start
-found_start l n s e = ap (λ (x : Span). x.start) (rw e at (find_in_found l n))
-
-busy_same : (o : Outstanding) (l : Ledger) (n : Name) → is_some (found l n) ≡ true → busy_on o l n ≡ busy_in o l.hi l.lo l.columns n
-unfolding busy_on busy_in
-busy_same o l n e = at (found l n) refl e
-  where
-    at : (f : Option Span) → found l n ≡ f → is_some f ≡ true → busy_at o f ≡ bit_at (slots_of o) ((find_in l.hi l.lo l.columns n).start / 32)
-    at (Some s) f e = ap (λ i. bit_at (slots_of o) (i / 32)) (found_start l n s f)
-    at None f e = absurd (clash e refl)
-
-module _ (o : Outstanding) (l : Ledger) (marks : List Mark) (h : ShowsIn o l marks) where
-  abbrev t : Tells o l.hi l.lo l.columns marks
-  t = tells o l.hi l.lo l.columns marks h
+          let b = f i q u.0 (among_busy _ marks (name_at l i) u.1 refl) in
+          (ap is_some b ∙ u.0, subst (λ (n : Name). Among (record { name = n; warp = w; transfer = x }) marks) (sym (ap name_of b)) u.1)
 
   -- THE CLAIM
   pub tells_in : TellsIn o l marks
-  tells_in = record {
-    busy = λ live m n e. busy_same o l n ((finds_in l live m).live n ∙ e) ∙ t.busy live m n e;
-    begins = λ live m n s e x w p.
-        subst (λ i. ShowsIn (begun o x w (i / 32)) l (record { name = n; warp = w; transfer = x } ∷ marks)) (sym (found_start l n s e))
-        (t.begins live m n (sym ((finds_in l live m).live n) ∙ ap is_some e) x w p);
-    waits = t.waits;
-    releases = t.releases;
-    stays = λ next f. t.stays next.hi next.lo next.columns f;
-  }
+  tells_in = record { busy = busy; begins = λ live m n s e x w p. begins x w p live m n s e; waits = waits; releases = λ n e. release_none n marks e; stays = stays }

@@ -1,12 +1,12 @@
 -- The words in which the judge keeps what is outstanding: what each of its functions answers. Assumes nothing.
-use Rattle.std.specs.Prelude.{ℕ, zero, suc, ◌+◌, ◌/◌, ◌%◌, ◌^◌, Bool, false, List, eqb, get_or, set, replicate, Option, Some, None}
+use Rattle.std.specs.Prelude.{ℕ, ◌+◌, ◌/◌, ◌%◌, ◌^◌, Bool, false, eqb, fold, get_or, set, replicate, Option, Some, None}
 use Rattle.std.specs.Int.Bits.{bit_or}
 use Rattle.tokens.specs.declared.Name.{Name}
 use Rattle.statement.specs.declared.Transfer.{Transfer}
 use Rattle.statement.specs.declared.Transfer.TheVariants.{Load, Store}
 use Rattle.ledger.specs.declared.Ledger.{Ledger}
 use Rattle.ledger.specs.declared.Span.{Span}
-use Rattle.ledger.specs.Booking.{find_in, found}
+use Rattle.ledger.specs.Booking.{found}
 use Rattle.outstanding.specs.declared.Outstanding.{Outstanding}
 
 -- the words of loads by warp, then those of stores
@@ -34,23 +34,14 @@ begun o x w i = record { words = set o.words (word_of x w) (bit_or (get_or o.wor
 unfoldable pub waited : Outstanding → Transfer → ℕ → Outstanding
 waited o x w = record { words = set o.words (word_of x w) 0 }
 
--- the bits of the first words, up to one of them
-unfoldable pub union_to : List ℕ → ℕ → ℕ
-union_to words zero = get_or words 0 0
-union_to words (suc k) = bit_or (union_to words k) (get_or words (suc k) 0)
-
--- the slots on which anything is outstanding
-abbrev pub slots_of : Outstanding → ℕ
-slots_of o = union_to o.words 7
-
--- anything is outstanding on the allocation that is found of a name, which is to be live (of another name slot 0 is looked at)
-unfoldable pub busy_in : Outstanding → (hi lo columns : List ℕ) → Name → Bool
-busy_in o hi lo columns n = bit_at (slots_of o) ((find_in hi lo columns n).start / 32)
+-- the slots on which anything is outstanding: the bits of all words
+unfoldable pub slots_of : Outstanding → ℕ
+slots_of o = fold bit_or 0 o.words
 
 -- anything is outstanding on the allocation that is found, if one is; and on that which a ledger finds of a name
 abbrev pub busy_at : Outstanding → Option Span → Bool
 busy_at o (Some span) = bit_at (slots_of o) (span.start / 32)
 busy_at o None = false
 
-unfoldable pub busy_on : Outstanding → Ledger → Name → Bool
+abbrev pub busy_on : Outstanding → Ledger → Name → Bool
 busy_on o l n = busy_at o (found l n)

@@ -4,7 +4,7 @@
 
 ghost use Rattle.std.specs.Prelude.{◌≡◌, ◌<◌, ◌^◌};
 ghost use Rattle.std.specs.Int.Bits.{bit_or};
-ghost use Rattle.outstanding.specs.Words.{word_of, bit_at, none, begun, waited, slots_of, busy_in, busy_on};
+ghost use Rattle.outstanding.specs.Words.{word_of, bit_at, none, begun, waited, slots_of, busy_on};
 
 use ledger::Ledger;
 use statement::Transfer;
@@ -21,7 +21,7 @@ fn word_of(transfer: Transfer, warp: u8) -> usize
     ensures word { result ≡ word_of transfer warp }
     ensures inside { result < 8 }
 {
-    let of_loads = warp as usize;
+    let of_loads = usize::from(warp);
     match transfer {
         Transfer::Load => of_loads,
         Transfer::Store => of_loads + 4,
@@ -32,7 +32,7 @@ fn with_slot(word: u16, slot: u32) -> u16
     requires { slot < 16 }
     ensures { result ≡ bit_or word (2 ^ slot) }
 {
-    word | (1u16 << slot)
+    word | (1 << slot)
 }
 
 fn has_slot(word: u16, slot: u32) -> bool
@@ -47,10 +47,11 @@ impl Outstanding {
     pub fn new() -> Outstanding
         ensures { result ≡ none }
     {
-        Outstanding { words: [0u16; 8] }
+        Outstanding { words: [0; 8] }
     }
 
     // One more: by a warp, on the allocation of a slot.
+    #[tactic(auto, unfolding(crate::specs::Words::begun))]
     pub fn begin(mut self, transfer: Transfer, warp: u8, slot: u32) -> Outstanding
         requires { (warp < 4) × (slot < 16) }
         ensures { result ≡ begun self transfer warp slot }
@@ -61,6 +62,7 @@ impl Outstanding {
     }
 
     // A warp waits for its loads, or for its stores, on all allocations.
+    #[tactic(auto, unfolding(crate::specs::Words::waited))]
     pub fn wait(mut self, transfer: Transfer, warp: u8) -> Outstanding
         requires { warp < 4 }
         ensures { result ≡ waited self transfer warp }
@@ -71,42 +73,21 @@ impl Outstanding {
     }
 
     // The slots on which anything is outstanding.
-    fn slots(self) -> u16
-        ensures { result ≡ slots_of self }
+    #[tactic(auto, unfolding(crate::specs::Words::slots_of))]
+    fn slots(&self) -> u16
+        ensures { result ≡ slots_of self.now }
     {
-        let w = self.words;
-        w[0] | w[1] | w[2] | w[3] | w[4] | w[5] | w[6] | w[7]
+        self.words.iter().fold(0, |all, word| all | word)
     }
 
     // Whether anything is outstanding on the allocation of a name. It is not looked for where nothing is outstanding at all.
-    pub fn is_busy(self, ledger: &Ledger, name: Name) -> bool
-        ensures { result ≡ busy_on self ledger.now name }
+    pub fn is_busy(&self, ledger: &Ledger, name: Name) -> bool
+        ensures { result ≡ busy_on self.now ledger.now name }
     {
         let slots = self.slots();
-        if slots == 0 {
-            return false;
-        }
-        match ledger.find(name) {
-            Some(span) => has_slot(slots, span.start / 32),
-            None => false,
-        }
-    }
-
-    // Whether anything is outstanding on the allocation of a live name. It is not looked for where nothing is outstanding at all.
-    pub fn is_busy_among<'a>(
-        self,
-        hi: &'a [u64; 16],
-        lo: &'a [u64; 16],
-        columns: &'a [u16; 16],
-        name: Name,
-    ) -> bool
-        ensures { result ≡ busy_in self hi.now lo.now columns.now name }
-    {
-        let slots = self.slots();
-        if slots == 0 {
-            return false;
-        }
-        let span = ledger::find_in(hi, lo, columns, name);
-        has_slot(slots, span.start / 32)
+        slots != 0
+            && ledger
+                .find(name)
+                .is_some_and(|span| has_slot(slots, span.start / 32))
     }
 }

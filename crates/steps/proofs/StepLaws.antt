@@ -32,7 +32,7 @@ use Rattle.ledger.specs.declared.Span.{Span}
 use Rattle.ledger.specs.Booking.{Booking, booking, started, found, alloc_of, release_of, relinquish_of}
 use Rattle.ledger.specs.Shows as ledger
 use Rattle.ledger.specs.Shows.{Taken, name_at, Stays}
-use Rattle.ledger.proofs.FoundLaws.{finds_in, found_inside}
+use Rattle.ledger.proofs.FoundLaws.{finds_in}
 use Rattle.ledger.proofs.ShowLaws as ledger-laws
 use Rattle.bindings.specs.declared.Bindings.{Bindings}
 use Rattle.bindings.specs.declared.Value.{Value}
@@ -58,7 +58,7 @@ opening_kept =
       warp = l.warp;
       relinquished = l.relinquished;
       exited = refl;
-      marks = outstanding-laws.shows_none _ _ _;
+      marks = outstanding-laws.shows_none _;
     }
 
 -- ---- before and after exit
@@ -274,10 +274,6 @@ module _ (held w : ℕ) (b : Books) (x : Transfer) where
         let m = (mark_tells b s k).begins s.live k.tables.live a.address.base f.0 f.1 x w h in
         let e = judged_by x 0 j s k in
         rw (access_act x a) (e, made_quiet _ _ (marked_kept s k _ _ (rw f.2 m)))
-
--- the start that an access has is that of a slot
-pub start_inside : (l : Ledger) (n : Name) (start : ℕ) → StartsAt l n start → start / 32 < 16
-start_inside l n start f = subst (λ (i : ℕ). i / 32 < 16) (sym f.2) (found_inside l n f.0 f.1)
 
 -- ---- mov
 abbrev with_values : Books → Bindings → Books

@@ -11,8 +11,8 @@ returns c s held w h =
     let f = finds_in c.args.ledger.now s.live h.live in
     let word = rw c.find.ensures at c.word_of-word.ensures in
     c.operands_reason.ensures s held w (record {
-      live = ap is_some c.find-d.ensures ∙ f.live c.args.m.d.base;
-      size = ap columns_in c.find-d.ensures ∙ f.size c.args.m.d.base;
+      live = ap is_some c.find-d.ensures.found ∙ f.live c.args.m.d.base;
+      size = ap columns_in c.find-d.ensures.found ∙ f.size c.args.m.d.base;
       operand = c.operand_tested-a.ensures s h;
       descriptor = c.descriptor_tested-b.ensures s h.values;
       metadata = c.metadata_tested-e.ensures s h.live;

@@ -1,9 +1,6 @@
 -- `steps::access` meets its contract: it is judged, and outstanding from there on if it is accepted (StepLaws.antt). Assumes nothing.
-use Rattle.steps.proofs.StepLaws.{access_yes, start_inside}
+use Rattle.steps.proofs.StepLaws.{access_yes}
 use Rattle.steps.proofs.access.Goals as goal
-
-pub begin-books-requires : goal.begin-books-requires
-begin-books-requires c = (c.requires, start_inside c.args.books.now.ledger c.args.a.address.base _ c.in_ok-start.ensures.start)
 
 pub returns : goal.returns
 returns c held =
