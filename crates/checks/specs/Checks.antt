@@ -3,9 +3,9 @@ use Rattle.std.specs.Prelude.{ℕ, ◌≡◌, Bool, true, Option, Some, None, is
 use Rattle.laws.specs.Rules.{first_broken}
 use Rattle.instruction.specs.declared.Opcode.{Opcode}
 use Rattle.tokens.specs.declared.Name.{Name}
+use Rattle.statement.specs.Forms.{Metadata}
 use Rattle.statement.specs.declared.Access.{Access}
 use Rattle.statement.specs.declared.Address.{Address}
-use Rattle.statement.specs.declared.Metadata.{Metadata}
 use Rattle.statement.specs.declared.Mma.{Mma}
 use Rattle.statement.specs.declared.Operand.{Operand}
 use Rattle.statement.specs.declared.Statement.TheVariants.{Load, Store, Multiply}

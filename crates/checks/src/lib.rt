@@ -15,7 +15,7 @@ use bindings::{Bindings, Value};
 use instruction::Opcode;
 use ledger::{Ledger, Span};
 use reasons::Reason;
-use statement::{Access, Address, Metadata, Mma, Num, Operand, Shape, Statement};
+use statement::{Access, Address, Mma, Num, Operand, Shape, Statement};
 use tokens::Name;
 
 // The tests of an operand of an mma: a name of its sort, a descriptor that reads, and columns inside the allocation.
@@ -148,24 +148,24 @@ pub fn operand_tested(ledger: &Ledger, values: &Bindings, a: Operand) -> Tested
 }
 
 // The metadata of a sparse a.
-pub fn metadata_tested(ledger: &Ledger, metadata: Metadata) -> Tested
+pub fn metadata_tested(ledger: &Ledger, metadata: Option<Address>) -> Tested
     ensures { MetadataTested ledger.now metadata result }
 {
     match metadata {
-        Metadata::Dense => Tested {
+        None => Tested {
             named: true,
             reads: true,
             ends: true,
         },
-        Metadata::Sparse(address) => address_tested(ledger, address, 2),
+        Some(address) => address_tested(ledger, address, 2),
     }
 }
 
 // There is metadata.
-pub fn is_sparse(metadata: Metadata) -> bool
+pub fn is_sparse(metadata: Option<Address>) -> bool
     ensures { result ≡ sparse metadata }
 {
-    matches!(metadata, Metadata::Sparse(_))
+    metadata.is_some()
 }
 
 // The opcode of an mma.

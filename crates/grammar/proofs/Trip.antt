@@ -1,5 +1,5 @@
 -- The canonical text of a statement spells it, so it reads back as it was; and what reads can be written. One induction over the row of operands each way, with one law for each operand. Assumes nothing.
-use Rattle.std.specs.Prelude.{Ok}
+use Rattle.std.specs.Prelude.{Ok, Some, None}
 use Prim.Native.Nat.{ℕ, suc, ◌^◌, ◌<◌, ◌≤◌}
 use native.Mathlib.Omega.{arith}
 use mathlib.Core.Path.{◌≡◌, refl, sym, ap, ◌∙◌}
@@ -17,15 +17,13 @@ use Rattle.tokens.specs.Numbers.{decimal}
 use Rattle.statement.specs.declared.Address.{Address}
 use Rattle.statement.specs.declared.Operand.{Operand}
 use Rattle.statement.specs.declared.Operand.TheVariants as operand
-use Rattle.statement.specs.declared.Metadata.{Metadata}
-use Rattle.statement.specs.declared.Metadata.TheVariants.{Dense, Sparse}
 use Rattle.statement.specs.declared.Mma.{Mma}
 use Rattle.statement.specs.declared.Access.{Access}
 use Rattle.statement.specs.declared.Statement.{Statement}
 use Rattle.statement.specs.declared.Statement.TheVariants as s
 use Rattle.statement.specs.declared.Opcode.{Opcode}
 use Rattle.statement.specs.declared.Opcode.TheVariants.{Multiply}
-use Rattle.statement.specs.Forms.{Slot, name, number, in_brackets, address, operand, names, Value, Values, max_offset, row, Whole, plain, access, make}
+use Rattle.statement.specs.Forms.{Metadata, Slot, name, number, in_brackets, address, operand, names, Value, Values, max_offset, row, Whole, plain, access, make}
 use Rattle.statement.specs.Reading.{read_of, registers_of}
 use Rattle.grammar.proofs.Quantities.{ended_by}
 use Rattle.grammar.specs.Spells.{spaces, Mark, NameText, NumberText, QuantityText, alone, BracketText, OffsetText, bare, plus, AddressText, OperandText, by_name, by_address, MoreNames, closes, comma, NamesText, opens, SlotText, MoreRow, RowText, Spells, sized_operand, sized_slot, sized}
@@ -197,8 +195,8 @@ no_names t [] h = refl
 no_names t (n ∷ ns) h = absurd (let z = eqb-true 0 (suc (length ns)) h in omega arith)
 
 operands_made : (m : Mma) (e : Metadata) → make (Multiply m.ws (sparse e) m.kind) (mma_values m e) ≡ plain (s.Multiply (record { ws = m.ws; kind = m.kind; d = m.d; a = m.a; b = m.b; metadata = e; idesc = m.idesc; predicate = m.predicate }))
-operands_made m Dense = refl
-operands_made m (Sparse e) = refl
+operands_made m None = refl
+operands_made m (Some e) = refl
 
 -- a statement is what its opcode makes of its operands
 abbrev Made : Statement → Type 0

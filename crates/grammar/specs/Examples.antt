@@ -1,12 +1,13 @@
 -- Worked examples, as tables: texts with their reasons, with the typed statements that they read as, with places, with those of their operands, and with
 -- canonical texts. Assumes nothing.
-use Rattle.std.specs.Prelude.{ℕ, List, [], ◌∷◌, ◌++◌, map, Bool, true, false, drop, Ok, Err}
+use Rattle.std.specs.Prelude.{ℕ, List, [], ◌∷◌, ◌++◌, map, Bool, true, false, drop, Ok, Err, Some, None}
 use Prim.Native.String.{String}
 use Rattle.laws.specs.Worked.{Gives}
 use Rattle.instruction.specs.declared.Kind.{Kind}
 use Rattle.instruction.specs.declared.Kind.TheVariants.{F16, Tf32, F8f6f4, I8}
 use Rattle.tokens.specs.declared.Name.{Name}
 use Rattle.tokens.specs.Names.{packed}
+use Rattle.statement.specs.Forms.{Metadata}
 use Rattle.statement.specs.declared.Shape.{Shape}
 use Rattle.statement.specs.declared.Shape.TheVariants.{S32x32, S16x64, S16x128, S16x256}
 use Rattle.statement.specs.declared.Num.{Num}
@@ -14,8 +15,6 @@ use Rattle.statement.specs.declared.Num.TheVariants.{X1, X2, X4, X8, X16, X32, X
 use Rattle.statement.specs.declared.Address.{Address}
 use Rattle.statement.specs.declared.Operand.{Operand}
 use Rattle.statement.specs.declared.Operand.TheVariants as operand
-use Rattle.statement.specs.declared.Metadata.{Metadata}
-use Rattle.statement.specs.declared.Metadata.TheVariants.{Dense, Sparse}
 use Rattle.statement.specs.declared.Statement.{Statement}
 use Rattle.statement.specs.declared.Statement.TheVariants.{Mov32, Mov64, Alloc, Dealloc, Relinquish, Load, Store, WaitLoad, WaitStore, FenceBefore, FenceAfter, Multiply, Exit}
 use Rattle.statement.specs.declared.Misread.TheVariants.{NoForm, TooLarge}
@@ -247,11 +246,11 @@ multiplies ws kind a metadata = Multiply (record { ws = ws; kind = kind; d = off
 
 abbrev pub mmas : List (String × Statement × List Name)
 mmas =
-    ("tcgen05.mma.cta_group::1.kind::f16 [d+1], a, b, i, p;", (multiplies false F16 (operand.Descriptor (named "a")) Dense), []) ∷
-    ("tcgen05.mma.cta_group::1.kind::tf32 [d+1], [a+2], b, i, p;", (multiplies false Tf32 (operand.Address (offset_by "a" 2)) Dense), []) ∷
-    ("tcgen05.mma.ws.cta_group::1.kind::f8f6f4 [d+1], a, b, i, p;", (multiplies true F8f6f4 (operand.Descriptor (named "a")) Dense), []) ∷
-    ("tcgen05.mma.sp.cta_group::1.kind::i8 [d+1], a, b, [m+3], i, p;", (multiplies false I8 (operand.Descriptor (named "a")) (Sparse (offset_by "m" 3))), []) ∷
-    ("tcgen05.mma.ws.sp.cta_group::1.kind::f16 [d+1], [a+2], b, [m+3], i, p;", (multiplies true F16 (operand.Address (offset_by "a" 2)) (Sparse (offset_by "m" 3))), []) ∷
+    ("tcgen05.mma.cta_group::1.kind::f16 [d+1], a, b, i, p;", (multiplies false F16 (operand.Descriptor (named "a")) None), []) ∷
+    ("tcgen05.mma.cta_group::1.kind::tf32 [d+1], [a+2], b, i, p;", (multiplies false Tf32 (operand.Address (offset_by "a" 2)) None), []) ∷
+    ("tcgen05.mma.ws.cta_group::1.kind::f8f6f4 [d+1], a, b, i, p;", (multiplies true F8f6f4 (operand.Descriptor (named "a")) None), []) ∷
+    ("tcgen05.mma.sp.cta_group::1.kind::i8 [d+1], a, b, [m+3], i, p;", (multiplies false I8 (operand.Descriptor (named "a")) (Some (offset_by "m" 3))), []) ∷
+    ("tcgen05.mma.ws.sp.cta_group::1.kind::f16 [d+1], [a+2], b, [m+3], i, p;", (multiplies true F16 (operand.Address (offset_by "a" 2)) (Some (offset_by "m" 3))), []) ∷
     []
 
 -- The place of 3 is that of the first token at which no form can go on, of 4 that of the first number out of range.

@@ -30,7 +30,7 @@ use Rattle.statement.specs.declared.Statement.TheVariants.{Exit, Multiply as Mul
 use Rattle.statement.specs.declared.Opcode.{Opcode}
 use Rattle.statement.specs.declared.Opcode.TheVariants.{Multiply}
 use Rattle.statement.specs.declared.Misread.TheVariants.{NoForm}
-use Rattle.statement.specs.Forms.{name, number, Values, max_offset, Whole, plain}
+use Rattle.statement.specs.Forms.{name, number, Values, max_offset, row, Whole, plain, make}
 use Rattle.statement.specs.Opcodes.{recognise}
 use Rattle.statement.specs.Reading.{Reading, offset_c, address_c, operand_c, more_c, tally, his, los, answer_of, more_row_c, row_c, operands_c, start, opcode_len, whole_by, whole_c, longest_text, read_of, fine, registers_of, told}
 use Rattle.opcode.specs.declared.Head.{Head}
@@ -38,8 +38,7 @@ use Rattle.opcode.specs.Heads.{head_seen, head_by, head_of}
 use Rattle.statement.specs.contracts.Opcode.{enum, the_type}
 use Rattle.statement.proofs.Variants.{all_but, at_each}
 use Rattle.reader.specs.Lists.{list_c}
-use Rattle.reader.specs.declared.Paired.{Paired}
-use Rattle.reader.specs.Rows.{paired_opcode, bracketed_of, limit_of, made_of, named_c, pair_c, plain_offset_c, metadata_c}
+use Rattle.reader.specs.Rows.{named_c, pair_c, plain_offset_c, metadata_c}
 
 -- ---- numbers
 under_cond : (limit : ℕ) (b : Bool) (x y : Took ℕ) → (b ≡ true → x.value ≤ limit) → y.value ≤ limit → (cond b x y).value ≤ limit
@@ -250,14 +249,10 @@ unfolding row_c more_row_c
 pair_row true limit r m e n v p q t u = rw (u, t, q, p)
 pair_row false limit r m e n v p q t u = rw (u, t, q, p)
 
--- the row of each form of a name and a number, and its statement
-pub pair_told : (t : Paired) (s : List ℕ) (r : Rest) (q : Took (Values (name ∷ number (limit_of t) ∷ []))) → q ≡ pair_c (bracketed_of t) (limit_of t) r
-    → answer_of s q.next (made_of t q.value.0 q.value.1.0) ≡ told s (operands_c (paired_opcode t) r)
+-- what was read as the row of an opcode is told as its statement
+pub row_told : (s : List ℕ) (r : Rest) (o : Opcode) (t : Took (Values (row o))) → t ≡ row_c (row o) r → answer_of s t.next (make o t.value).statement ≡ told s (operands_c o r)
 unfolding operands_c
-pair_told Paired.Mov32 s r q h = rw h
-pair_told Paired.Mov64 s r q h = rw h
-pair_told Paired.Alloc s r q h = rw h
-pair_told Paired.Dealloc s r q h = rw h
+row_told s r o t h = rw h
 
 -- an mma, dense or sparse
 unfoldable pub mma_c : Bool → Bool → Kind → Rest → Took Whole

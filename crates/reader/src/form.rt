@@ -3,11 +3,10 @@ ghost use Rattle.std.specs.Prelude.{◌≡◌, ◌≤◌};
 ghost use Rattle.tokens.specs.Cursors.{seen, end_c, read_seen};
 ghost use Rattle.statement.specs.declared.Opcode.TheVariants as opcode;
 ghost use Rattle.statement.specs.Reading.{answer_of, operands_c, told};
-ghost use Rattle.reader.specs.Rows.{paired_opcode, bracketed_of, limit_of, made_of, pair_c, pair_seen, metadata_c};
+ghost use Rattle.reader.specs.Rows.{pair_c, pair_seen, metadata_c};
 
-use crate::{Pair, Paired};
 use instruction::Kind;
-use statement::{Access, Metadata, Misread, Mma, Num, Reading, Shape, Statement};
+use statement::{Access, Address, Misread, Mma, Num, Reading, Shape, Statement};
 use tokens::{Cursor, Name, Read};
 
 // The most bytes of a text that reads.
@@ -39,9 +38,9 @@ pub fn bare(s: &[u8], k: Cursor, t: Statement) -> Reading
 }
 
 // A name, in brackets or not, a number up to a limit, and the end. Most numbers are alone, which the end behind them tells: these are read once.
-fn name_number(s: &[u8], k: Cursor, bracketed: bool, limit: u64) -> Pair
+pub fn name_number(s: &[u8], k: Cursor, bracketed: bool, limit: u64) -> Read<(Name, u64)>
     ensures read { pair_seen s.now limit result ≡ pair_c bracketed limit (seen s.now k) }
-    ensures under { result.number ≤ limit }
+    ensures under { result.value.1 ≤ limit }
 {
     let n = crate::operand::named(s, k, bracketed);
     let k1 = n.next;
@@ -51,68 +50,18 @@ fn name_number(s: &[u8], k: Cursor, bracketed: bool, limit: u64) -> Pair
     let done = lexer::cursor::end(s, c);
     let name = n.value;
     if done.ok {
-        return Pair {
-            name,
-            number: p.value,
+        return Read {
+            value: (name, p.value),
             next: done,
         };
     }
     let v = expression::quantity(s, k2, limit);
     let k3 = v.next;
     let next = lexer::cursor::end(s, k3);
-    Pair {
-        name,
-        number: v.value,
+    Read {
+        value: (name, v.value),
         next,
     }
-}
-
-// Whether brackets stand around the name.
-fn bracketed(t: Paired) -> bool
-    ensures { result ≡ bracketed_of t }
-{
-    match t {
-        Paired::Mov32 => false,
-        Paired::Mov64 => false,
-        Paired::Alloc => true,
-        Paired::Dealloc => false,
-    }
-}
-
-// The largest number.
-fn limit(t: Paired) -> u64
-    ensures { result ≡ limit_of t }
-{
-    match t {
-        Paired::Mov32 => statement::MAX32,
-        Paired::Mov64 => statement::MAX64,
-        Paired::Alloc => statement::MAX32,
-        Paired::Dealloc => statement::MAX32,
-    }
-}
-
-// The statement of a name and a number.
-fn made(t: Paired, n: Name, v: u64) -> Statement
-    requires { v ≤ limit_of t }
-    ensures { result ≡ made_of t n v }
-{
-    match t {
-        Paired::Mov32 => Statement::Mov32(n, v as u32),
-        Paired::Mov64 => Statement::Mov64(n, v),
-        Paired::Alloc => Statement::Alloc(n, v as u32),
-        Paired::Dealloc => Statement::Dealloc(n, v as u32),
-    }
-}
-
-// A form of a name and a number.
-pub fn pair(s: &[u8], k: Cursor, t: Paired) -> Reading
-    ensures { result ≡ told s.now (operands_c (paired_opcode t) (seen s.now k)) }
-{
-    let p = name_number(s, k, bracketed(t), limit(t));
-    let n = p.name;
-    let v = p.number;
-    let e = p.next;
-    answer(s, e, made(t, n, v))
 }
 
 pub fn load(s: &[u8], k: Cursor, shape: Shape, num: Num) -> Reading
@@ -160,7 +109,7 @@ pub fn store(s: &[u8], k: Cursor, shape: Shape, num: Num) -> Reading
 }
 
 // The metadata's address after a comma, for a sparse a alone.
-fn metadata(s: &[u8], k: Cursor, sp: bool) -> Read<Metadata>
+fn metadata(s: &[u8], k: Cursor, sp: bool) -> Read<Option<Address>>
     ensures { read_seen s.now result ≡ metadata_c sp (seen s.now k) }
 {
     if sp {
@@ -168,12 +117,12 @@ fn metadata(s: &[u8], k: Cursor, sp: bool) -> Read<Metadata>
         let value = a.value;
         let next = a.next;
         return Read {
-            value: Metadata::Sparse(value),
+            value: Some(value),
             next,
         };
     }
     Read {
-        value: Metadata::Dense,
+        value: None,
         next: k,
     }
 }

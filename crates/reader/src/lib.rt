@@ -10,46 +10,44 @@ ghost use Rattle.tokens.specs.Cursors.{seen};
 ghost use Rattle.statement.specs.Reading.{read_of, registers_of, his, los, operands_c, told};
 ghost use Rattle.reader.specs.Lists.{list_c};
 
-use statement::{Misread, Opcode, Reading, Statement};
-use tokens::{Cursor, Name};
-
-// The forms of a name and a number.
-#[derive(Clone, Copy)]
-pub enum Paired {
-    Mov32,
-    Mov64,
-    Alloc,
-    Dealloc,
-}
-
-// A name and a number, and what follows the form's end.
-#[derive(Clone, Copy)]
-pub struct Pair {
-    pub name: Name,
-    pub number: u64,
-    pub next: Cursor,
-}
+use statement::{MAX32, MAX64, Misread, Opcode, Reading, Statement};
+use tokens::Cursor;
 
 // The operands of an opcode, read from a position on, and the answer.
 pub fn operands(s: &[u8], k: Cursor, o: Opcode) -> Reading
     ensures { result ≡ told s.now (operands_c o (seen s.now k)) }
 {
-    let t = match o {
-        Opcode::Mov32 => Paired::Mov32,
-        Opcode::Mov64 => Paired::Mov64,
-        Opcode::Alloc { shared: _ } => Paired::Alloc,
-        Opcode::Dealloc => Paired::Dealloc,
-        Opcode::Relinquish => return form::bare(s, k, Statement::Relinquish),
-        Opcode::Load { shape, num } => return form::load(s, k, shape, num),
-        Opcode::Store { shape, num } => return form::store(s, k, shape, num),
-        Opcode::WaitLoad => return form::bare(s, k, Statement::WaitLoad),
-        Opcode::WaitStore => return form::bare(s, k, Statement::WaitStore),
-        Opcode::FenceBefore => return form::bare(s, k, Statement::FenceBefore),
-        Opcode::FenceAfter => return form::bare(s, k, Statement::FenceAfter),
-        Opcode::Multiply { ws, sp, kind } => return form::multiply(s, k, ws, sp, kind),
-        Opcode::Exit => return form::bare(s, k, Statement::Exit),
-    };
-    form::pair(s, k, t)
+    match o {
+        Opcode::Mov32 => {
+            let p = form::name_number(s, k, false, MAX32);
+            let (name, number) = p.value;
+            form::answer(s, p.next, Statement::Mov32(name, number as u32))
+        }
+        Opcode::Mov64 => {
+            let p = form::name_number(s, k, false, MAX64);
+            let (name, number) = p.value;
+            form::answer(s, p.next, Statement::Mov64(name, number))
+        }
+        Opcode::Alloc { shared: _ } => {
+            let p = form::name_number(s, k, true, MAX32);
+            let (name, number) = p.value;
+            form::answer(s, p.next, Statement::Alloc(name, number as u32))
+        }
+        Opcode::Dealloc => {
+            let p = form::name_number(s, k, false, MAX32);
+            let (name, number) = p.value;
+            form::answer(s, p.next, Statement::Dealloc(name, number as u32))
+        }
+        Opcode::Relinquish => form::bare(s, k, Statement::Relinquish),
+        Opcode::Load { shape, num } => form::load(s, k, shape, num),
+        Opcode::Store { shape, num } => form::store(s, k, shape, num),
+        Opcode::WaitLoad => form::bare(s, k, Statement::WaitLoad),
+        Opcode::WaitStore => form::bare(s, k, Statement::WaitStore),
+        Opcode::FenceBefore => form::bare(s, k, Statement::FenceBefore),
+        Opcode::FenceAfter => form::bare(s, k, Statement::FenceAfter),
+        Opcode::Multiply { ws, sp, kind } => form::multiply(s, k, ws, sp, kind),
+        Opcode::Exit => form::bare(s, k, Statement::Exit),
+    }
 }
 
 // A statement, or the position of the token that no form or no number of that size goes on at.

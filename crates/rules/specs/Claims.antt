@@ -1,12 +1,11 @@
 -- What the answer of a sheet means: it names the first broken rule of the first line that breaks one, and where it is broken in the line; its figures are those of
 -- the allocations live there. proofs/RulesProved.antt and proofs/FiguresProved.antt have the proofs. Assumes nothing.
-use Rattle.std.specs.Prelude.{ℕ, zero, suc, ◌+◌, ◌%◌, ◌≤◌, ◌<◌, ◌≡◌, Bool, true, false, ◌&&◌, ◌||◌, cond, List, [], ◌∷◌, ◌++◌, ◌⊎◌, ◌↔◌, leb, eqb, length}
+use Rattle.std.specs.Prelude.{ℕ, zero, suc, ◌+◌, ◌%◌, ◌≤◌, ◌<◌, ◌≡◌, Bool, true, false, ◌&&◌, ◌||◌, cond, List, [], ◌∷◌, ◌++◌, ◌⊎◌, ◌↔◌, leb, eqb, length, Some, None}
 use Rattle.std.proofs.Math.Option.{none, some}
 use Rattle.laws.specs.Rules.{Rule, rule}
 use Rattle.tokens.specs.declared.Name.{Name}
 use Rattle.statement.specs.declared.Address.{Address}
 use Rattle.statement.specs.declared.Access.{Access}
-use Rattle.statement.specs.declared.Metadata.TheVariants.{Dense, Sparse}
 use Rattle.statement.specs.declared.Mma.{Mma}
 use Rattle.statement.specs.declared.Statement.{Statement}
 use Rattle.statement.specs.declared.Statement.TheVariants.{Mov32, Mov64, Alloc, Dealloc, Load, Store, Multiply}
@@ -146,9 +145,9 @@ pub record OperandsNamed : Type 0 where
   pub load : (a : Access) → (names_of (Load a) ≡ none ∷ some a.address.base ∷ []) × (address_at (Load a) ≡ 1)
   pub store : (a : Access) → (names_of (Store a) ≡ some a.address.base ∷ none ∷ []) × (address_at (Store a) ≡ 0)
   -- d, a, b, the metadata with `.sp`, idesc and the predicate
-  pub dense : (m : Mma) → m.metadata ≡ Dense
+  pub dense : (m : Mma) → m.metadata ≡ None
       → (names_of (Multiply m) ≡ some m.d.base ∷ some (operand_name m.a) ∷ some m.b ∷ some m.idesc ∷ some m.predicate ∷ []) × (idesc_at m ≡ 3)
-  pub sparse : (m : Mma) (e : Address) → m.metadata ≡ Sparse e
+  pub sparse : (m : Mma) (e : Address) → m.metadata ≡ Some e
       → (names_of (Multiply m) ≡ some m.d.base ∷ some (operand_name m.a) ∷ some m.b ∷ some e.base ∷ some m.idesc ∷ some m.predicate ∷ []) × (idesc_at m ≡ 4)
 
 -- ---- the placing

@@ -1,7 +1,7 @@
 -- The rules of a line in their order, each with its number, what its column points at, and its tests. A test is true where the rule is kept, and says of
 -- which operand it is.
 -- Assumes nothing.
-use Rattle.std.specs.Prelude.{ℕ, ◌+◌, ◌*◌, ◌/◌, ◌%◌, Bool, true, not, ◌&&◌, ◌||◌, cond, List, [], ◌∷◌, leb, ltb, eqb, length}
+use Rattle.std.specs.Prelude.{ℕ, ◌+◌, ◌*◌, ◌/◌, ◌%◌, Bool, true, not, ◌&&◌, ◌||◌, cond, List, [], ◌∷◌, leb, ltb, eqb, length, Some, None}
 use Rattle.std.proofs.Math.Option.{Option, none, some}
 use Rattle.laws.specs.Tests.{is_some}
 use Rattle.laws.specs.Rules.{Rule}
@@ -11,11 +11,10 @@ use Rattle.instruction.specs.Descriptor.{InstructionRead}
 use Rattle.instruction.specs.Instruction as instruction
 use Rattle.shared_memory.specs.Shared as shared
 use Rattle.request.specs.Request.{legal}
+use Rattle.statement.specs.Forms.{Metadata}
 use Rattle.statement.specs.declared.Address.{Address}
 use Rattle.statement.specs.declared.Operand.{Operand}
 use Rattle.statement.specs.declared.Operand.TheVariants as operand
-use Rattle.statement.specs.declared.Metadata.{Metadata}
-use Rattle.statement.specs.declared.Metadata.TheVariants.{Dense, Sparse}
 use Rattle.statement.specs.declared.Mma.{Mma}
 use Rattle.statement.specs.declared.Access.{Access}
 use Rattle.statement.specs.declared.Statement.{Statement}
@@ -47,8 +46,8 @@ operand_named s (operand.Descriptor n) = eqb (width_of n s.values) 64
 operand_named s (operand.Address a) = is_live a.base s.live
 
 abbrev pub metadata_named : State → Metadata → Bool
-metadata_named s Dense = true
-metadata_named s (Sparse a) = is_live a.base s.live
+metadata_named s None = true
+metadata_named s (Some a) = is_live a.base s.live
 
 -- d, a, b, the metadata and idesc, in the order of the text
 abbrev pub mma_named : State → Mma → List Test
@@ -152,8 +151,8 @@ operand_ends s (operand.Descriptor n) = true
 operand_ends s (operand.Address a) = mma_ends s a 8
 
 abbrev pub metadata_ends : State → Metadata → Bool
-metadata_ends s Dense = true
-metadata_ends s (Sparse a) = mma_ends s a 2
+metadata_ends s None = true
+metadata_ends s (Some a) = mma_ends s a 2
 
 -- d has N columns, a 8, the metadata 2
 abbrev pub all_end : State → Mma → List Test

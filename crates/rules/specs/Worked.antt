@@ -1,11 +1,12 @@
 -- Worked examples of the rules at both sides of each figure: tables of small sheets with their answers, under one claim, so that a wrong figure in a
 -- definition is seen here. proofs/WorkedProved.antt computes them. Assumes nothing.
-use Rattle.std.specs.Prelude.{ℕ, zero, suc, ◌+◌, ◌*◌, ◌≡◌, Bool, true, false, cond, eqb, List, [], ◌∷◌, ◌++◌, get_or, length}
+use Rattle.std.specs.Prelude.{ℕ, zero, suc, ◌+◌, ◌*◌, ◌≡◌, Bool, true, false, cond, eqb, List, [], ◌∷◌, ◌++◌, get_or, length, Some, None}
 use Rattle.std.proofs.Math.Option.{none}
 use Rattle.laws.specs.Rules.{first_broken}
 use Rattle.laws.specs.Worked.{Gives}
 use Rattle.tokens.specs.declared.Name.{Name}
 use Rattle.instruction.specs.declared.Kind.TheVariants.{F16}
+use Rattle.statement.specs.Forms.{Metadata}
 use Rattle.statement.specs.declared.Address.{Address}
 use Rattle.statement.specs.declared.Access.{Access}
 use Rattle.statement.specs.declared.Shape.{Shape}
@@ -14,8 +15,6 @@ use Rattle.statement.specs.declared.Num.{Num}
 use Rattle.statement.specs.declared.Num.TheVariants.{X1, X2, X4, X8, X16, X32, X64, X128}
 use Rattle.statement.specs.declared.Operand.{Operand}
 use Rattle.statement.specs.declared.Operand.TheVariants as operand
-use Rattle.statement.specs.declared.Metadata.{Metadata}
-use Rattle.statement.specs.declared.Metadata.TheVariants.{Dense, Sparse}
 use Rattle.statement.specs.declared.Position.{Position}
 use Rattle.statement.specs.declared.Position.TheVariants as position
 use Rattle.statement.specs.declared.Position.TheVariants.{Start, Token, Opcode}
@@ -269,46 +268,46 @@ a3 = operand.Descriptor (name 3)
 abbrev pub mma_cases : List (OfMma × ℕ)
 mma_cases =
     -- d has N columns from its column on, at lane 0
-    ((false, 64, m128n64, at 1 0 0, a3, Dense), 0)
-    ∷ ((false, 64, m128n64, at 1 0 1, a3, Dense), 14)
-    ∷ ((false, 64, m128n64, at 1 1 0, a3, Dense), 14)
-    ∷ ((false, 32, m128n64, at 1 0 0, a3, Dense), 14)
-    ∷ ((false, 128, m128n64, at 1 0 64, a3, Dense), 0)
-    ∷ ((false, 128, m128n64, at 1 0 65, a3, Dense), 14)
-    ∷ ((false, 256, 0x08400010, at 1 0 0, a3, Dense), 0)
-    ∷ ((false, 256, 0x08400010, at 1 0 1, a3, Dense), 14)
+    ((false, 64, m128n64, at 1 0 0, a3, None), 0)
+    ∷ ((false, 64, m128n64, at 1 0 1, a3, None), 14)
+    ∷ ((false, 64, m128n64, at 1 1 0, a3, None), 14)
+    ∷ ((false, 32, m128n64, at 1 0 0, a3, None), 14)
+    ∷ ((false, 128, m128n64, at 1 0 64, a3, None), 0)
+    ∷ ((false, 128, m128n64, at 1 0 65, a3, None), 14)
+    ∷ ((false, 256, 0x08400010, at 1 0 0, a3, None), 0)
+    ∷ ((false, 256, 0x08400010, at 1 0 1, a3, None), 14)
     -- [a] has 8 columns, at lane 0
-    ∷ ((false, 64, m128n64, at 1 0 0, operand.Address (at 1 0 56), Dense), 0)
-    ∷ ((false, 64, m128n64, at 1 0 0, operand.Address (at 1 0 57), Dense), 14)
-    ∷ ((false, 64, m128n64, at 1 0 0, operand.Address (at 1 16 0), Dense), 14)
+    ∷ ((false, 64, m128n64, at 1 0 0, operand.Address (at 1 0 56), None), 0)
+    ∷ ((false, 64, m128n64, at 1 0 0, operand.Address (at 1 0 57), None), 14)
+    ∷ ((false, 64, m128n64, at 1 0 0, operand.Address (at 1 16 0), None), 14)
     -- the metadata 2
-    ∷ ((false, 64, m128n64 + 4, at 1 0 0, a3, Sparse (at 1 0 62)), 0)
-    ∷ ((false, 64, m128n64 + 4, at 1 0 0, a3, Sparse (at 1 0 63)), 14)
-    ∷ ((false, 64, m128n64 + 4, at 1 0 0, a3, Sparse (at 1 32 0)), 14)
+    ∷ ((false, 64, m128n64 + 4, at 1 0 0, a3, Some (at 1 0 62)), 0)
+    ∷ ((false, 64, m128n64 + 4, at 1 0 0, a3, Some (at 1 0 63)), 14)
+    ∷ ((false, 64, m128n64 + 4, at 1 0 0, a3, Some (at 1 32 0)), 14)
     -- sparse stands with `.sp` alone
-    ∷ ((false, 64, m128n64 + 4, at 1 0 0, a3, Dense), 12)
-    ∷ ((false, 64, m128n64, at 1 0 0, a3, Sparse (at 1 0 0)), 12)
+    ∷ ((false, 64, m128n64 + 4, at 1 0 0, a3, None), 12)
+    ∷ ((false, 64, m128n64, at 1 0 0, a3, Some (at 1 0 0)), 12)
     -- names: d and [a] are allocations, a a 64-bit value, idesc a 32-bit one
-    ∷ ((false, 64, m128n64, at 6 0 0, a3, Dense), 6)
-    ∷ ((false, 64, m128n64, at 1 0 0, operand.Address (at 6 0 0), Dense), 6)
-    ∷ ((false, 64, m128n64, at 1 0 0, operand.Descriptor (name 1), Dense), 6)
-    ∷ ((false, 64, m128n64, at 1 0 0, operand.Descriptor (name 2), Dense), 6)
-    ∷ ((false, 64, m128n64, at 1 0 0, a3, Sparse (at 3 0 0)), 6)
+    ∷ ((false, 64, m128n64, at 6 0 0, a3, None), 6)
+    ∷ ((false, 64, m128n64, at 1 0 0, operand.Address (at 6 0 0), None), 6)
+    ∷ ((false, 64, m128n64, at 1 0 0, operand.Descriptor (name 1), None), 6)
+    ∷ ((false, 64, m128n64, at 1 0 0, operand.Descriptor (name 2), None), 6)
+    ∷ ((false, 64, m128n64, at 1 0 0, a3, Some (at 3 0 0)), 6)
     -- N 32 is listed without `.ws` alone, M 32 with it alone; N 264 and M 192 never
-    ∷ ((true, 64, m128n64, at 1 0 0, a3, Dense), 0)
-    ∷ ((false, 64, 0x08080010, at 1 0 0, a3, Dense), 0)
-    ∷ ((true, 64, 0x08080010, at 1 0 0, a3, Dense), 20)
-    ∷ ((true, 64, 0x02100010, at 1 0 0, a3, Dense), 0)
-    ∷ ((false, 64, 0x02100010, at 1 0 0, a3, Dense), 13)
-    ∷ ((false, 512, 0x08420010, at 1 0 0, a3, Dense), 20)
-    ∷ ((false, 64, 0x0C100010, at 1 0 0, a3, Dense), 13)
+    ∷ ((true, 64, m128n64, at 1 0 0, a3, None), 0)
+    ∷ ((false, 64, 0x08080010, at 1 0 0, a3, None), 0)
+    ∷ ((true, 64, 0x08080010, at 1 0 0, a3, None), 20)
+    ∷ ((true, 64, 0x02100010, at 1 0 0, a3, None), 0)
+    ∷ ((false, 64, 0x02100010, at 1 0 0, a3, None), 13)
+    ∷ ((false, 512, 0x08420010, at 1 0 0, a3, None), 20)
+    ∷ ((false, 64, 0x0C100010, at 1 0 0, a3, None), 13)
     -- with `.ws` N 256 is listed when dense alone
-    ∷ ((true, 256, 0x08400010, at 1 0 0, a3, Dense), 0)
-    ∷ ((true, 256, 0x08400014, at 1 0 0, a3, Sparse (at 1 0 0)), 20)
-    ∷ ((true, 256, 0x08200014, at 1 0 0, a3, Sparse (at 1 0 0)), 0)
-    ∷ ((false, 256, 0x08400014, at 1 0 0, a3, Sparse (at 1 0 0)), 0)
+    ∷ ((true, 256, 0x08400010, at 1 0 0, a3, None), 0)
+    ∷ ((true, 256, 0x08400014, at 1 0 0, a3, Some (at 1 0 0)), 20)
+    ∷ ((true, 256, 0x08200014, at 1 0 0, a3, Some (at 1 0 0)), 0)
+    ∷ ((false, 256, 0x08400014, at 1 0 0, a3, Some (at 1 0 0)), 0)
     -- the listing comes before the columns
-    ∷ ((false, 32, 0x02100010, at 1 0 0, a3, Dense), 13)
+    ∷ ((false, 32, 0x02100010, at 1 0 0, a3, None), 13)
     ∷ []
 
 -- ---- positions. An mma after an alloc of 64 columns, with the words of idesc, a and b, under names 2, 3 and 4
@@ -332,31 +331,31 @@ position_cases =
     ∷ (alloc 1 32 ∷ statement 0 (Store (access (at 1 0 32))) ∷ [], (14, 20))
     ∷ (alloc 1 32 ∷ statement 0 (Load (record { shape = S32x32; num = X1; registers = 2; address = at 1 0 0 })) ∷ [], (5, 3))
     -- 6 of an mma: d, a, b, the metadata and idesc, each as the first of two
-    ∷ (of_mma m128n64 shared shared (mma (at 6 0 0) a3 6 Dense 2), (6, 10))
-    ∷ (of_mma m128n64 shared shared (mma (at 1 0 0) (operand.Descriptor (name 6)) 6 Dense 2), (6, 11))
-    ∷ (of_mma m128n64 shared shared (mma (at 1 0 0) (operand.Address (at 6 0 0)) 4 Dense 6), (6, 11))
-    ∷ (of_mma m128n64 shared shared (mma (at 1 0 0) a3 6 Dense 6), (6, 12))
-    ∷ (of_mma (m128n64 + 4) shared shared (mma (at 1 0 0) a3 4 (Sparse (at 6 0 0)) 6), (6, 13))
-    ∷ (of_mma m128n64 shared shared (mma (at 1 0 0) a3 4 Dense 6), (6, 13))
-    ∷ (of_mma (m128n64 + 4) shared shared (mma (at 1 0 0) a3 4 (Sparse (at 1 0 0)) 6), (6, 14))
+    ∷ (of_mma m128n64 shared shared (mma (at 6 0 0) a3 6 None 2), (6, 10))
+    ∷ (of_mma m128n64 shared shared (mma (at 1 0 0) (operand.Descriptor (name 6)) 6 None 2), (6, 11))
+    ∷ (of_mma m128n64 shared shared (mma (at 1 0 0) (operand.Address (at 6 0 0)) 4 None 6), (6, 11))
+    ∷ (of_mma m128n64 shared shared (mma (at 1 0 0) a3 6 None 6), (6, 12))
+    ∷ (of_mma (m128n64 + 4) shared shared (mma (at 1 0 0) a3 4 (Some (at 6 0 0)) 6), (6, 13))
+    ∷ (of_mma m128n64 shared shared (mma (at 1 0 0) a3 4 None 6), (6, 13))
+    ∷ (of_mma (m128n64 + 4) shared shared (mma (at 1 0 0) a3 4 (Some (at 1 0 0)) 6), (6, 14))
     -- 12: a, b and idesc; one name twice is the first
-    ∷ (of_mma 3 0 0 (mma (at 1 0 0) a3 4 Dense 2), (12, 11))
-    ∷ (of_mma m128n64 shared 0 (mma (at 1 0 0) (operand.Descriptor (name 4)) 4 Dense 2), (12, 11))
-    ∷ (of_mma 3 shared 0 (mma (at 1 0 0) a3 4 Dense 2), (12, 12))
-    ∷ (of_mma 3 shared 0 (mma (at 1 0 0) (operand.Address (at 1 0 0)) 4 Dense 2), (12, 12))
-    ∷ (of_mma 3 shared shared (mma (at 1 0 0) a3 4 Dense 2), (12, 13))
-    ∷ (of_mma 3 shared shared (mma (at 1 0 0) a3 4 (Sparse (at 1 0 0)) 2), (12, 14))
+    ∷ (of_mma 3 0 0 (mma (at 1 0 0) a3 4 None 2), (12, 11))
+    ∷ (of_mma m128n64 shared 0 (mma (at 1 0 0) (operand.Descriptor (name 4)) 4 None 2), (12, 11))
+    ∷ (of_mma 3 shared 0 (mma (at 1 0 0) a3 4 None 2), (12, 12))
+    ∷ (of_mma 3 shared 0 (mma (at 1 0 0) (operand.Address (at 1 0 0)) 4 None 2), (12, 12))
+    ∷ (of_mma 3 shared shared (mma (at 1 0 0) a3 4 None 2), (12, 13))
+    ∷ (of_mma 3 shared shared (mma (at 1 0 0) a3 4 (Some (at 1 0 0)) 2), (12, 14))
     -- M, N and types not listed; N and types; types; each before the columns
-    ∷ (of_mma 0x0C000020 shared shared (mma (at 1 0 1) a3 4 Dense 2), (13, 13))
-    ∷ (of_mma 0x08000020 shared shared (mma (at 1 0 1) a3 4 Dense 2), (20, 13))
-    ∷ (of_mma 0x08100020 shared shared (mma (at 1 0 1) a3 4 Dense 2), (21, 13))
-    ∷ (of_mma 0x0C000024 shared shared (mma (at 1 0 1) a3 4 (Sparse (at 1 0 0)) 2), (13, 14))
-    ∷ (of_mma 0x08000024 shared shared (mma (at 1 0 1) a3 4 (Sparse (at 1 0 0)) 2), (20, 14))
-    ∷ (of_mma 0x08100024 shared shared (mma (at 1 0 1) a3 4 (Sparse (at 1 0 0)) 2), (21, 14))
+    ∷ (of_mma 0x0C000020 shared shared (mma (at 1 0 1) a3 4 None 2), (13, 13))
+    ∷ (of_mma 0x08000020 shared shared (mma (at 1 0 1) a3 4 None 2), (20, 13))
+    ∷ (of_mma 0x08100020 shared shared (mma (at 1 0 1) a3 4 None 2), (21, 13))
+    ∷ (of_mma 0x0C000024 shared shared (mma (at 1 0 1) a3 4 (Some (at 1 0 0)) 2), (13, 14))
+    ∷ (of_mma 0x08000024 shared shared (mma (at 1 0 1) a3 4 (Some (at 1 0 0)) 2), (20, 14))
+    ∷ (of_mma 0x08100024 shared shared (mma (at 1 0 1) a3 4 (Some (at 1 0 0)) 2), (21, 14))
     -- 14: d, a and the metadata
-    ∷ (of_mma m128n64 shared shared (mma (at 1 0 1) (operand.Address (at 1 0 57)) 4 Dense 2), (14, 20))
-    ∷ (of_mma (m128n64 + 4) shared shared (mma (at 1 0 0) (operand.Address (at 1 0 57)) 4 (Sparse (at 1 0 63)) 2), (14, 21))
-    ∷ (of_mma (m128n64 + 4) shared shared (mma (at 1 0 0) a3 4 (Sparse (at 1 0 63)) 2), (14, 23))
+    ∷ (of_mma m128n64 shared shared (mma (at 1 0 1) (operand.Address (at 1 0 57)) 4 None 2), (14, 20))
+    ∷ (of_mma (m128n64 + 4) shared shared (mma (at 1 0 0) (operand.Address (at 1 0 57)) 4 (Some (at 1 0 63)) 2), (14, 21))
+    ∷ (of_mma (m128n64 + 4) shared shared (mma (at 1 0 0) a3 4 (Some (at 1 0 63)) 2), (14, 23))
     ∷ []
 
 -- ---- states too long for a sheet here

@@ -1,5 +1,6 @@
 -- The rules and the run: of accepted lines both keep the same names, lengths, numbers and loads and stores outstanding, whatever the starts. So the run does each accepted line
 -- but a request whose start may not be used. Assumes nothing.
+use Rattle.std.specs.Prelude.{Some, None}
 use Prim.Native.Nat.{ℕ, zero, suc, ◌+◌, ◌*◌, ◌/◌, ◌%◌, ◌≤◌, ◌<◌}
 use mathlib.Core.Path.{◌≡◌, refl, sym, ap, ◌∙◌, subst}
 use mathlib.Core.Bool.{Bool, true, false, not, ◌&&◌, ◌||◌, cond}
@@ -19,11 +20,10 @@ use Rattle.tokens.specs.Names.{same_name}
 use Rattle.instruction.specs.declared.Kind.{Kind}
 use Rattle.instruction.specs.Descriptor.{Dtype, Element, Instruction}
 use Rattle.instruction.specs.Instruction as instruction
+use Rattle.statement.specs.Forms.{Metadata}
 use Rattle.statement.specs.declared.Address.{Address}
 use Rattle.statement.specs.declared.Operand.{Operand}
 use Rattle.statement.specs.declared.Operand.TheVariants as operand
-use Rattle.statement.specs.declared.Metadata.{Metadata}
-use Rattle.statement.specs.declared.Metadata.TheVariants.{Dense, Sparse}
 use Rattle.statement.specs.declared.Mma.{Mma}
 use Rattle.statement.specs.declared.Shape.{Shape}
 use Rattle.statement.specs.declared.Shape.TheVariants.{S32x32, S16x64, S16x128, S16x256}
@@ -251,8 +251,8 @@ all_lie-none b = refl
 
 metadata_lies : (st : State) (m : Metadata) (b : List Holding)
     → Alike st.live b → reasons.metadata_named st m ≡ true → reasons.metadata_ends st m ≡ true → all_lie (metadata_regions m) b ≡ true
-metadata_lies st Dense b e n i = all_lie-none b
-metadata_lies st (Sparse x) b e n i = all_lie-cons (region x 128 2) [] b (mma-lies st x 2 b e n i) (all_lie-none b)
+metadata_lies st None b e n i = all_lie-none b
+metadata_lies st (Some x) b e n i = all_lie-cons (region x 128 2) [] b (mma-lies st x 2 b e n i) (all_lie-none b)
 
 operand-lies : (st : State) (a : Operand) (xs : List Region) (b : List Holding)
     → Alike st.live b → reasons.operand_named st a ≡ true → reasons.operand_ends st a ≡ true → all_lie xs b ≡ true → all_lie (operand_regions a ++ xs) b ≡ true

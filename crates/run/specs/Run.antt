@@ -1,16 +1,15 @@
 -- The run: what statements do to an empty memory of 512 columns under a list of starts. It shares with the rules the typed statement and its views,
 -- when names are the same and the table of cells alone (and plain counting). Assumes nothing.
-use Rattle.std.specs.Prelude.{ℕ, zero, suc, ◌+◌, ◌*◌, ◌/◌, ◌%◌, ◌^◌, max, Bool, true, false, not, ◌&&◌, ◌||◌, cond, List, [], ◌∷◌, ◌++◌, leb, ltb, eqb}
+use Rattle.std.specs.Prelude.{ℕ, zero, suc, ◌+◌, ◌*◌, ◌/◌, ◌%◌, ◌^◌, max, Bool, true, false, not, ◌&&◌, ◌||◌, cond, List, [], ◌∷◌, ◌++◌, leb, ltb, eqb, Some, None}
 use Rattle.std.proofs.Math.Option.{Option, none, some}
 use Rattle.laws.specs.Tests.{is_some}
 use Rattle.tokens.specs.declared.Name.{Name}
 use Rattle.tokens.specs.Names.{same_name}
+use Rattle.statement.specs.Forms.{Metadata}
 use Rattle.statement.specs.declared.Address.{Address}
 use Rattle.statement.specs.declared.Operand.{Operand}
 use Rattle.statement.specs.declared.Operand.TheVariants as operand
 use Rattle.statement.specs.declared.Transfer.{Transfer}
-use Rattle.statement.specs.declared.Metadata.{Metadata}
-use Rattle.statement.specs.declared.Metadata.TheVariants.{Dense, Sparse}
 use Rattle.statement.specs.Views as act
 use Rattle.statement.specs.Views.{Act, Turn, same_transfer, request_in, release_in, access_in, mma_in, exit_in, for, when, holds, of}
 use Rattle.statement.specs.Cells.{lanes_for, columns_for}
@@ -130,8 +129,8 @@ operand_regions (operand.Descriptor n) = []
 operand_regions (operand.Address a) = region a 128 8 ∷ []
 
 abbrev pub metadata_regions : Metadata → List Region
-metadata_regions Dense = []
-metadata_regions (Sparse a) = region a 128 2 ∷ []
+metadata_regions None = []
+metadata_regions (Some a) = region a 128 2 ∷ []
 
 -- what a statement books by the numbers moved so far: a ld or st its own cells; an mma all 128 lanes, and N columns at d, 8 at a, 2 at the metadata
 unfoldable pub booked_by : List Note → Act → List Region

@@ -1,26 +1,24 @@
 -- The canonical text of a statement: from the same rows, one space after the opcode and after each comma, decimals, no +0. Assumes nothing.
 use Rattle.tokens.specs.Text.{bytes}
-use Rattle.std.specs.Prelude.{ℕ, List, [], ◌∷◌, ◌++◌, Bool, true, false, ◌&&◌, cond, length, ltb, leb, eqb}
+use Rattle.std.specs.Prelude.{ℕ, List, [], ◌∷◌, ◌++◌, Bool, true, false, ◌&&◌, cond, length, ltb, leb, eqb, Some, None}
 use Rattle.tokens.specs.declared.Name.{Name}
 use Rattle.tokens.specs.Names.{name_bytes, name_given}
 use Rattle.tokens.specs.Numbers.{decimal}
 use Rattle.statement.specs.declared.Address.{Address}
 use Rattle.statement.specs.declared.Operand.{Operand}
 use Rattle.statement.specs.declared.Operand.TheVariants as operand
-use Rattle.statement.specs.declared.Metadata.{Metadata}
-use Rattle.statement.specs.declared.Metadata.TheVariants.{Dense, Sparse}
 use Rattle.statement.specs.declared.Mma.{Mma}
 use Rattle.statement.specs.declared.Statement.{Statement}
 use Rattle.statement.specs.declared.Statement.TheVariants as s
 use Rattle.statement.specs.declared.Opcode.{Opcode}
 use Rattle.statement.specs.declared.Opcode.TheVariants.{Mov32, Mov64, Alloc, Dealloc, Relinquish, Load, Store, WaitLoad, WaitStore, FenceBefore, FenceAfter, Multiply, Exit}
 use Rattle.statement.specs.Views.{access_of, of}
-use Rattle.statement.specs.Forms.{word, Slot, name, number, in_brackets, address, operand, names, Value, Values, max_offset, row}
+use Rattle.statement.specs.Forms.{Metadata, word, Slot, name, number, in_brackets, address, operand, names, Value, Values, max_offset, row}
 
 -- ---- a statement's opcode and operands
 abbrev pub sparse : Metadata → Bool
-sparse Dense = false
-sparse (Sparse a) = true
+sparse None = false
+sparse (Some a) = true
 
 abbrev pub opcode_of : Statement → Opcode
 opcode_of (s.Mov32 n v) = Mov32
@@ -38,8 +36,8 @@ opcode_of (s.Multiply m) = Multiply m.ws (sparse m.metadata) m.kind
 opcode_of s.Exit = Exit
 
 abbrev pub mma_values : (m : Mma) (e : Metadata) → Values (row (Multiply m.ws (sparse e) m.kind))
-mma_values m Dense = (m.d, (m.a, (m.b, (m.idesc, (m.predicate, tt)))))
-mma_values m (Sparse e) = (m.d, (m.a, (m.b, (e, (m.idesc, (m.predicate, tt))))))
+mma_values m None = (m.d, (m.a, (m.b, (m.idesc, (m.predicate, tt)))))
+mma_values m (Some e) = (m.d, (m.a, (m.b, (e, (m.idesc, (m.predicate, tt))))))
 
 abbrev pub values_of : (t : Statement) → List Name → Values (row (opcode_of t))
 values_of (s.Mov32 n v) regs = (n, (v, tt))

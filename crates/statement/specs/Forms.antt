@@ -1,5 +1,5 @@
 -- The table of forms: each opcode's word, its operands, and the statement that they make. Assumes nothing.
-use Rattle.std.specs.Prelude.{ℕ, List, [], ◌∷◌, ◌++◌, Bool, true, false, cond, length}
+use Rattle.std.specs.Prelude.{ℕ, List, [], ◌∷◌, ◌++◌, Bool, true, false, cond, length, Option, Some, None}
 use Rattle.instruction.specs.declared.Kind.{Kind}
 use Rattle.instruction.specs.declared.Kind.TheVariants.{F16, Tf32, F8f6f4, I8}
 use Rattle.tokens.specs.declared.Name.{Name}
@@ -9,7 +9,6 @@ use Rattle.statement.specs.declared.Num.{Num}
 use Rattle.statement.specs.declared.Num.TheVariants.{X1, X2, X4, X8, X16, X32, X64, X128}
 use Rattle.statement.specs.declared.Address.{Address}
 use Rattle.statement.specs.declared.Operand.{Operand}
-use Rattle.statement.specs.declared.Metadata.TheVariants.{Dense, Sparse}
 use Rattle.statement.specs.declared.Access.{Access}
 use Rattle.statement.specs.declared.Statement.{Statement}
 use Rattle.statement.specs.declared.Statement.TheVariants as s
@@ -110,6 +109,10 @@ row (Multiply ws true kind) = address ∷ operand ∷ name ∷ address ∷ name 
 row Exit = []
 
 -- ---- the statement
+-- where the metadata of a sparse a stands: none of a dense one
+abbrev pub Metadata : Type 0
+Metadata = Option Address
+
 -- a statement, with the names of its registers
 pub record Whole : Type 0 where
   pub statement : Statement
@@ -135,7 +138,7 @@ make WaitStore v = plain s.WaitStore
 make FenceBefore v = plain s.FenceBefore
 make FenceAfter v = plain s.FenceAfter
 make (Multiply ws false kind) v =
-    plain (s.Multiply (record { ws = ws; kind = kind; d = v.0; a = v.1.0; b = v.1.1.0; metadata = Dense; idesc = v.1.1.1.0; predicate = v.1.1.1.1.0 }))
+    plain (s.Multiply (record { ws = ws; kind = kind; d = v.0; a = v.1.0; b = v.1.1.0; metadata = None; idesc = v.1.1.1.0; predicate = v.1.1.1.1.0 }))
 make (Multiply ws true kind) v =
-    plain (s.Multiply (record { ws = ws; kind = kind; d = v.0; a = v.1.0; b = v.1.1.0; metadata = Sparse v.1.1.1.0; idesc = v.1.1.1.1.0; predicate = v.1.1.1.1.1.0 }))
+    plain (s.Multiply (record { ws = ws; kind = kind; d = v.0; a = v.1.0; b = v.1.1.0; metadata = Some v.1.1.1.0; idesc = v.1.1.1.1.0; predicate = v.1.1.1.1.1.0 }))
 make Exit v = plain s.Exit

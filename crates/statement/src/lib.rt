@@ -52,13 +52,7 @@ pub enum Operand {
     Address(Address),
 }
 
-// Where the metadata of a sparse a stands: with `.sp` alone.
-#[derive(Clone, Copy)]
-pub enum Metadata {
-    Dense,
-    Sparse(Address),
-}
-
+// An mma; the metadata of a sparse a stands with `.sp` alone.
 #[derive(Clone, Copy)]
 pub struct Mma {
     pub ws: bool,
@@ -66,7 +60,7 @@ pub struct Mma {
     pub d: Address,
     pub a: Operand,
     pub b: Name,
-    pub metadata: Metadata,
+    pub metadata: Option<Address>,
     pub idesc: Name,
     pub predicate: Name,
 }

@@ -12,7 +12,7 @@ ghost use Rattle.writer.specs.Outputs.{add_c, more_c, form_c};
 use crate::operand::{address, names, operand};
 use crate::output::{Text, name, number};
 use instruction::Kind;
-use statement::{Access, Metadata, Mma, Num, Shape};
+use statement::{Access, Mma, Num, Shape};
 use tokens::Name;
 
 // An opcode's word, a name and a number up to a limit, with the bytes between these two.
@@ -95,11 +95,11 @@ pub fn multiply(t: &mut Text, m: Mma)
     ensures { t.new ≡ form_c (opcode_of (statement.Multiply m)) (mma_values m m.metadata) true t.old }
 {
     match m.metadata {
-        Metadata::Dense => {
+        None => {
             mma_front(t, m, false);
             mma_back(t, m);
         }
-        Metadata::Sparse(e) => {
+        Some(e) => {
             mma_front(t, m, true);
             t.put(b", ");
             address(t, e);

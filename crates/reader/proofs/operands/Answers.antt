@@ -1,26 +1,25 @@
 -- `reader::operands` meets its contract. In each arm the opcode is known, and the arm's form is the opcode's row. Assumes nothing.
-use Prim.Native.Nat.{ℕ}
-use mathlib.Core.Path.{◌≡◌, refl, sym, ap, ◌∙◌}
-use mathlib.Core.List.{List}
-use mathlib.Core.Bool.{Bool, false}
-use Rattle.tokens.specs.Cursors.{Rest, seen, Took}
-use Rattle.statement.specs.declared.Opcode.{Opcode}
-use Rattle.statement.specs.declared.Opcode.TheVariants.{Alloc}
-use Rattle.statement.specs.Forms.{Whole}
-use Rattle.statement.specs.Reading.{Reading, operands_c, row_c, told}
-use Rattle.reader.specs.declared.Paired.{Paired}
-use Rattle.reader.specs.Rows.{paired_opcode}
+use native.Mathlib.Omega.{arith}
+use mathlib.Core.Path.{◌∙◌}
+use Rattle.tokens.specs.Cursors.{seen}
+use Rattle.statement.specs.declared.Opcode.TheVariants.{Mov32, Mov64, Alloc, Dealloc}
+use Rattle.statement.specs.Forms.{max32, max64}
+use Rattle.statement.specs.Reading.{operands_c, row_c}
+use Rattle.reader.specs.Rows.{pair_seen}
+use Rattle.reader.proofs.Laws.{row_told}
 use Rattle.reader.proofs.operands.Goals as goal
-use Rattle.reader.proofs.operands.Goals.{in-Mov32, in-Mov64, in-Alloc, in-Dealloc}
 
--- the form that an opcode chose reads the opcode's operands
-pair_of : (s : List ℕ) (r : Rest) (x : Reading) (t p : Paired) (o : Opcode) → t ≡ p → operands_c o r ≡ operands_c (paired_opcode p) r → x ≡ told s (operands_c (paired_opcode t) r)
-    → x ≡ told s (operands_c o r)
-pair_of s r x t p o e f h = h ∙ ap (λ (q : Paired). told s (operands_c (paired_opcode q) r)) e ∙ sym (ap (λ (q : Took Whole). told s q) f)
+pub returns-in-Mov32 : goal.returns-in-Mov32
+returns-in-Mov32 c = rw c.in-Mov32.is (c.answer.ensures ∙ row_told c.args.s.now (seen c.args.s.now c.args.k) Mov32 (pair_seen c.args.s.now max32 _) c.name_number-p.ensures.read)
 
-alloc-any : (b : Bool) (r : Rest) → operands_c (Alloc b) r ≡ operands_c (Alloc false) r
-unfolding operands_c
-alloc-any b r = refl
+pub returns-in-Mov64 : goal.returns-in-Mov64
+returns-in-Mov64 c = rw c.in-Mov64.is (c.answer-in-Mov64.ensures ∙ row_told c.args.s.now (seen c.args.s.now c.args.k) Mov64 (pair_seen c.args.s.now max64 _) c.name_number-p-in-Mov64.ensures.read)
+
+pub returns-in-Alloc : goal.returns-in-Alloc
+returns-in-Alloc c = rw c.in-Alloc.is (c.answer-in-Alloc.ensures ∙ row_told c.args.s.now (seen c.args.s.now c.args.k) (Alloc _) (pair_seen c.args.s.now max32 _) c.name_number-p-in-Alloc.ensures.read)
+
+pub returns-in-Dealloc : goal.returns-in-Dealloc
+returns-in-Dealloc c = rw c.in-Dealloc.is (c.answer-in-Dealloc.ensures ∙ row_told c.args.s.now (seen c.args.s.now c.args.k) Dealloc (pair_seen c.args.s.now max32 _) c.name_number-p-in-Dealloc.ensures.read)
 
 pub returns-in-Relinquish : goal.returns-in-Relinquish
 unfolding operands_c row_c
@@ -57,16 +56,3 @@ returns-in-Multiply c = rw c.in-Multiply.is c.multiply.ensures
 pub returns-in-Exit : goal.returns-in-Exit
 unfolding operands_c row_c
 returns-in-Exit c = rw c.in-Exit.is c.bare-in-Exit.ensures
-
-pub returns : goal.returns
-returns c =
-    let a = c.args in
-    let r = seen a.s.now a.k in
-    let t = c.match-o.t in
-    let h = c.pair.ensures in
-    elim c.match-o.branch [
-      | in-Mov32 w ↦ pair_of a.s.now r _ t Paired.Mov32 a.o w.t-is (ap (λ (q : Opcode). operands_c q r) w.in-Mov32.is) h
-      | in-Mov64 w ↦ pair_of a.s.now r _ t Paired.Mov64 a.o w.t-is (ap (λ (q : Opcode). operands_c q r) w.in-Mov64.is) h
-      | in-Alloc w ↦ pair_of a.s.now r _ t Paired.Alloc a.o w.t-is (ap (λ (q : Opcode). operands_c q r) w.in-Alloc.is ∙ alloc-any _ r) h
-      | in-Dealloc w ↦ pair_of a.s.now r _ t Paired.Dealloc a.o w.t-is (ap (λ (q : Opcode). operands_c q r) w.in-Dealloc.is) h
-    ]

@@ -5,16 +5,16 @@ use Rattle.statement.specs.Forms.{word, address, operand, name}
 use Rattle.writer.proofs.Rows.{row_law}
 use Rattle.writer.proofs.form.multiply.Goals as goal
 
-pub returns-in-Dense : goal.returns-in-Dense
-returns-in-Dense c =
+pub returns-in-None : goal.returns-in-None
+returns-in-None c =
     let a = c.args in
     let m = a.m in
-    rw (c.in-Dense.is, c.mma_back.ensures, c.mma_front.ensures)
+    rw (c.in-None.is, c.mma_back.ensures, c.mma_front.ensures)
     (row_law (word (Multiply m.ws false m.kind)) address (operand ∷ name ∷ name ∷ name ∷ []) (m.d, (m.a, (m.b, (m.idesc, (m.predicate, tt))))) a.t.now)
 
-pub returns-in-Sparse : goal.returns-in-Sparse
-returns-in-Sparse c =
+pub returns-in-Some : goal.returns-in-Some
+returns-in-Some c =
     let a = c.args in
     let m = a.m in
-    rw (c.in-Sparse.is, c.mma_back-in-Sparse.ensures, c.address.ensures, c.put.ensures, c.mma_front-in-Sparse.ensures)
+    rw (c.in-Some.is, c.mma_back-in-Some.ensures, c.address.ensures, c.put.ensures, c.mma_front-in-Some.ensures)
     (row_law (word (Multiply m.ws true m.kind)) address (operand ∷ name ∷ address ∷ name ∷ name ∷ []) (m.d, (m.a, (m.b, (_, (m.idesc, (m.predicate, tt)))))) a.t.now)
