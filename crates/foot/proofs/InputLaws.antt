@@ -1,24 +1,10 @@
--- How reading stands at a turn of the loop, and what is left of it; and what is printed. Assumes nothing.
-use Rattle.std.proofs.Common.{ℕ, ◌-◌, ◌≤◌, ◌≡◌, List, true, length, take, ap, ◌∙◌, leb, arith}
+-- What is printed. Assumes nothing.
+use Rattle.std.proofs.Common.{ℕ, ◌≤◌, ◌≡◌, List, true, length, take, ap, ◌∙◌, leb, arith}
 use borrow.Author.Tests.{le-leb}
 use Rattle.report.specs.Report.{report_room}
 use Rattle.report.proofs.ReportLaws.{put_whole}
 use Rattle.printed.specs.declared.Printed.{Printed}
 use Rattle.printed.specs.Printed.{answered, report_of, printed_of, room_after}
-use Rattle.foot.specs.declared.Input.{Input}
-use Rattle.foot.specs.declared.Input.TheVariants.{More, All, Failed}
-
--- what came is inside of the buffer; where more is to be read, the buffer is not full
-abbrev pub SoFar : Input → Type 0
-SoFar (More n) = n ≤ 65536
-SoFar (All n) = n ≤ 65537
-SoFar Failed = Unit
-
--- the bytes that may still come, and nothing where reading is over
-abbrev pub left_of : Input → ℕ
-left_of (More n) = 65538 - n
-left_of (All n) = 0
-left_of Failed = 0
 
 -- a room that is large enough has the report in its first places
 pub shown : (s room t : List ℕ) (p : Printed) → report_room ≤ length room → p ≡ printed_of s (length room) → t ≡ room_after s room → p.length ≤ report_room

@@ -41,15 +41,12 @@ fn read_sheet(mut stdin: Stdin, sheet: &mut [u8]) -> Input
     requires { length sheet.old ≡ most_bytes + 1 }
     ensures { Over (length sheet.new) result }
 {
-    let mut input = Input::More(0);
+    let mut length = 0;
     loop {
-        match input {
-            Input::More(n) => {
-                let got = stdin.read(&mut sheet[n..]);
-                input = taken(n, got);
-            }
-            Input::All(_) => return input,
-            Input::Failed => return input,
+        let got = stdin.read(&mut sheet[length..]);
+        match taken(length, got) {
+            Input::More(n) => length = n,
+            input => return input,
         }
     }
 }

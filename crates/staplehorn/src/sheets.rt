@@ -12,14 +12,12 @@ pub fn staplehorn_judge(sheet: &[u8], starts: &mut [u16], answer: &mut [u32; 6])
     ensures run { RunKept sheet.now (answer_in answer.new) starts.new }
 {
     let judged = judge::judge(sheet, starts);
-    let line = judged.answer.line as u32;
-    let column = judged.answer.column as u32;
+    let a = judged.answer;
+    let line = a.line as u32;
+    let column = a.column as u32;
     let count = judged.starts as u32;
-    let reason = judged.answer.reason;
-    let held = judged.answer.held;
-    let peak = judged.answer.peak;
-    *answer = [reason, line, column, held, peak, count];
-    reason
+    *answer = [a.reason, line, column, a.held, a.peak, count];
+    a.reason
 }
 
 // What `foot` prints for a sheet: the reason, the length, and the room.
@@ -30,7 +28,6 @@ pub fn staplehorn_report(sheet: &[u8], room: &mut [u8], size: &mut usize) -> u32
     ensures run { RunPrinted sheet.now result }
 {
     let p = printed::print(sheet, room);
-    let n = p.length;
-    *size = n;
+    *size = p.length;
     p.reason
 }

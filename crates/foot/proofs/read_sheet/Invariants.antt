@@ -1,10 +1,9 @@
 -- The sheet keeps its length, and what came is inside of it; each turn leaves less to come.
-use Rattle.std.proofs.Common.{◌≡◌, length}
-use Rattle.foot.proofs.InputLaws.{SoFar, left_of}
+use Rattle.std.proofs.Common.{◌≡◌, ◌-◌, ◌≤◌, length}
 use Rattle.foot.proofs.read_sheet.Given as goal
 
-abbrev pub invariant-loop-input : goal.invariant-loop-input
-invariant-loop-input l = (length l.sheet ≡ 65537) × SoFar l.input
+abbrev pub invariant-loop-n : goal.invariant-loop-n
+invariant-loop-n l = (length l.sheet ≡ 65537) × (l.length ≤ 65536)
 
-abbrev pub decreases-loop-input : goal.decreases-loop-input
-decreases-loop-input l = left_of l.input
+abbrev pub decreases-loop-n : goal.decreases-loop-n
+decreases-loop-n l = 65538 - l.length
