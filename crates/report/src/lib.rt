@@ -31,7 +31,8 @@ pub struct Figures {
     pub peak: u64,
 }
 
-// The bytes w, from a place on, if there is room for all of them: the place after them, else the same place.
+// The bytes w, from a place on, if there is room for all of them: the place after them, else the same place. The room and
+// the place go apart: the room is the one that the C interface lends, and no array of ours.
 pub fn put(room: &mut [u8], at: usize, w: &[u8]) -> usize
     ensures next { result ≡ put_end (length room.old) at w.now }
     ensures places { room.new ≡ put_text room.old at w.now }

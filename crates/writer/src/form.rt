@@ -46,6 +46,7 @@ pub fn load(t: &mut Text, a: Access, registers: &[Name])
     t.put(b";");
 }
 
+// A st has its operands in the other order than a ld: one function for both would have a switch in it.
 pub fn store(t: &mut Text, a: Access, registers: &[Name])
     ensures { t.new ≡ form_c (opcode.Store a.shape a.num) (a.address, (take a.registers registers.now, tt)) (eqb a.registers (length (take a.registers registers.now))) t.old }
 {
