@@ -50,10 +50,6 @@ least_more f n e g h = rw (add-one n, e, le-ltb n n (omega arith), sym g ∙ h)
 pub least-here : (f : ℕ → Bool) (n m : ℕ) {b : Bool} → least f n ≡ n → b ≡ f n → b ≡ true → n < m → least f m ≡ n
 least-here f n m e g h p = least-is f m n p (sym g ∙ h) (λ j q. least-below f n j (rw e q))
 
--- the search is over, and none was found
-pub least-end : (f : ℕ → Bool) (n m : ℕ) → least f n ≡ n → n ≤ m → m ≤ n → least f m ≡ m
-least-end f n m e p q = let z : n ≡ m = omega arith in rw z at e
-
 -- the same as a test that none passes
 pub none_passes : (f : ℕ → Bool) (n : ℕ) → ((j : ℕ) → j < n → f j ≡ false) → eqb (least f n) n ≡ true
 none_passes f n h = eq-eqb (least f n) n (least-none f n h)
