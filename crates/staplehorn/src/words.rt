@@ -156,7 +156,7 @@ pub fn staplehorn_shared_encode(fields: &[u64; 6], word: &mut u64) -> u32
     ensures reason { result ≡ (S.encoded (S.shared_in fields.now)).reason }
     ensures word { word.new ≡ (S.encoded (S.shared_in fields.now)).word }
 {
-    let written = shared_memory::encode(Shared {
+    let made = shared_memory::encode(Shared {
         start: fields[0],
         leading: fields[1],
         stride: fields[2],
@@ -164,8 +164,8 @@ pub fn staplehorn_shared_encode(fields: &[u64; 6], word: &mut u64) -> u32
         mode: fields[4],
         swizzle: fields[5],
     });
-    *word = written.unwrap_or(0);
-    answered(written)
+    *word = made.unwrap_or(0);
+    answered(made)
 }
 
 // 0 if a request for columns is legal, else 9.
