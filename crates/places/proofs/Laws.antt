@@ -1,86 +1,70 @@
 -- Laws of commas, operands and columns, in the words of the code. Assumes nothing.
 use Prim.Native.Nat.{ℕ, zero, suc, ◌+◌, ◌-◌, ◌<◌, ◌≤◌}
-use native.Mathlib.Numerals.{add-one}
 use native.Mathlib.Omega.{arith}
 use mathlib.Core.Path.{◌≡◌, refl, sym, ◌∙◌}
-use mathlib.Core.List.{List, []}
-use mathlib.Core.Bool.{Bool, true, false, not, ◌&&◌}
-use lib.ListN.{length, get_or, drop, drop_of_length-le, length-drop}
-use lib.Seq.{drop-cons}
+use mathlib.Core.List.{List, [], ◌∷◌}
+use mathlib.Core.Bool.{Bool, true, false, cond, not, ◌&&◌}
+use lib.ListN.{length, take, drop, length-drop}
+use lib.Seq.{take_all}
 use lib.Dec.{eqb}
 use borrow.Author.Tests.{eq-eqb, ne_eqb}
 use Rattle.tokens.specs.Text.{byte}
-use Rattle.tokens.specs.Bytes.{blank, run_len}
-use Rattle.lexer.proofs.Laws.{blank_law}
+use Rattle.tokens.specs.Bytes.{after_blanks}
 use Rattle.statement.specs.declared.Position.TheVariants.{Token, Name, Operand}
-use Rattle.statement.specs.Reading.{Reading, opcode_len, read_of}
+use Rattle.statement.specs.Reading.{Reading, read_of}
 use Rattle.statement.proofs.Stops.{stop_le}
-use Rattle.statement.specs.Positions.{within, after_comma, after_commas, operand_from, after_bracket, name_from, operand_place, name_place, stop_in, statement_column, byte_column}
+use Rattle.statement.specs.Positions.{within, after_comma, after_commas, after_bracket, operand_place, name_place, stop_in, statement_column, byte_column}
 
 -- ---- commas
--- by the byte at a position: the comma, another byte, or none
-module _ (s : List ℕ) (i : ℕ) (inside : Bool) where
-  pub comma-here : i < length s → (eqb (get_or s i 0) (byte ",") && not inside) ≡ true → drop (i + 1) s ≡ after_comma inside (drop i s)
-  unfolding after_comma
-  comma-here h e = rw (add-one, drop-cons s i 0 h, e)
+-- by the byte at the head: the comma, another byte, or none
+comma_law : (inside b : Bool) (x : ℕ) (l : List ℕ) → (eqb x (byte ",") && not inside) ≡ b → after_comma inside (x ∷ l) ≡ cond b l (after_comma (within inside x) l)
+unfolding after_comma
+comma_law inside b x l e = rw e
 
-  pub comma-next : i < length s → (eqb (get_or s i 0) (byte ",") && not inside) ≡ false
-      → after_comma (within inside (get_or s i 0)) (drop (i + 1) s) ≡ after_comma inside (drop i s)
-  unfolding after_comma
-  comma-next h e = rw (add-one, drop-cons s i 0 h, e)
+pub comma_here : (inside : Bool) (x : ℕ) (s l : List ℕ) → s ≡ x ∷ l → (eqb x (byte ",") && not inside) ≡ true → l ≡ after_comma inside s
+comma_here inside x s l e t = sym (rw e (comma_law inside true x l t))
 
-  pub comma-past : length s ≤ i → drop i s ≡ after_comma inside (drop i s)
-  unfolding after_comma
-  comma-past h = rw (drop_of_length-le s h)
+pub comma_next : (inside : Bool) (x : ℕ) (s l : List ℕ) → s ≡ x ∷ l → (eqb x (byte ",") && not inside) ≡ false → after_comma (within inside x) l ≡ after_comma inside s
+comma_next inside x s l e t = sym (rw e (comma_law inside false x l t))
+
+pub comma_none : (inside : Bool) (s : List ℕ) → length s ≡ 0 → s ≡ after_comma inside s
+unfolding after_comma
+comma_none inside [] e = refl
+comma_none inside (x ∷ l) e = absurd (omega (arith, e))
 
 commas_nil : (n : ℕ) → after_commas n [] ≡ []
 unfolding after_commas after_comma
 commas_nil zero = refl
 commas_nil (suc n) = commas_nil n
 
--- one comma fewer is left
-pub commas_next : (l m : List ℕ) (n : ℕ) → 0 < n → m ≡ after_comma false l → after_commas (n - 1) m ≡ after_commas n l
+-- one comma fewer is left, no byte is left, or no comma
+pub commas_next : (l m : List ℕ) (n k : ℕ) → k < n → m ≡ after_comma false l → after_commas (n - (k + 1)) m ≡ after_commas (n - k) l
 unfolding after_commas
-commas_next l m zero h e = absurd (omega arith)
-commas_next l m (suc n) h e = let z : suc n - 1 ≡ n = omega arith in rw (z, e)
+commas_next l m n k h e = let z : n - k ≡ suc (n - (k + 1)) = omega arith in rw (z, e)
 
-pub commas_past : (s : List ℕ) (i n : ℕ) → length s ≤ i → drop i s ≡ after_commas n (drop i s)
-commas_past s i n h = rw (drop_of_length-le s h) (sym (commas_nil n))
+pub commas_empty : (l : List ℕ) (n : ℕ) → length l ≡ 0 → l ≡ after_commas n l
+commas_empty [] n e = sym (commas_nil n)
+commas_empty (x ∷ l) n e = absurd (omega (arith, e))
 
-pub commas_done : (l : List ℕ) (n : ℕ) → n ≤ 0 → l ≡ after_commas n l
+pub commas_done : (l : List ℕ) (n : ℕ) → n ≡ 0 → l ≡ after_commas n l
 unfolding after_commas
-commas_done l zero h = refl
-commas_done l (suc n) h = absurd (omega arith)
+commas_done l n e = rw e
 
--- ---- operands
-pub operand_law : (s : List ℕ) (o j i index : ℕ) → o ≡ opcode_len s → drop j s ≡ after_commas index (drop o s) → i ≡ j + run_len blank (drop j s) → drop i s ≡ operand_from s index
-unfolding operand_from
-operand_law s o j i index p q e = blank_law s j i e ∙ rw (q, p)
+-- ---- parts
+-- a bracket at the head, another byte, or none
+pub bracket_open : (s l : List ℕ) (x : ℕ) → s ≡ x ∷ l → x ≡ byte "[" → after_blanks l ≡ after_bracket s
+bracket_open s l x e t = rw (e, eq-eqb _ _ t)
 
--- a bracket, another byte, or none
-module _ (s : List ℕ) (at : ℕ) where
-  pub bracket_open : (i : ℕ) → at < length s → get_or s at 0 ≡ byte "[" → i ≡ at + 1 + run_len blank (drop (at + 1) s) → drop i s ≡ after_bracket (drop at s)
-  bracket_open i h b e = blank_law s (at + 1) i e ∙ rw (add-one, drop-cons s at 0 h, eq-eqb _ _ b)
+pub bracket_other : (s l : List ℕ) (x : ℕ) → s ≡ x ∷ l → (x ≡ byte "[" → ⊥) → s ≡ after_bracket s
+bracket_other s l x e t = rw (e, ne_eqb _ _ t)
 
-  pub bracket_none : at < length s → (get_or s at 0 ≡ byte "[" → ⊥) → drop at s ≡ after_bracket (drop at s)
-  bracket_none h b = rw (drop-cons s at 0 h, ne_eqb _ _ b)
+pub bracket_none : (s : List ℕ) → length s ≡ 0 → s ≡ after_bracket s
+bracket_none [] e = refl
+bracket_none (x ∷ l) e = absurd (omega (arith, e))
 
-  pub bracket_past : length s ≤ at → drop at s ≡ after_bracket (drop at s)
-  bracket_past h = rw (drop_of_length-le s h)
-
-pub name_law : (s : List ℕ) (at i index : ℕ) → drop at s ≡ operand_from s index → drop i s ≡ after_bracket (drop at s) → drop i s ≡ name_from s index
-unfolding name_from
-name_law s at i index g h = h ∙ rw g
-
--- ---- places
-module _ (s : List ℕ) (index at p : ℕ) (is : p ≡ length s - length (drop at s)) where
-  pub operand-place : drop at s ≡ operand_from s index → p ≡ operand_place s index
-  unfolding operand_place
-  operand-place h = is ∙ rw h
-
-  pub name-place : drop at s ≡ name_from s index → p ≡ name_place s index
-  unfolding name_place
-  name-place h = is ∙ rw h
+-- the rest of a slice from a place on
+pub rest_from : (s : List ℕ) (n k : ℕ) → n ≡ k → take (length s - n) (drop n s) ≡ drop k s
+rest_from s n k e = rw e (take_all (length s - k) (drop k s) (omega (arith, length-drop k s)))
 
 -- ---- columns
 -- a place within the text is its own

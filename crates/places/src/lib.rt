@@ -1,25 +1,52 @@
 // Where the parts of a statement stand in its text, and their columns in its line.
 #![tactic(auto)]
 
-ghost use Rattle.std.specs.Prelude.{◌≡◌, false, cond, ◌+◌, ◌-◌, length, drop};
+ghost use Rattle.std.specs.Prelude.{◌≡◌, false, ◌+◌, ◌-◌, length, drop};
+ghost use Rattle.std.specs.List.{prefix_len};
+ghost use Rattle.tokens.specs.Bytes.{opcode_byte, blank, after_blanks};
 ghost use Rattle.statement.specs.Reading.{opcode_len, read_of};
 ghost use Rattle.statement.specs.declared.Position.TheVariants.{Token};
-ghost use Rattle.statement.specs.Positions.{within, after_comma, after_commas, operand_from, after_bracket, name_from, operand_place, name_place, stop_in, statement_column, byte_column};
+ghost use Rattle.statement.specs.Positions.{within, after_comma, after_commas, operand_from, name_from, operand_place, name_place, stop_in, statement_column, byte_column};
 
 use statement::{Position, Reading};
 
 // Where the opcode ends.
 fn opcode_end(s: &[u8]) -> usize
-    ensures { result ≡ opcode_len s.now }
+    ensures { result ≡ prefix_len opcode_byte s.now }
 {
-    let mut i: usize = 0;
-    while i < s.len() {
-        if !lexer::bytes::is_opcode(s[i]) {
-            return i;
-        }
-        i += 1;
-    }
-    i
+    s.iter()
+        .take_while(|b| lexer::bytes::is_opcode(**b))
+        .count()
+}
+
+// A space.
+fn is_blank(x: u8) -> bool
+    ensures { result ≡ blank x }
+{
+    x == b' '
+}
+
+// Where the spaces end.
+fn blanks_end(s: &[u8]) -> usize
+    ensures { result ≡ prefix_len blank s.now }
+{
+    s.iter().take_while(|b| is_blank(**b)).count()
+}
+
+// What follows the opcode.
+fn after_opcode<'a>(s: &'a [u8]) -> &'a [u8]
+    ensures { result.now ≡ drop (opcode_len s.now) s.now }
+{
+    let end = opcode_end(s);
+    &s[end..]
+}
+
+// What follows the spaces.
+fn after_blanks<'a>(s: &'a [u8]) -> &'a [u8]
+    ensures { result.now ≡ after_blanks s.now }
+{
+    let end = blanks_end(s);
+    &s[end..]
 }
 
 // Whether we are inside braces after a byte.
@@ -29,81 +56,70 @@ fn within(inside: bool, x: u8) -> bool
     (x == b'{') | (inside & !(x == b'}'))
 }
 
-// The place after the first comma outside of braces.
-fn comma_end(s: &[u8], at: usize) -> usize
-    ensures { drop result s.now ≡ after_comma false (drop at s.now) }
+// What follows the first comma outside of braces.
+fn after_comma<'a>(s: &'a [u8]) -> &'a [u8]
+    ensures { result.now ≡ after_comma false s.now }
 {
     let mut inside = false;
-    let mut i = at;
-    while i < s.len() {
-        let x = s[i];
-        if (x == b',') & !inside {
-            return i + 1;
+    let mut rest = s;
+    while let Some((x, more)) = rest.split_first() {
+        if (*x == b',') & !inside {
+            return more;
         }
-        inside = within(inside, x);
-        i += 1;
+        inside = within(inside, *x);
+        rest = more;
     }
-    i
+    rest
 }
 
-// The place after so many of them.
-fn commas_end(s: &[u8], at: usize, count: usize) -> usize
-    ensures { drop result s.now ≡ after_commas count (drop at s.now) }
+// What follows so many of them.
+fn after_commas<'a>(s: &'a [u8], count: usize) -> &'a [u8]
+    ensures { result.now ≡ after_commas count s.now }
 {
-    let mut i = at;
-    let mut left = count;
-    while 0 < left {
-        if s.len() <= i {
-            return i;
+    let mut rest = s;
+    for _ in 0..count {
+        if rest.is_empty() {
+            return rest;
         }
-        i = comma_end(s, i);
-        left -= 1;
+        rest = after_comma(rest);
     }
-    i
+    rest
 }
 
-// The place where an operand starts: past the opcode, the commas and the spaces.
-fn operand_at(s: &[u8], index: usize) -> usize
-    ensures { drop result s.now ≡ operand_from s.now index }
+// From an operand on: past the opcode, the commas and the spaces.
+fn operand_from<'a>(s: &'a [u8], index: usize) -> &'a [u8]
+    ensures { result.now ≡ operand_from s.now index }
 {
-    let opcode = opcode_end(s);
-    let comma = commas_end(s, opcode, index);
-    lexer::bytes::blanks_end(s, comma)
+    after_blanks(after_commas(after_opcode(s), index))
 }
 
-// The place inside the bracket, if one opens.
-fn bracket_end(s: &[u8], at: usize) -> usize
-    ensures { drop result s.now ≡ after_bracket (drop at s.now) }
+// From its name on, inside the bracket if one opens.
+fn name_from<'a>(s: &'a [u8], index: usize) -> &'a [u8]
+    ensures { result.now ≡ name_from s.now index }
 {
-    if s.len() <= at {
-        return at;
+    let rest = operand_from(s, index);
+    let Some((x, inside)) = rest.split_first() else {
+        return rest;
+    };
+    if *x == b'[' {
+        after_blanks(inside)
+    } else {
+        rest
     }
-    if s[at] == b'[' {
-        return lexer::bytes::blanks_end(s, at + 1);
-    }
-    at
-}
-
-// The place where an operand starts, or its name.
-fn part_at(s: &[u8], index: usize, name: bool) -> usize
-    ensures { drop result s.now ≡ cond name (name_from s.now index) (operand_from s.now index) }
-{
-    let at = operand_at(s, index);
-    if name { bracket_end(s, at) } else { at }
 }
 
 // The place of an operand.
 pub fn operand(s: &[u8], index: usize) -> usize
     ensures { result ≡ operand_place s.now index }
 {
-    lexer::cursor::place(s, part_at(s, index, false))
+    s.len().saturating_sub(operand_from(s, index).len())
 }
 
 // The place of its name.
 pub fn name(s: &[u8], index: usize) -> usize
     ensures { result ≡ name_place s.now index }
 {
-    lexer::cursor::place(s, part_at(s, index, true))
+    s.len().saturating_sub(name_from(s, index).len())
 }
 
 // The place of the token that no form has there, or of the number that is out of range; 0 for a text that reads.
