@@ -22,7 +22,8 @@ pub struct Books {
 }
 
 impl Books {
-    // Nothing is kept.
+    // Nothing is kept. Never inlined: the parts would lie on the judge's stack beside the whole.
+    #[inline(never)]
     pub fn new() -> Books
         ensures { result ≡ opening }
     {
