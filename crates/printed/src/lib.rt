@@ -43,6 +43,8 @@ fn alloc_in(text: &[u8]) -> Option<Asked>
 }
 
 // The rows of a sheet that passed, from a place on: a row for each alloc, in a second pass over the lines after line 1.
+// Not inlined: its frame would stand on the stack while the sheet is judged.
+#[inline(never)]
 fn rows(sheet: &[u8], starts: &[u16], room: &mut [u8], from: usize) -> usize
     requires passed { ((judged_of sheet.now most_lines).reason ≡ 0) × (length starts.now ≡ most_lines) }
     requires fits { from + length (rows_text (rows_up_to (lines_of sheet.now) starts.now (line_count sheet.now - 1))) ≤ length room.old }

@@ -77,6 +77,7 @@ fn row_line(alloc: Name, start: u64, columns: u64) -> Line
 }
 
 // The first line of a report.
+#[inline(never)]
 pub fn head(room: &mut [u8], at: usize, f: Figures) -> usize
     ensures next { result ≡ put_end (length room.old) at (head_text f.reason f.line f.column f.held f.peak) }
     ensures places { room.new ≡ put_text room.old at (head_text f.reason f.line f.column f.held f.peak) }

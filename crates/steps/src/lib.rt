@@ -141,7 +141,8 @@ fn leave(books: &mut Books, held: u32) -> Result<Step, Reason>
 }
 
 // One statement of a warp, judged and booked; `held` is what the lines before it asked for less what they gave back. Of one
-// that is refused the books stay as they were.
+// that is refused the books stay as they were. Never inlined: what a booking gives back would lie on the judge's stack all the time.
+#[inline(never)]
 pub fn statement(books: &mut Books, held: u32, warp: u8, t: Statement) -> Result<Step, Reason>
     requires { warp < 4 }
     ensures { StatementDone held warp t books.old result books.new }
