@@ -2,8 +2,7 @@
 #![tactic(auto)]
 
 ghost use Rattle.std.specs.Prelude.{◌≡◌, length};
-ghost use Rattle.statement.specs.Reading.{read_of, registers_of, paired};
-ghost use Rattle.writer.specs.Outputs.{written_of, left_by};
+ghost use Rattle.statement.specs.Reading.{read_of, registers_of};
 ghost use Rattle.canonical.specs.Alone.{alone_of, alone_in, rewritten, left_of};
 
 use reasons::Reason;
@@ -47,36 +46,6 @@ pub fn judge_text(text: &[u8]) -> Result<(), Refusal>
     }
 }
 
-// The names that two arrays hold.
-fn joined(hi: &[u64; 128], lo: &[u64; 128]) -> [Name; 128]
-    ensures { result ≡ paired hi.now lo.now }
-{
-    let mut names = [Name { hi: 0, lo: 0 }; 128];
-    for i in 0..128 {
-        names[i] = Name {
-            hi: hi[i],
-            lo: lo[i],
-        };
-    }
-    names
-}
-
-// The canonical text of a text that reads, with two arrays for its registers' names.
-fn rewrite_in(
-    text: &[u8],
-    t: Statement,
-    hi: &mut [u64; 128],
-    lo: &mut [u64; 128],
-    room: &mut [u8],
-) -> Result<usize, Reason>
-    requires { (read_of text.now ≡ Ok t) × (length hi.old ≡ 128) × (length lo.old ≡ 128) }
-    ensures answer { result ≡ written_of (length room.old) t (registers_of text.now) }
-    ensures left { room.new ≡ left_by room.old t (registers_of text.now) }
-{
-    reader::registers(text, hi, lo);
-    writer::write(t, &joined(hi, lo), room)
-}
-
 // The canonical text of a statement in the first places of a room, and how long it is; a text that does not read gives
 // its reason, too little room 19, and the room is unchanged then.
 pub fn rewrite(text: &[u8], room: &mut [u8]) -> Result<usize, Reason>
@@ -84,7 +53,7 @@ pub fn rewrite(text: &[u8], room: &mut [u8]) -> Result<usize, Reason>
     ensures left { room.new ≡ left_of room.old (read_of text.now) (registers_of text.now) }
 {
     let t = reader::read(text).map_err(Misread::reason)?;
-    let mut hi = [0u64; 128];
-    let mut lo = [0u64; 128];
-    rewrite_in(text, t, &mut hi, &mut lo, room)
+    let mut names = [Name { hi: 0, lo: 0 }; 128];
+    reader::registers(text, &mut names);
+    writer::write(t, &names, room)
 }

@@ -32,7 +32,7 @@ use Rattle.statement.specs.declared.Opcode.TheVariants.{Multiply}
 use Rattle.statement.specs.declared.Misread.TheVariants.{NoForm}
 use Rattle.statement.specs.Forms.{name, number, Values, max_offset, row, Whole, plain, make}
 use Rattle.statement.specs.Opcodes.{recognise}
-use Rattle.statement.specs.Reading.{Reading, offset_c, address_c, operand_c, more_c, tally, his, los, answer_of, more_row_c, row_c, operands_c, start, opcode_len, whole_by, whole_c, longest_text, read_of, fine, registers_of, told}
+use Rattle.statement.specs.Reading.{Reading, offset_c, address_c, operand_c, more_c, tally, answer_of, more_row_c, row_c, operands_c, start, opcode_len, whole_by, whole_c, longest_text, read_of, fine, registers_of, told}
 use Rattle.opcode.specs.declared.Head.{Head}
 use Rattle.opcode.specs.Heads.{head_seen, head_by, head_of}
 use Rattle.statement.specs.contracts.Opcode.{enum, the_type}
@@ -136,31 +136,30 @@ names-end count x m v h =
     let n : x ≡ m.next = ap (λ t. t.next) h in
     rw (q, n)
 
--- how many names, and the two lists that they are stored in
+-- how many names, and the list that they are stored in
 pub record Stores : Type 0 where
   pub count : ℕ
-  pub hi : List ℕ
-  pub lo : List ℕ
+  pub names : List Name
 
 -- after count names, those that are left
-abbrev pub stored : List ℕ → List ℕ → ℕ → List Name → Stores
-stored hi lo count ns = record { count = count + length ns; hi = sets hi count (his ns); lo = sets lo count (los ns) }
+abbrev pub stored : List Name → ℕ → List Name → Stores
+stored names count ns = record { count = count + length ns; names = sets names count ns }
 
-pub stored_more : (hi lo : List ℕ) (count : ℕ) (v : Name) (ns : List Name) → stored (set hi count v.hi) (set lo count v.lo) (count + 1) ns ≡ stored hi lo count (v ∷ ns)
-stored_more hi lo count v ns =
+pub stored_more : (names : List Name) (count : ℕ) (v : Name) (ns : List Name) → stored (set names count v) (count + 1) ns ≡ stored names count (v ∷ ns)
+stored_more names count v ns =
     let q : count + 1 + length ns ≡ count + suc (length ns) = omega arith in
     rw (q, add-one)
 
 -- the list ends: what is stored is all of it
-pub stored-end : (hi lo hi₀ lo₀ : List ℕ) (count : ℕ) (v : Name) (ns : List Name) → stored hi lo count [] ≡ stored (set hi₀ 0 v.hi) (set lo₀ 0 v.lo) 1 ns
-    → (count ≡ length (v ∷ ns)) × ((hi ≡ sets hi₀ 0 (his (v ∷ ns))) × (lo ≡ sets lo₀ 0 (los (v ∷ ns))))
-stored-end hi lo hi₀ lo₀ count v ns h =
+pub stored-end : (names names₀ : List Name) (count : ℕ) (v : Name) (ns : List Name) → stored names count [] ≡ stored (set names₀ 0 v) 1 ns
+    → (count ≡ length (v ∷ ns)) × (names ≡ sets names₀ 0 (v ∷ ns))
+stored-end names names₀ count v ns h =
     let p : count + 0 ≡ 1 + length ns = ap (λ t. t.count) h in
-    (omega arith, (ap (λ t. t.hi) h, ap (λ t. t.lo) h))
+    (omega arith, ap (λ t. t.names) h)
 
 -- no name: nothing is stored
-pub none-stored : (hi lo : List ℕ) (ns : List Name) → ns ≡ [] → (0 ≡ length ns) × ((hi ≡ sets hi 0 (his ns)) × (lo ≡ sets lo 0 (los ns)))
-none-stored hi lo ns h = rw h (refl, (refl, refl))
+pub none-stored : (names ns : List Name) → ns ≡ [] → (0 ≡ length ns) × (names ≡ sets names 0 ns)
+none-stored names ns h = rw h (refl, refl)
 
 -- ---- a statement, by the opcode at its head
 head_whole : (s : List ℕ) → whole_c s ≡ whole_by s (head_of s).rest (head_of s).found

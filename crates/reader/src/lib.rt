@@ -7,11 +7,11 @@ pub mod operand;
 ghost use Rattle.std.specs.Prelude.{◌≡◌, length};
 ghost use Rattle.std.proofs.lemmas.List.Edits.{sets};
 ghost use Rattle.tokens.specs.Cursors.{seen};
-ghost use Rattle.statement.specs.Reading.{read_of, registers_of, his, los, operands_c, told};
+ghost use Rattle.statement.specs.Reading.{read_of, registers_of, operands_c, told};
 ghost use Rattle.reader.specs.Lists.{list_c};
 
 use statement::{MAX32, MAX64, Misread, Opcode, Reading, Statement};
-use tokens::Cursor;
+use tokens::{Cursor, Name};
 
 // The operands of an opcode, read from a position on, and the answer.
 pub fn operands(s: &[u8], k: Cursor, o: Opcode) -> Reading
@@ -66,25 +66,23 @@ pub fn read(s: &[u8]) -> Reading
     operands(s, k, head.opcode)
 }
 
-// How many registers the operands of an opcode name; their names go to the first places of hi and lo.
-pub fn list_of(s: &[u8], k: Cursor, o: Opcode, hi: &mut [u64; 128], lo: &mut [u64; 128]) -> usize
+// How many registers the operands of an opcode name; their names go to the first places.
+pub fn list_of(s: &[u8], k: Cursor, o: Opcode, names: &mut [Name; 128]) -> usize
     ensures count { result ≡ length (list_c o (seen s.now k)) }
-    ensures first { hi.new ≡ sets hi.old 0 (his (list_c o (seen s.now k))) }
-    ensures second { lo.new ≡ sets lo.old 0 (los (list_c o (seen s.now k))) }
+    ensures stored { names.new ≡ sets names.old 0 (list_c o (seen s.now k)) }
 {
     match o {
-        Opcode::Load { shape: _, num: _ } => operand::fill(s, k, hi, lo),
-        Opcode::Store { shape: _, num: _ } => operand::fill_after(s, k, hi, lo),
+        Opcode::Load { shape: _, num: _ } => operand::fill(s, k, names),
+        Opcode::Store { shape: _, num: _ } => operand::fill_after(s, k, names),
         _ => 0,
     }
 }
 
-// How many registers a statement that reads names; their names go to the first places of hi and lo. 0, and no place is
+// How many registers a statement that reads names; their names go to the first places. 0, and no place is
 // changed, for a text that does not read.
-pub fn registers(s: &[u8], hi: &mut [u64; 128], lo: &mut [u64; 128]) -> usize
+pub fn registers(s: &[u8], names: &mut [Name; 128]) -> usize
     ensures count { result ≡ length (registers_of s.now) }
-    ensures first { hi.new ≡ sets hi.old 0 (his (registers_of s.now)) }
-    ensures second { lo.new ≡ sets lo.old 0 (los (registers_of s.now)) }
+    ensures stored { names.new ≡ sets names.old 0 (registers_of s.now) }
 {
     let Some(head) = opcode::head_of(s) else {
         return 0;
@@ -99,5 +97,5 @@ pub fn registers(s: &[u8], hi: &mut [u64; 128], lo: &mut [u64; 128]) -> usize
     let Ok(_) = t else {
         return 0;
     };
-    list_of(s, k, head.opcode, hi, lo)
+    list_of(s, k, head.opcode, names)
 }

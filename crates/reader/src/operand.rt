@@ -5,7 +5,7 @@ ghost use Rattle.tokens.specs.Text.{byte};
 ghost use Rattle.tokens.specs.Cursors.{seen, mark_c, number_c, read_seen};
 ghost use Rattle.expression.specs.Expressions.{quantity_c};
 ghost use Rattle.statement.specs.Forms.{max32};
-ghost use Rattle.statement.specs.Reading.{in_brackets_c, offset_c, inside_c, address_c, operand_c, names_c, tally, his, los};
+ghost use Rattle.statement.specs.Reading.{in_brackets_c, offset_c, inside_c, address_c, operand_c, names_c, tally};
 ghost use Rattle.reader.specs.Rows.{named_c, plain_offset_c};
 
 use statement::{Address, Operand};
@@ -170,18 +170,15 @@ pub fn names(s: &[u8], k: Cursor) -> Read<usize>
     }
 }
 
-// { 1 to 128 names }: how many; the names go to the first places of hi and lo.
-pub fn fill(s: &[u8], k: Cursor, hi: &mut [u64; 128], lo: &mut [u64; 128]) -> usize
+// { 1 to 128 names }: how many; they go to the first places.
+pub fn fill(s: &[u8], k: Cursor, names: &mut [Name; 128]) -> usize
     ensures count { result ≡ length (names_c (seen s.now k)).value }
-    ensures first { hi.new ≡ sets hi.old 0 (his (names_c (seen s.now k)).value) }
-    ensures second { lo.new ≡ sets lo.old 0 (los (names_c (seen s.now k)).value) }
+    ensures stored { names.new ≡ sets names.old 0 (names_c (seen s.now k)).value }
 {
     let a = lexer::cursor::mark(s, k, b'{');
     let n = lexer::cursor::name(s, a);
-    let v = n.value;
     let mut at = n.next;
-    hi[0] = v.hi;
-    lo[0] = v.lo;
+    names[0] = n.value;
     let mut count: usize = 1;
     while count < MOST {
         let d = lexer::cursor::mark(s, at, b',');
@@ -189,9 +186,7 @@ pub fn fill(s: &[u8], k: Cursor, hi: &mut [u64; 128], lo: &mut [u64; 128]) -> us
             return count;
         }
         let m = lexer::cursor::name(s, d);
-        let w = m.value;
-        hi[count] = w.hi;
-        lo[count] = w.lo;
+        names[count] = m.value;
         at = m.next;
         count += 1;
     }
@@ -199,13 +194,12 @@ pub fn fill(s: &[u8], k: Cursor, hi: &mut [u64; 128], lo: &mut [u64; 128]) -> us
 }
 
 // An address and a comma, then { 1 to 128 names }, as fill.
-pub fn fill_after(s: &[u8], k: Cursor, hi: &mut [u64; 128], lo: &mut [u64; 128]) -> usize
+pub fn fill_after(s: &[u8], k: Cursor, names: &mut [Name; 128]) -> usize
     ensures count { result ≡ length (names_c (mark_c (byte ",") (address_c (seen s.now k)).next)).value }
-    ensures first { hi.new ≡ sets hi.old 0 (his (names_c (mark_c (byte ",") (address_c (seen s.now k)).next)).value) }
-    ensures second { lo.new ≡ sets lo.old 0 (los (names_c (mark_c (byte ",") (address_c (seen s.now k)).next)).value) }
+    ensures stored { names.new ≡ sets names.old 0 (names_c (mark_c (byte ",") (address_c (seen s.now k)).next)).value }
 {
     let a = address(s, k);
     let k1 = a.next;
     let k2 = lexer::cursor::mark(s, k1, b',');
-    fill(s, k2, hi, lo)
+    fill(s, k2, names)
 }

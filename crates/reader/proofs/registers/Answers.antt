@@ -8,15 +8,15 @@ use Rattle.reader.proofs.registers.Goals as goal
 pub returns-in_default : goal.returns-in_default
 returns-in_default c =
     let a = c.args in
-    let both = none-stored a.hi.now a.lo.now (registers_of a.s.now) (registers_none a.s.now (whole-none a.s.now c.in_default.ensures)) in
-    record { count = both.0; first = both.1.0; second = both.1.1 }
+    let both = none-stored a.names.now (registers_of a.s.now) (registers_none a.s.now (whole-none a.s.now c.in_default.ensures)) in
+    record { count = both.0; stored = both.1 }
 
 pub returns-in_default-t : goal.returns-in_default-t
 returns-in_default-t c =
     let a = c.args in
     let t = c.operands-t in
-    let both = none-stored a.hi.now a.lo.now (registers_of a.s.now) (registers_unread a.s.now _ t.result (whole_is a.s.now c.in-Some.head c.in-Some.ensures) t.ensures c.in_default-t.not-Ok) in
-    record { count = both.0; first = both.1.0; second = both.1.1 }
+    let both = none-stored a.names.now (registers_of a.s.now) (registers_unread a.s.now _ t.result (whole_is a.s.now c.in-Some.head c.in-Some.ensures) t.ensures c.in_default-t.not-Ok) in
+    record { count = both.0; stored = both.1 }
 
 pub returns : goal.returns
 unfolding list_c
@@ -24,4 +24,4 @@ returns c =
     let a = c.args in
     let t = c.operands-t in
     rw (registers_got a.s.now _ t.result (whole_is a.s.now c.in-Some.head c.in-Some.ensures) t.ensures _ c.in-Ok.is)
-    (record { count = c.list_of.ensures.count; first = c.list_of.ensures.first; second = c.list_of.ensures.second })
+    (record { count = c.list_of.ensures.count; stored = c.list_of.ensures.stored })

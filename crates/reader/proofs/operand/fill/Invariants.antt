@@ -9,7 +9,7 @@ use Rattle.reader.proofs.operand.fill.Given as goal
 
 abbrev pub invariant-loop-count : goal.invariant-loop-count
 invariant-loop-count l =
-    (l.count ≤ 128) × (stored l.hi l.lo l.count (more_c (128 - l.count) (seen l.s l.at)).value ≡ stored l.initial.hi l.initial.lo l.initial.count (more_c (128 - l.initial.count) (seen l.s l.initial.at)).value)
+    (l.count ≤ 128) × (stored l.names l.count (more_c (128 - l.count) (seen l.s l.at)).value ≡ stored l.initial.names l.initial.count (more_c (128 - l.initial.count) (seen l.s l.initial.at)).value)
 
 abbrev pub decreases-loop-count : goal.decreases-loop-count
 decreases-loop-count l = 128 - l.count

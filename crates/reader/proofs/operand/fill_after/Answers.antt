@@ -2,4 +2,4 @@
 use Rattle.reader.proofs.operand.fill_after.Goals as goal
 
 pub returns : goal.returns
-returns c = rw (← c.address-a.ensures, ← c.mark-k2.ensures.rest) (record { count = c.fill.ensures.count; first = c.fill.ensures.first; second = c.fill.ensures.second })
+returns c = rw (← c.address-a.ensures, ← c.mark-k2.ensures.rest) (record { count = c.fill.ensures.count; stored = c.fill.ensures.stored })
