@@ -1,6 +1,6 @@
 -- How a statement is read: the opcode, its row of operands, the answer. Assumes nothing.
 use Rattle.tokens.specs.Text.{byte}
-use Rattle.std.specs.Prelude.{ℕ, zero, suc, ◌-◌, List, [], ◌∷◌, map, Bool, true, false, ◌&&◌, cond, length, take, drop, leb, Option, Some, None, Result, Ok, Err}
+use Rattle.std.specs.Prelude.{ℕ, zero, suc, ◌-◌, List, [], ◌∷◌, Bool, true, false, ◌&&◌, cond, length, take, drop, leb, Option, Some, None, Result, Ok, Err}
 use Rattle.tokens.specs.declared.Name.{Name}
 use Rattle.tokens.specs.Bytes.{opcode_byte, run_len}
 use Rattle.tokens.specs.Cursors.{Rest, off, Took, mark_c, end_c, name_c}
@@ -155,16 +155,3 @@ tally r = record { value = length r.value; next = r.next }
 -- the answer for what was read of a text
 abbrev pub told : List ℕ → Took Whole → Reading
 told text t = answer_of text t.next t.value.statement
-
--- ---- the registers' names in two lists of numbers
-abbrev pub his : List Name → List ℕ
-his ns = map (λ (n : Name). n.hi) ns
-
-abbrev pub los : List Name → List ℕ
-los ns = map (λ (n : Name). n.lo) ns
-
--- the names that two lists hold
-abbrev pub paired : List ℕ → List ℕ → List Name
-paired [] b = []
-paired (x ∷ a) [] = []
-paired (x ∷ a) (y ∷ b) = record { hi = x; lo = y } ∷ paired a b
