@@ -1,5 +1,5 @@
 -- How the head of a text is found: a few bytes, at places counted from the start, tell the one opcode that it can be, and the text is compared with that
--- one's word. It is the head by the table (`candidate_head`, in proofs). Assumes nothing.
+-- one's word. It is the head by the table (`no_word`, `more_follows` and `head_at`, in proofs/Heads). Assumes nothing.
 use Rattle.std.specs.Prelude.{ℕ, ◌+◌, List, [], ◌∷◌, Bool, true, false, not, cond, get_or, eqb}
 use Rattle.instruction.specs.declared.Kind.{Kind}
 use Rattle.instruction.specs.declared.Kind.TheVariants.{F16, Tf32, F8f6f4, I8}
