@@ -118,44 +118,29 @@ more_full r count h =
     let q : 128 - count ≡ 0 = omega arith in
     rw q
 
--- count names, and those that are left
-abbrev pub after : ℕ → Took (List Name) → Took ℕ
-after count m = record { value = count + length m.value; next = m.next }
-
-pub after_more : (count : ℕ) (v : Name) (m : Took (List Name)) → after (count + 1) m ≡ after count (record { value = v ∷ m.value; next = m.next })
-after_more count v m =
-    let q : count + 1 + length m.value ≡ count + suc (length m.value) = omega arith in
-    rw q
-
--- the list ends: what is counted is all of it
-pub names-end : (count : ℕ) (x : Rest) (m : Took (List Name)) (v : Name) → after count (record { value = []; next = x }) ≡ after 1 m
-    → ◌≡◌ {A = Took ℕ} (record { value = count; next = x }) (tally (record { value = v ∷ m.value; next = m.next }))
-names-end count x m v h =
-    let p : count + 0 ≡ 1 + length m.value = ap (λ t. t.value) h in
-    let q : count ≡ suc (length m.value) = omega arith in
-    let n : x ≡ m.next = ap (λ t. t.next) h in
-    rw (q, n)
-
--- how many names, and the list that they are stored in
+-- how many names, the list that they are stored in, and where reading goes on
 pub record Stores : Type 0 where
   pub count : ℕ
   pub names : List Name
+  pub next : Rest
 
 -- after count names, those that are left
-abbrev pub stored : List Name → ℕ → List Name → Stores
-stored names count ns = record { count = count + length ns; names = sets names count ns }
+abbrev pub stored : List Name → ℕ → Took (List Name) → Stores
+stored names count m = record { count = count + length m.value; names = sets names count m.value; next = m.next }
 
-pub stored_more : (names : List Name) (count : ℕ) (v : Name) (ns : List Name) → stored (set names count v) (count + 1) ns ≡ stored names count (v ∷ ns)
-stored_more names count v ns =
-    let q : count + 1 + length ns ≡ count + suc (length ns) = omega arith in
+pub stored_more : (names : List Name) (count : ℕ) (v : Name) (m : Took (List Name)) → stored (set names count v) (count + 1) m ≡ stored names count (record { value = v ∷ m.value; next = m.next })
+stored_more names count v m =
+    let q : count + 1 + length m.value ≡ count + suc (length m.value) = omega arith in
     rw (q, add-one)
 
--- the list ends: what is stored is all of it
-pub stored-end : (names names₀ : List Name) (count : ℕ) (v : Name) (ns : List Name) → stored names count [] ≡ stored (set names₀ 0 v) 1 ns
-    → (count ≡ length (v ∷ ns)) × (names ≡ sets names₀ 0 (v ∷ ns))
-stored-end names names₀ count v ns h =
-    let p : count + 0 ≡ 1 + length ns = ap (λ t. t.count) h in
-    (omega arith, ap (λ t. t.names) h)
+-- the list ends: what is counted and stored is all of it
+pub stored-end : (names names₀ : List Name) (count : ℕ) (x : Rest) (v : Name) (m : Took (List Name)) → stored names count (record { value = []; next = x }) ≡ stored (set names₀ 0 v) 1 m
+    → (◌≡◌ {A = Took ℕ} (record { value = count; next = x }) (tally (record { value = v ∷ m.value; next = m.next }))) × (names ≡ sets names₀ 0 (v ∷ m.value))
+stored-end names names₀ count x v m h =
+    let p : count + 0 ≡ 1 + length m.value = ap (λ t. t.count) h in
+    let q : count ≡ suc (length m.value) = omega arith in
+    let n : x ≡ m.next = ap (λ t. t.next) h in
+    (rw (q, n), ap (λ t. t.names) h)
 
 -- no name: nothing is stored
 pub none-stored : (names ns : List Name) → ns ≡ [] → (0 ≡ length ns) × (names ≡ sets names 0 ns)

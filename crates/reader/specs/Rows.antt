@@ -1,13 +1,9 @@
 -- Rows that several forms share. Assumes nothing.
 use Rattle.tokens.specs.Text.{byte}
-use Rattle.std.specs.Prelude.{ℕ, List, [], ◌∷◌, Bool, true, false, cond, Some, None}
+use Rattle.std.specs.Prelude.{ℕ, List, [], ◌∷◌, Bool, cond, Some, None}
 use Rattle.tokens.specs.declared.Name.{Name}
 use Rattle.tokens.specs.Cursors.{Rest, seen, Took, mark_c, name_c, number_c}
-use Rattle.statement.specs.declared.Statement.{Statement}
-use Rattle.statement.specs.declared.Statement.TheVariants as s
-use Rattle.statement.specs.declared.Opcode.{Opcode}
-use Rattle.statement.specs.declared.Opcode.TheVariants as o
-use Rattle.statement.specs.Forms.{Metadata, name, number, in_brackets, Values, max32, max64, max_offset}
+use Rattle.statement.specs.Forms.{Metadata, name, number, in_brackets, Values, max_offset}
 use Rattle.statement.specs.Reading.{in_brackets_c, address_c, row_c}
 use Rattle.tokens.specs.declared.Read.{Read}
 

@@ -67,7 +67,7 @@ pub fn name_number(s: &[u8], k: Cursor, bracketed: bool, limit: u64) -> Read<(Na
 pub fn load(s: &[u8], k: Cursor, shape: Shape, num: Num) -> Reading
     ensures { result ≡ told s.now (operands_c (opcode.Load shape num) (seen s.now k)) }
 {
-    let n = crate::operand::names(s, k);
+    let n = crate::operand::names(s, k, &mut []);
     let k1 = n.next;
     let k2 = lexer::cursor::mark(s, k1, b',');
     let a = crate::operand::address(s, k2);
@@ -92,7 +92,7 @@ pub fn store(s: &[u8], k: Cursor, shape: Shape, num: Num) -> Reading
     let a = crate::operand::address(s, k);
     let k1 = a.next;
     let k2 = lexer::cursor::mark(s, k1, b',');
-    let n = crate::operand::names(s, k2);
+    let n = crate::operand::names(s, k2, &mut []);
     let k3 = n.next;
     let e = lexer::cursor::end(s, k3);
     let address = a.value;

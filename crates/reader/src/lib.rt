@@ -72,8 +72,12 @@ pub fn list_of(s: &[u8], k: Cursor, o: Opcode, names: &mut [Name; 128]) -> usize
     ensures stored { names.new ≡ sets names.old 0 (list_c o (seen s.now k)) }
 {
     match o {
-        Opcode::Load { shape: _, num: _ } => operand::fill(s, k, names),
-        Opcode::Store { shape: _, num: _ } => operand::fill_after(s, k, names),
+        Opcode::Load { shape: _, num: _ } => operand::names(s, k, names).value,
+        Opcode::Store { shape: _, num: _ } => {
+            let a = operand::address(s, k);
+            let k1 = a.next;
+            operand::names(s, lexer::cursor::mark(s, k1, b','), names).value
+        }
         _ => 0,
     }
 }

@@ -1,8 +1,7 @@
 // Operands by a cursor: each gives a failed cursor back unchanged.
-ghost use Rattle.std.specs.Prelude.{◌≡◌, length};
+ghost use Rattle.std.specs.Prelude.{◌≡◌, set};
 ghost use Rattle.std.proofs.lemmas.List.Edits.{sets};
-ghost use Rattle.tokens.specs.Text.{byte};
-ghost use Rattle.tokens.specs.Cursors.{seen, mark_c, number_c, read_seen};
+ghost use Rattle.tokens.specs.Cursors.{seen, number_c, read_seen};
 ghost use Rattle.expression.specs.Expressions.{quantity_c};
 ghost use Rattle.statement.specs.Forms.{max32};
 ghost use Rattle.statement.specs.Reading.{in_brackets_c, offset_c, inside_c, address_c, operand_c, names_c, tally};
@@ -144,15 +143,25 @@ pub fn operand(s: &[u8], k: Cursor) -> Read<Operand>
     }
 }
 
-// { 1 to 128 names }: how many.
-pub fn names(s: &[u8], k: Cursor) -> Read<usize>
-    ensures { read_seen s.now result ≡ tally (names_c (seen s.now k)) }
+// A name goes to its place, where there is one.
+fn keep(names: &mut [Name], at: usize, name: Name)
+    ensures { names.new ≡ set names.old at name }
+{
+    if at < names.len() {
+        names[at] = name;
+    }
+}
+
+// { 1 to 128 names }: how many; they go to the first places, as far as there are places.
+pub fn names(s: &[u8], k: Cursor, names: &mut [Name]) -> Read<usize>
+    ensures read { read_seen s.now result ≡ tally (names_c (seen s.now k)) }
+    ensures stored { names.new ≡ sets names.old 0 (names_c (seen s.now k)).value }
 {
     let a = lexer::cursor::mark(s, k, b'{');
     let n = lexer::cursor::name(s, a);
     let mut at = n.next;
-    let mut count: usize = 1;
-    while count < MOST {
+    keep(names, 0, n.value);
+    for count in 1..MOST {
         let d = lexer::cursor::mark(s, at, b',');
         if !d.ok {
             return Read {
@@ -161,45 +170,11 @@ pub fn names(s: &[u8], k: Cursor) -> Read<usize>
             };
         }
         let m = lexer::cursor::name(s, d);
+        keep(names, count, m.value);
         at = m.next;
-        count += 1;
     }
     Read {
-        value: count,
+        value: MOST,
         next: lexer::cursor::mark(s, at, b'}'),
     }
-}
-
-// { 1 to 128 names }: how many; they go to the first places.
-pub fn fill(s: &[u8], k: Cursor, names: &mut [Name; 128]) -> usize
-    ensures count { result ≡ length (names_c (seen s.now k)).value }
-    ensures stored { names.new ≡ sets names.old 0 (names_c (seen s.now k)).value }
-{
-    let a = lexer::cursor::mark(s, k, b'{');
-    let n = lexer::cursor::name(s, a);
-    let mut at = n.next;
-    names[0] = n.value;
-    let mut count: usize = 1;
-    while count < MOST {
-        let d = lexer::cursor::mark(s, at, b',');
-        if !d.ok {
-            return count;
-        }
-        let m = lexer::cursor::name(s, d);
-        names[count] = m.value;
-        at = m.next;
-        count += 1;
-    }
-    count
-}
-
-// An address and a comma, then { 1 to 128 names }, as fill.
-pub fn fill_after(s: &[u8], k: Cursor, names: &mut [Name; 128]) -> usize
-    ensures count { result ≡ length (names_c (mark_c (byte ",") (address_c (seen s.now k)).next)).value }
-    ensures stored { names.new ≡ sets names.old 0 (names_c (mark_c (byte ",") (address_c (seen s.now k)).next)).value }
-{
-    let a = address(s, k);
-    let k1 = a.next;
-    let k2 = lexer::cursor::mark(s, k1, b',');
-    fill(s, k2, names)
 }

@@ -1,5 +1,4 @@
 -- `reader::operands` meets its contract. In each arm the opcode is known, and the arm's form is the opcode's row. Assumes nothing.
-use native.Mathlib.Omega.{arith}
 use mathlib.Core.Path.{◌∙◌}
 use Rattle.tokens.specs.Cursors.{seen}
 use Rattle.statement.specs.declared.Opcode.TheVariants.{Mov32, Mov64, Alloc, Dealloc}

@@ -9,10 +9,9 @@ use Rattle.reader.proofs.form.load.Goals as goal
 pub returns : goal.returns
 unfolding operands_c row_c more_row_c
 returns c =
-    let names₁ = c.names-n in
     rw (
-      ← ap (λ (t : Took ℕ). t.next) names₁.ensures,
-      ← ap (λ (t : Took ℕ). t.value) names₁.ensures,
+      ← ap (λ (t : Took ℕ). t.next) c.names-n.ensures.read,
+      ← ap (λ (t : Took ℕ). t.value) c.names-n.ensures.read,
       ← c.mark-k2.ensures.rest,
       ← c.address-a.ensures,
       ← c.end-e.ensures.rest,

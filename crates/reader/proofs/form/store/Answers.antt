@@ -9,12 +9,11 @@ use Rattle.reader.proofs.form.store.Goals as goal
 pub returns : goal.returns
 unfolding operands_c row_c more_row_c
 returns c =
-    let names₁ = c.names-n in
     rw (
       ← c.address-a.ensures,
       ← c.mark-k2.ensures.rest,
-      ← ap (λ (t : Took ℕ). t.next) names₁.ensures,
-      ← ap (λ (t : Took ℕ). t.value) names₁.ensures,
+      ← ap (λ (t : Took ℕ). t.next) c.names-n.ensures.read,
+      ← ap (λ (t : Took ℕ). t.value) c.names-n.ensures.read,
       ← c.end-e.ensures.rest,
     )
     c.answer.ensures
