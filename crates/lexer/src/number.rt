@@ -129,7 +129,8 @@ fn suffix_of(s: &[u8], at: usize) -> usize
     }
 }
 
-// The number that a token at a position is, if it goes by a base.
+// The number that a token at a position is, if it goes by a base. Inlined, so that each base has a loop with its own constants.
+#[inline(always)]
 fn spelled(s: &[u8], at: usize, b: Base) -> Option<Numeral>
     requires { at < length s.now }
     ensures { result ≡ row_numeral (notation_of b) (drop (at + length (notation_of b).prefix) s.now) }
