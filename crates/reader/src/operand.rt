@@ -152,8 +152,8 @@ fn keep(names: &mut [Name], at: usize, name: Name)
     }
 }
 
-// { 1 to 128 names }: how many; they go to the first places, as far as there are places.
-pub fn names(s: &[u8], k: Cursor, names: &mut [Name]) -> Read<usize>
+// { 1 to 128 names }: how many; they go to the first places, as far as there are places. With no places the names are read alone.
+pub fn names<const N: usize>(s: &[u8], k: Cursor, names: &mut [Name; N]) -> Read<usize>
     ensures read { read_seen s.now result ≡ tally (names_c (seen s.now k)) }
     ensures stored { names.new ≡ sets names.old 0 (names_c (seen s.now k)).value }
 {

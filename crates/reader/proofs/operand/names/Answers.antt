@@ -12,7 +12,7 @@ use Rattle.reader.proofs.operand.names.Goals as goal
 
 pub returns-then-not-d : goal.returns-then-not-d
 unfolding names_c
-returns-then-not-d c =
+returns-then-not-d g c =
     let s = c.args.s.now in
     let n = c.name-n in
     let l = c.loop-count in
@@ -22,7 +22,7 @@ returns-then-not-d c =
     rw (← c.mark-a.ensures.rest, ← n.ensures.rest) (record { read = rw c.mark.ensures.rest all.0; stored = all.1 })
 
 pub loop-count-preserved : goal.loop-count-preserved
-loop-count-preserved c =
+loop-count-preserved g c =
     let s = c.args.s.now in
     let l = c.loop-count in
     let d = c.mark-d in
@@ -32,7 +32,7 @@ loop-count-preserved c =
 
 pub returns : goal.returns
 unfolding names_c
-returns c =
+returns g c =
     let s = c.args.s.now in
     let n = c.name-n in
     let l = c.loop-count in

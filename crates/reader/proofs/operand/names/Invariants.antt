@@ -8,4 +8,4 @@ use Rattle.reader.proofs.Laws.{stored}
 use Rattle.reader.proofs.operand.names.Given as goal
 
 abbrev pub invariant-loop-count : goal.invariant-loop-count
-invariant-loop-count l = stored l.names l.count (more_c (128 - l.count) (seen l.s l.at)) ≡ stored l.initial.names 1 (more_c 127 (seen l.s l.initial.at))
+invariant-loop-count g l = stored l.names l.count (more_c (128 - l.count) (seen l.s l.at)) ≡ stored l.initial.names 1 (more_c 127 (seen l.s l.initial.at))
