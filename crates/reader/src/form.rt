@@ -64,6 +64,7 @@ pub fn name_number(s: &[u8], k: Cursor, bracketed: bool, limit: u64) -> Read<(Na
     }
 }
 
+// A ld and a st stay apart: their operands come in the other order.
 pub fn load(s: &[u8], k: Cursor, shape: Shape, num: Num) -> Reading
     ensures { result ≡ told s.now (operands_c (opcode.Load shape num) (seen s.now k)) }
 {
