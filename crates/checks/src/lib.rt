@@ -138,6 +138,7 @@ pub fn descriptor_tested(values: &Bindings, name: Name) -> Tested
 }
 
 // Operand a.
+#[inline]
 pub fn operand_tested(ledger: &Ledger, values: &Bindings, a: Operand) -> Tested
     ensures { OperandTested ledger.now values.now a result }
 {

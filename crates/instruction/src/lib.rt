@@ -293,6 +293,7 @@ impl Opcode {
     }
 
     // What a word says under the opcode.
+    #[inline(always)]
     pub fn decode_fields(self, word: u32) -> Result<Fields, Reason>
         ensures { read_answer result ≡ fields_read (decoded self.kind self.ws self.sp word) }
     {

@@ -43,7 +43,7 @@ pub struct Packed {
     pub end: usize,
 }
 
-// The run of word bytes at a position, but no more than there is room for, after v.
+// The run of word bytes at a position, but no more than there is room for, after v. By `for` its end is worked out twice.
 fn pack(s: &[u8], at: usize, room: usize, v: u64) -> Packed
     requires { (at ≤ length s.now) × (room ≤ 8) × (v < 2 ^ (8 * (8 - room))) }
     ensures value { result.value ≡ byte_digits v (take (words_len room (drop at s.now)) (drop at s.now)) }
@@ -51,14 +51,16 @@ fn pack(s: &[u8], at: usize, room: usize, v: u64) -> Packed
 {
     let stop = s.len().min(at + room);
     let mut value = v;
-    for i in at..stop {
+    let mut i = at;
+    while i < stop {
         let x = s[i];
         if !is_word(x) {
             return Packed { value, end: i };
         }
         value = value * 256 + u64::from(x);
+        i += 1;
     }
-    Packed { value, end: stop }
+    Packed { value, end: i }
 }
 
 // A name, and where it ends.

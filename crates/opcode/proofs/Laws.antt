@@ -1,11 +1,12 @@
 -- Laws of words taken off the start of a text. Assumes nothing.
-use Rattle.std.proofs.Common.{◌≡◌, ℕ, ◌+◌, List, [], ◌∷◌, ◌++◌, Bool, true, false, cond, eqb, Option, Some, None, Bor, MatchOption, length, take, drop, nat_eq, refl, sym, ◌∙◌}
+use Rattle.std.proofs.Common.{◌≡◌, ℕ, ◌+◌, ◌<◌, ◌≤◌, List, [], ◌∷◌, ◌++◌, Bool, true, false, cond, eqb, Option, Some, None, length, drop, refl, ◌∙◌}
+use native.Mathlib.Numerals.{add-one}
+use native.Mathlib.Omega.{arith}
+use lib.ListN.{get_or}
+use lib.Seq.{drop-cons, drop-length}
 use Rattle.std.specs.Option.{option_and_then}
-use Rattle.std.specs.Cmp.Lexicographic.{pointwise}
-use Rattle.std.proofs.lemmas.Bool.Decides.{Decides-eqb}
-use Rattle.std.proofs.lemmas.Slice.Eq.{strip_prefix_is}
 use borrow.Author.Tests.{eq-eqb, eqb-true}
-use Rattle.opcode.specs.Pieces.{left, without}
+use Rattle.opcode.specs.Pieces.{without}
 
 -- a text that starts with p, without it
 pub without_self : (p r : List ℕ) → without p (p ++ r) ≡ Some r
@@ -43,12 +44,26 @@ without_some p q s t e = without_both p q s ∙ rw (← e)
 pub without_none : (p q s : List ℕ) → None ≡ without p s → without (p ++ q) s ≡ None
 without_none p q s e = without_both p q s ∙ rw (← e)
 
--- what `strip_prefix` says
-module _ (p s : List ℕ) where
-  pub stripped : (r : Option (Bor (List ℕ))) → MatchOption r (pointwise nat_eq (take (length p) s) p ≡ false) (λ x. (pointwise nat_eq (take (length p) s) p ≡ true) × (x.now ≡ drop (length p) s) × (length x.now + length p ≡ length s)) → left r ≡ without p s
-  stripped (Some x) h = rw (strip_prefix_is Decides-eqb s p (Some x) h) (sym (without_self p x.now))
-  stripped None h = by (without p s) refl
-    where
-      by : (o : Option (List ℕ)) → without p s ≡ o → None ≡ without p s
-      by None e = sym e
-      by (Some r) e = absurd (strip_prefix_is Decides-eqb s p None h r (without_is p s r e))
+-- too short a text does not start with p
+pub without_short : (p s : List ℕ) → length s < length p → without p s ≡ None
+unfolding without
+without_short [] s h = absurd (omega arith)
+without_short (x ∷ p) [] h = refl
+without_short (x ∷ p) (y ∷ s) h = by (eqb y x) (without_short p s (omega arith))
+  where
+    by : (b : Bool) → without p s ≡ None → cond b (without p s) None ≡ None
+    by true e = e
+    by false e = refl
+
+-- the loop: one byte more
+pub without_step : (p s : List ℕ) (i : ℕ) → i < length p → i < length s
+    → without (drop i p) (drop i s) ≡ cond (eqb (get_or s i 0) (get_or p i 0)) (without (drop (i + 1) p) (drop (i + 1) s)) None
+unfolding without
+without_step p s i hp hs = rw (add-one, drop-cons p i 0 hp, drop-cons s i 0 hs)
+
+-- no byte is left of p
+pub without_end : (p s : List ℕ) (i : ℕ) (b : Bool) (r : Option (List ℕ)) → i ≤ length p → length p ≤ i → cond b (without (drop i p) (drop i s)) None ≡ r → cond b (Some (drop (length p) s)) None ≡ r
+unfolding without
+without_end p s i b r l h k =
+    let e : i ≡ length p = omega arith in
+    rw (e, drop-length p) at k

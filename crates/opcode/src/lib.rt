@@ -3,7 +3,7 @@
 
 mod candidate;
 
-ghost use Rattle.std.specs.Prelude.{◌≡◌, ◌++◌};
+ghost use Rattle.std.specs.Prelude.{◌≡◌, ◌++◌, ◌≤◌, cond, Some, None, length, drop};
 ghost use Rattle.tokens.specs.Text.{bytes};
 ghost use Rattle.statement.specs.Forms.{word, shape_text, num_text};
 ghost use Rattle.opcode.specs.Pieces.{left, without};
@@ -20,11 +20,30 @@ pub struct Head {
     pub end: usize,
 }
 
+// Whether a text starts with p. No way out but the end, so it is vector code: by `strip_prefix`, which goes byte by byte, an opcode takes a third
+// more instructions.
+fn starts(w: &[u8], p: &[u8]) -> bool
+    requires { length p.now ≤ length w.now }
+    ensures { cond result (Some (drop (length p.now) w.now)) None ≡ without p.now w.now }
+{
+    let mut same = true;
+    for i in 0..p.len() {
+        same = same & (w[i] == p[i]);
+    }
+    same
+}
+
 // What a text leaves after p, if it starts with p.
 fn past<'a>(w: &'a [u8], p: &[u8]) -> Option<&'a [u8]>
     ensures { left result ≡ without p.now w.now }
 {
-    w.strip_prefix(p)
+    if w.len() < p.len() {
+        return None;
+    }
+    if !starts(w, p) {
+        return None;
+    }
+    Some(&w[p.len()..])
 }
 
 // Past the word of a ld or st, which starts with `start`.

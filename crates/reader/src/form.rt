@@ -38,6 +38,7 @@ pub fn bare(s: &[u8], k: Cursor, t: Statement) -> Reading
 }
 
 // A name, in brackets or not, a number up to a limit, and the end. Most numbers are alone, which the end behind them tells: these are read once.
+#[inline(always)]
 pub fn name_number(s: &[u8], k: Cursor, bracketed: bool, limit: u64) -> Read<(Name, u64)>
     ensures read { pair_seen s.now limit result ≡ pair_c bracketed limit (seen s.now k) }
     ensures under { result.value.1 ≤ limit }

@@ -1,6 +1,7 @@
--- `opcode::past` meets its contract, which says what `strip_prefix` does in its own words. Assumes nothing.
-use Rattle.opcode.proofs.Laws.{stripped}
+-- `opcode::past` meets its contract: too short a text does not start with p. Assumes nothing.
+use Rattle.std.proofs.Common.{sym}
+use Rattle.opcode.proofs.Laws.{without_short}
 use Rattle.opcode.proofs.past.Goals as goal
 
-pub returns : goal.returns
-returns c = stripped c.args.p.now c.args.w.now c.strip_prefix.result c.strip_prefix.ensures.cases
+pub returns-then-w-p : goal.returns-then-w-p
+returns-then-w-p c = sym (without_short c.args.p.now c.args.w.now c.if-w-p.true)

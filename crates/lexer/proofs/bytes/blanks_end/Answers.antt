@@ -1,9 +1,8 @@
 -- `lexer::bytes::blanks_end` meets its contract. The loop's invariant: what is left of the run from here ends where the run from the start does. Assumes nothing.
 use mathlib.Core.Path.{refl}
 use native.Mathlib.Omega.{arith}
-use lib.ListN.{drop, length-drop}
 use Rattle.tokens.specs.Bytes.{blank}
-use Rattle.tokens.proofs.Runs.{run_le, run_step, run_stop, run_past}
+use Rattle.tokens.proofs.Runs.{run_step, run_stop, run_past}
 use Rattle.lexer.proofs.Laws.{blank_no, blank-is}
 use Rattle.lexer.proofs.bytes.blanks_end.Goals as goal
 
@@ -17,6 +16,4 @@ pub loop-i-preserved : goal.loop-i-preserved
 loop-i-preserved c = omega (arith, run_step blank c.args.s.now c.loop-i.i c.loop-i-test.true (blank-is _ c.if-s-i-ne32.false))
 
 pub returns : goal.returns
-returns c =
-    let a = c.args in
-    omega (arith, run_past blank a.s.now c.loop-i.i c.loop-i-test.false, run_le blank (drop a.at a.s.now), length-drop a.at a.s.now, c.max.ensures)
+returns c = omega (arith, run_past blank c.args.s.now c.loop-i.i c.loop-i-test.false)

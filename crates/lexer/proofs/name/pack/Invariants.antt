@@ -8,3 +8,6 @@ use Rattle.lexer.proofs.name.pack.Given as goal
 
 abbrev pub invariant-loop-i : goal.invariant-loop-i
 invariant-loop-i l = (l.at ≤ l.i) × (l.i ≤ l.at + l.room) × (l.value < 2 ^ (8 * (8 - l.room + (l.i - l.at)))) × (byte_digits l.value (take (words_len (l.at + l.room - l.i) (drop l.i l.s)) (drop l.i l.s)) ≡ byte_digits l.v (take (words_len l.room (drop l.at l.s)) (drop l.at l.s))) × (l.i + words_len (l.at + l.room - l.i) (drop l.i l.s) ≡ l.at + words_len l.room (drop l.at l.s))
+
+abbrev pub decreases-loop-i : goal.decreases-loop-i
+decreases-loop-i l = l.at + l.room - l.i
