@@ -20,7 +20,7 @@ pub struct Head {
     pub end: usize,
 }
 
-// Whether a text starts with p. No way out but the end, so it is vector code: by `strip_prefix`, which goes byte by byte, an opcode takes a third
+// Whether a text starts with p. No way out but the end, so it is vector code: by `strip_prefix`, which goes byte by byte, an opcode takes two fifths
 // more instructions.
 fn starts(w: &[u8], p: &[u8]) -> bool
     requires { length p.now ≤ length w.now }
