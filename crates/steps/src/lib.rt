@@ -60,7 +60,10 @@ fn mov(books: &mut Books, name: Name, value: Value) -> Result<Step, Reason>
     Ok(QUIET)
 }
 
+// The three bookings are never inlined: what one gives back would lie on the judge's stack all the time.
+
 // Columns are allocated, unless the name is bound to a value (6) or the ledger refuses.
+#[inline(never)]
 fn alloc(books: &mut Books, warp: u8, name: Name, columns: u32) -> Result<Step, Reason>
     ensures { (held : ℕ) → OpenDone held warp (Alloc name columns) books.old result books.new }
 {
@@ -77,6 +80,7 @@ fn alloc(books: &mut Books, warp: u8, name: Name, columns: u32) -> Result<Step, 
 }
 
 // An allocation is released, unless the ledger refuses, or a load or store is outstanding on it (18).
+#[inline(never)]
 fn release(books: &mut Books, warp: u8, name: Name, columns: u32) -> Result<Step, Reason>
     ensures { (held : ℕ) → OpenDone held warp (Dealloc name columns) books.old result books.new }
 {
@@ -93,6 +97,7 @@ fn release(books: &mut Books, warp: u8, name: Name, columns: u32) -> Result<Step
 }
 
 // No more allocs, unless the ledger refuses.
+#[inline(never)]
 fn relinquish(books: &mut Books, warp: u8) -> Result<Step, Reason>
     ensures { (held : ℕ) → OpenDone held warp Relinquish books.old result books.new }
 {
@@ -141,8 +146,7 @@ fn leave(books: &mut Books, held: u32) -> Result<Step, Reason>
 }
 
 // One statement of a warp, judged and booked; `held` is what the lines before it asked for less what they gave back. Of one
-// that is refused the books stay as they were. Never inlined: what a booking gives back would lie on the judge's stack all the time.
-#[inline(never)]
+// that is refused the books stay as they were.
 pub fn statement(books: &mut Books, held: u32, warp: u8, t: Statement) -> Result<Step, Reason>
     requires { warp < 4 }
     ensures { StatementDone held warp t books.old result books.new }
