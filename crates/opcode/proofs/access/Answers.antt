@@ -12,4 +12,4 @@ pub returns-in_err-w-3 : goal.returns-in_err-w-3
 returns-in_err-w-3 c = rw (c.from_residual-in_err-w-3.ensures, ← c.shape.ensures, ← c.num.ensures, without_some _ _ _ _ c.in_ok-w.ensures, without_some _ _ _ _ c.in_ok-w-2.ensures, without_none _ _ _ c.in_err-w-3.ensures)
 
 pub returns : goal.returns
-returns c = rw (← c.shape.ensures, ← c.num.ensures, without_some _ _ _ _ c.in_ok-w.ensures, without_some _ _ _ _ c.in_ok-w-2.ensures, without_some _ _ _ _ c.in_ok-w-3.ensures, c.past-4.ensures)
+returns c = rw (← c.shape.ensures, ← c.num.ensures, without_some _ _ _ _ c.in_ok-w.ensures, without_some _ _ _ _ c.in_ok-w-2.ensures, without_some _ _ _ _ c.in_ok-w-3.ensures, c.past_part-4.ensures)

@@ -13,4 +13,4 @@ returns-in_err-w-2 c = rw (c.from_residual-in_err-w-2.ensures, ← c.option.ensu
 
 pub returns : goal.returns
 unfolding word
-returns c = rw (← c.option.ensures, without_some _ _ _ _ c.in_ok-w.ensures, without_some _ _ _ _ c.in_ok-w-2.ensures, c.past-3.ensures)
+returns c = rw (← c.option.ensures, without_some _ _ _ _ c.in_ok-w.ensures, without_some _ _ _ _ c.in_ok-w-2.ensures, c.past_part-3.ensures)

@@ -21,4 +21,4 @@ returns-in_err-w-4 c = rw (c.from_residual-in_err-w-4.ensures, ← c.option.ensu
 
 pub returns : goal.returns
 unfolding word
-returns c = rw (← c.option.ensures, ← c.option-2.ensures, ← c.kind.ensures, without_some _ _ _ _ c.in_ok-w.ensures, without_some _ _ _ _ c.in_ok-w-2.ensures, without_some _ _ _ _ c.in_ok-w-3.ensures, without_some _ _ _ _ c.in_ok-w-4.ensures, c.past-5.ensures)
+returns c = rw (← c.option.ensures, ← c.option-2.ensures, ← c.kind.ensures, without_some _ _ _ _ c.in_ok-w.ensures, without_some _ _ _ _ c.in_ok-w-2.ensures, without_some _ _ _ _ c.in_ok-w-3.ensures, without_some _ _ _ _ c.in_ok-w-4.ensures, c.past_part-5.ensures)
