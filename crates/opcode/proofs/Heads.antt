@@ -1,6 +1,6 @@
 -- The head by the candidate is the head by the table. A text that starts with the word of its candidate, where no opcode byte follows, has that opcode
 -- at its head; any other has none, since an opcode at the head would be the candidate. Assumes nothing.
-use Rattle.std.proofs.Common.{◌≡◌, ℕ, suc, ◌-◌, ◌≤◌, List, [], ◌∷◌, ◌++◌, Bool, true, false, not, Option, Some, None, length, take, drop, length-append, refl, sym, ap, ◌∙◌, arith}
+use Rattle.std.proofs.Common.{◌≡◌, ℕ, suc, ◌-◌, ◌≤◌, List, [], ◌∷◌, ◌++◌, Bool, true, false, not, cond, Option, Some, None, length, take, drop, length-append, refl, sym, ap, ◌∙◌, arith}
 use lib.ListN.{take-append-drop}
 use lib.Seq.{take-append_seam, drop-append_seam, drop_at}
 use borrow.Author.Tests.{not-true}
@@ -13,7 +13,7 @@ use Rattle.statement.specs.Opcodes.{recognise}
 use Rattle.statement.specs.Reading.{opcode_len}
 use Rattle.opcode.specs.Pieces.{without}
 use Rattle.opcode.specs.Heads.{head_of}
-use Rattle.opcode.specs.Candidates.{candidate_in, stops}
+use Rattle.opcode.specs.Candidates.{candidate_in, stops, head_before, head_in}
 use Rattle.statement.proofs.Words.{recognised, recognises, clean}
 use Rattle.opcode.proofs.Words.{leads}
 use Rattle.opcode.proofs.Laws.{without_self, without_is}
@@ -49,7 +49,7 @@ module _ (s : List ℕ) where
       (rw same (ap (without (word o)) p ∙ without_self (word o) r), run_stops r (run_ends opcode_byte s))
 
   -- the candidate's word is not there
-  pub no_word : None ≡ without (word (candidate_in s)) s → record { found = None; rest = s } ≡ head_of s
+  no_word : None ≡ without (word (candidate_in s)) s → record { found = None; rest = s } ≡ head_of s
   no_word e = by (recognise (take (opcode_len s) s)) refl
     where
       by : (f : Option Opcode) → recognise (take (opcode_len s) s) ≡ f → record { found = None; rest = s } ≡ head_of s
@@ -63,8 +63,15 @@ module _ (s : List ℕ) where
     pub left_short : length r ≤ length s
     left_short = omega (arith, ap length text_is, length-append (word (candidate_in s)) r)
 
+    -- the text from where its word ends
+    pub left_is : drop (length s - length r) s ≡ r
+    left_is =
+        let w = word (candidate_in s) in
+        let n : length w ≡ length s - length r = omega (arith, ap length text_is, length-append w r) in
+        ap (drop (length s - length r)) text_is ∙ drop_at w r (length s - length r) n
+
     -- an opcode byte follows it
-    pub more_follows : stops r ≡ false → record { found = None; rest = s } ≡ head_of s
+    more_follows : stops r ≡ false → record { found = None; rest = s } ≡ head_of s
     more_follows h = by (recognise (take (opcode_len s) s)) refl
       where
         by : (f : Option Opcode) → recognise (take (opcode_len s) s) ≡ f → record { found = None; rest = s } ≡ head_of s
@@ -75,9 +82,31 @@ module _ (s : List ℕ) where
             never (sym h ∙ ap stops (search same) ∙ k.1)
 
     -- none follows it
-    pub head_at : stops r ≡ true → record { found = Some (candidate_in s); rest = drop (length s - length r) s } ≡ head_of s
-    head_at h =
-        let w = word (candidate_in s) in
-        let n : length w ≡ length s - length r = omega (arith, ap length text_is, length-append w r) in
-        let d : drop (length s - length r) s ≡ r = ap (drop (length s - length r)) text_is ∙ drop_at w r (length s - length r) n in
-        rw d (head_word (candidate_in s) r h ∙ ap head_of (sym text_is))
+    head_at : stops r ≡ true → record { found = Some (candidate_in s); rest = r } ≡ head_of s
+    head_at h = head_word (candidate_in s) r h ∙ ap head_of (sym text_is)
+
+    -- the word is there
+    word_there : head_before s (Some r) ≡ head_of s
+    word_there = by (stops r) refl
+      where
+        by : (b : Bool) → stops r ≡ b → cond b (record { found = Some (candidate_in s); rest = r }) (record { found = None; rest = s }) ≡ head_of s
+        by true h = head_at h
+        by false h = more_follows h
+
+  -- the head by the candidate is the head by the table
+  pub candidate_head : head_in s ≡ head_of s
+  unfolding head_in
+  candidate_head = by (without (word (candidate_in s)) s) refl
+    where
+      by : (f : Option (List ℕ)) → f ≡ without (word (candidate_in s)) s → head_before s f ≡ head_of s
+      by None e = no_word e
+      by (Some r) e = word_there r e
+
+  -- what a function finds of the candidate's word, and whether the opcode bytes stop after it, tells the head
+  pub told : (f : Option (List ℕ)) → f ≡ without (word (candidate_in s)) s → head_before s f ≡ head_of s
+  unfolding head_in
+  told f e = ap (head_before s) e ∙ candidate_head
+
+  pub told_by : (r : List ℕ) → Some r ≡ without (word (candidate_in s)) s → (b : Bool) → stops r ≡ b
+      → cond b (record { found = Some (candidate_in s); rest = r }) (record { found = None; rest = s }) ≡ head_of s
+  told_by r e b h = rw h at (told (Some r) e)

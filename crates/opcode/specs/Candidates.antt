@@ -1,6 +1,6 @@
 -- How the head of a text is found: a few bytes, at places counted from the start, tell the one opcode that it can be, and the text is compared with that
--- one's word. It is the head by the table (`no_word`, `more_follows` and `head_at`, in proofs/Heads). Assumes nothing.
-use Rattle.std.specs.Prelude.{ℕ, ◌+◌, List, [], ◌∷◌, Bool, true, false, not, cond, get_or, eqb}
+-- one's word. It is the head by the table (`candidate_head`, in proofs/Heads). Assumes nothing.
+use Rattle.std.specs.Prelude.{ℕ, ◌+◌, List, [], ◌∷◌, Bool, true, false, not, cond, get_or, eqb, Option, Some, None}
 use Rattle.instruction.specs.declared.Kind.{Kind}
 use Rattle.instruction.specs.declared.Kind.TheVariants.{F16, Tf32, F8f6f4, I8}
 use Rattle.tokens.specs.Bytes.{opcode_byte}
@@ -11,6 +11,9 @@ use Rattle.statement.specs.declared.Num.{Num}
 use Rattle.statement.specs.declared.Num.TheVariants.{X1, X2, X4, X8, X16, X32, X64, X128}
 use Rattle.statement.specs.declared.Opcode.{Opcode}
 use Rattle.statement.specs.declared.Opcode.TheVariants.{Mov32, Mov64, Alloc, Dealloc, Relinquish, Load, Store, WaitLoad, WaitStore, FenceBefore, FenceAfter, Multiply, Exit}
+use Rattle.statement.specs.Forms.{word}
+use Rattle.opcode.specs.Pieces.{without}
+use Rattle.opcode.specs.Heads.{Parted}
 
 -- ---- the candidate
 -- the byte at a place is this one
@@ -96,3 +99,12 @@ candidate_in s = cond (is_at s 0 (byte "m")) (mov_in s) (cond (is_at s 0 (byte "
 abbrev pub stops : List ℕ → Bool
 stops [] = true
 stops (x ∷ l) = not (opcode_byte x)
+
+-- the candidate, where the text starts with its word and the opcode bytes stop there
+abbrev pub head_before : List ℕ → Option (List ℕ) → Parted
+head_before s (Some r) = cond (stops r) (record { found = Some (candidate_in s); rest = r }) (record { found = None; rest = s })
+head_before s None = record { found = None; rest = s }
+
+-- the head of a text, by what follows its candidate's word
+unfoldable pub head_in : List ℕ → Parted
+head_in s = head_before s (without (word (candidate_in s)) s)
