@@ -7,7 +7,7 @@ pub mod operand;
 ghost use Rattle.std.specs.Prelude.{◌≡◌, length};
 ghost use Rattle.std.proofs.lemmas.List.Edits.{sets};
 ghost use Rattle.tokens.specs.Cursors.{seen};
-ghost use Rattle.statement.specs.Reading.{read_of, registers_of, operands_c, told};
+ghost use Rattle.statement.specs.Reading.{read_of, reason_of, registers_of, operands_c, told};
 ghost use Rattle.reader.specs.Lists.{list_c};
 
 use statement::{MAX32, MAX64, Misread, Opcode, Reading, Statement};
@@ -102,4 +102,14 @@ pub fn registers(s: &[u8], names: &mut [Name; 128]) -> usize
         return 0;
     };
     list_of(s, k, head.opcode, names)
+}
+
+// The number of an answer.
+pub fn reason(t: Reading) -> u32
+    ensures { result ≡ reason_of t }
+{
+    match t {
+        Ok(_) => 0,
+        Err(misread) => misread.reason().number(),
+    }
 }
