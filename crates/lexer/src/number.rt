@@ -1,5 +1,5 @@
 // Numbers of any length, in four bases, read in one pass.
-ghost use Rattle.std.specs.Prelude.{◌≡◌, ◌+◌, ◌<◌, [], ◌∷◌, ◌&&◌, ◌||◌, length, drop, ltb, leb, eqb};
+ghost use Rattle.std.specs.Prelude.{◌≡◌, ◌+◌, ◌*◌, ◌^◌, ◌<◌, [], ◌∷◌, length, drop, ltb};
 ghost use Rattle.std.specs.List.{prefix_len};
 ghost use Rattle.tokens.specs.Bytes.{token_of};
 ghost use Rattle.tokens.specs.Numbers.{begins, digits_len, worth, fit, numeral_of};
@@ -72,9 +72,9 @@ pub struct Digits {
     pub end: usize,
 }
 
-// Whether v with one digit more is at most 2^64-1.
+// Whether v with one digit more, in the base of a row, is below 2^64.
 fn has_room(row: Row, v: u64, d: u64) -> bool
-    ensures { result ≡ (ltb v row.most || eqb v row.most && leb d row.last) }
+    ensures { (b : Base) → row ≡ row_for_base b → d < (notation_of b).base → result ≡ ltb (v * (notation_of b).base + d) (2 ^ 64) }
 {
     if v < row.most {
         return true;

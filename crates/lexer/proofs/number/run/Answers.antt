@@ -4,7 +4,7 @@ use borrow.Author.Tests.{ltb-true, ltb-false}
 use Rattle.tokens.specs.Numbers.{digit_of, among}
 use Rattle.tokens.proofs.Runs.{run_le, run_step, run_stop}
 use Rattle.lexer.specs.Runs.{notation_of}
-use Rattle.lexer.proofs.Numbers.{row_base, no_digit, is_digit, room_row, count_digits, digit_no, digit_is, fit_small, fit_over, after_0, after_step, after_stop, after-past, after-over}
+use Rattle.lexer.proofs.Numbers.{row_base, no_digit, is_digit, count_digits, digit_no, digit_is, fit_small, fit_over, after_0, after_step, after_stop, after-past, after-over}
 use Rattle.lexer.proofs.number.run.Goals as goal
 
 pub loop-i-init : goal.loop-i-init
@@ -37,7 +37,7 @@ returns-then-not-has_room-clause-value c =
     let q = is_digit a.b _ c.row-row.ensures _ _ c.digit_of-digit.ensures c.if-base-digit.false in
     let d = c.from-d.ensures ∙ c.digit_of-digit.ensures in
     let o : 2 ^ 64 ≤ l.v * (notation_of a.b).base + digit_of (get_or a.s.now l.i 0) =
-    ltb-false _ _ (rw d at (sym (room_row a.b _ c.row-row.ensures l.v c.from-d.result (rw d q)) ∙ sym c.has_room.ensures ∙ c.if-not-has_room.true)) in
+    ltb-false _ _ (rw d at (sym (c.has_room.ensures a.b c.row-row.ensures (rw d q)) ∙ c.if-not-has_room.true)) in
     fit_over _ (rw (← l.invariant.1) (after-over a.b a.s.now l.v l.i c.loop-i-test.true q o))
 
 pub returns-then-not-has_room-clause-end : goal.returns-then-not-has_room-clause-end
@@ -54,7 +54,7 @@ loop-i-preserved c =
     let q = is_digit a.b _ c.row-row.ensures _ _ c.digit_of-digit.ensures c.if-base-digit.false in
     let d = c.from-d.ensures ∙ c.digit_of-digit.ensures in
     let r : l.v * (notation_of a.b).base + digit_of (get_or a.s.now l.i 0) < 2 ^ 64 =
-    ltb-true _ _ (rw d at (sym (room_row a.b _ c.row-row.ensures l.v c.from-d.result (rw d q)) ∙ sym c.has_room.ensures ∙ c.if-not-has_room.false)) in
+    ltb-true _ _ (rw d at (sym (c.has_room.ensures a.b c.row-row.ensures (rw d q)) ∙ c.if-not-has_room.false)) in
     let t = c.from-times.ensures ∙ ap (λ r. r.base) c.row-row.ensures ∙ row_base a.b in
     rw (t, d) (
       r,
