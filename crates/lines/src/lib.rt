@@ -198,9 +198,12 @@ impl<'a> LineReader<'a> {
     }
 }
 
-// The line that starts at a place.
+// The line that starts at a place, and where the reader stands after it.
 pub fn line_at(sheet: &[u8], at: usize) -> Option<Line>
     ensures { result ≡ line_at sheet.now at }
 {
-    LineReader::new(sheet, at).line()
+    let reader = LineReader::new(sheet, at);
+    let line = reader.line()?;
+    let next = reader.advance(line.next).at;
+    Some(Line { next, ..line })
 }
