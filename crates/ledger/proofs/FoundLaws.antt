@@ -22,7 +22,7 @@ use Rattle.ledger.specs.declared.Ledger.{Ledger}
 use Rattle.ledger.specs.declared.Span.{Span}
 use Rattle.ledger.specs.Slots.{slot_i, is_of}
 use Rattle.ledger.specs.Booking.{slot, span_at, found, columns_in}
-use Rattle.ledger.specs.Shows.{allocation, slot_at, Live, name_of, HoldsIn, FindsIn}
+use Rattle.ledger.specs.Shows.{allocation, slot_at, Live, size_of, name_of, HoldsIn, FindsIn}
 use Rattle.ledger.proofs.AllocationLaws.{among_live, live_among, columns_of_lem, columns-none, unique_same}
 
 -- ---- one slot
@@ -126,26 +126,34 @@ module _ (l : Ledger) (live : List Allocation) (m : Live l live) where
       at (Some s) z = let a = found_among n s z in ap (λ (x : Span). x.columns) a.3 ∙ sym (columns_of_lem a.0 live n m.unique a.1 a.2)
       at None z = sym (columns-none live n (sym (found_live n) ∙ ap is_some z))
 
+  found_held : (n : Name) (s : Span) → found l n ≡ Some s → 0 < s.columns
+  found_held n s e = let a = found_among n s e in subst (λ (x : Span). 0 < x.columns) (sym a.3) (m.down a.0 a.1).3
+
   found_own : (n : Name) (s : Span) → found l n ≡ Some s → (s.start / 32 < 16) × HoldsIn l (s.start / 32) n
   found_own n s e =
       let p = found_parts l n s e in
       let i : s.start / 32 ≡ p.0 = omega (arith, ap (λ (x : Span). x.start) p.2.2) in
       let o = slot_own n p.0 p.1 in
-      let z : slot_at l p.0 ≡ Some (allocation p.0 o.1.0) = ap (option_map (allocation p.0)) o.1.1 in
-      (omega (arith, o.0), subst (λ j. HoldsIn l j n) (sym i) (record { taken = ap is_some z; name = ap name_of z ∙ o.1.2 }))
+      let z : slot_at l p.0 ≡ Some (allocation p.0 o.1.0) = ap (option_map (allocation p.0)) o.1.1 in (
+        omega (arith, o.0),
+        subst (λ j. HoldsIn l j n) (sym i) (record {
+          taken = subst (λ x. 0 < size_of x) (sym z) (m.down (allocation p.0 o.1.0) o.1.3).3;
+          name = ap name_of z ∙ o.1.2;
+        }),
+      )
 
   found_sole : (n : Name) (i : ℕ) → i < 16 → HoldsIn l i n → (s : Span) × (found l n ≡ Some s) × (i ≡ s.start / 32)
   found_sole n i b o = at (slot_at l i) refl o.taken o.name
     where
-      at : (x : Option Allocation) → slot_at l i ≡ x → is_some x ≡ true → name_of x ≡ n → (s : Span) × (found l n ≡ Some s) × (i ≡ s.start / 32)
+      at : (x : Option Allocation) → slot_at l i ≡ x → 0 < size_of x → name_of x ≡ n → (s : Span) × (found l n ≡ Some s) × (i ≡ s.start / 32)
       at (Some a) z e f =
           let h = held (slot_i l.slots i) i a z in (
             record { start = a.start; columns = a.columns },
             subst (λ k. found l k ≡ Some (record { start = a.start; columns = a.columns })) f (found_some a (m.up i a b z)),
             omega (arith, ap (λ (y : Allocation). y.start) h.2),
           )
-      at None z e f = absurd (clash e refl)
+      at None z e f = absurd (omega (arith, e))
 
   -- THE CLAIM
   pub finds_in : FindsIn l live
-  finds_in = record { live = found_live; size = found_size; own = found_own; sole = found_sole }
+  finds_in = record { live = found_live; size = found_size; held = found_held; own = found_own; sole = found_sole }

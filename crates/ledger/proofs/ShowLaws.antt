@@ -11,10 +11,8 @@ use lib.ListN.{set}
 use lib.Dec.{ltb, eqb}
 use borrow.Author.Tests.{ltb-true, lt-ltb, eqb-true, not-true}
 use Rattle.std.specs.Prelude.{Option, Some, None, option_map}
-use Rattle.std.specs.Option as code
 use Rattle.laws.specs.Rules.{first_broken}
 use Rattle.laws.specs.Tests.{is_some}
-use Rattle.laws.proofs.BoolLaws.{clash}
 use Rattle.request.specs.Request.{legal}
 use Rattle.tokens.specs.declared.Name.{Name}
 use Rattle.statement.specs.declared.Statement.TheVariants.{Alloc, Dealloc, Relinquish}
@@ -29,7 +27,7 @@ use Rattle.ledger.specs.declared.Holding.{Holding}
 use Rattle.ledger.specs.declared.Ledger.{Ledger}
 use Rattle.ledger.specs.Slots.{slot_i, fits_at, place_of}
 use Rattle.ledger.specs.Booking.{Booking, empty, slot, place, is_live, is_own, may_book, columns_of, alloc_rules, release_rules, relinquish_rules, with_allocation, without_allocation, after_relinquish, booked, alloc_of, release_of, relinquish_of}
-use Rattle.ledger.specs.Shows.{allocation, slot_at, Live, fixed_warp, Shows, or_busy, Taken, name_of, name_at, Stays, Tells}
+use Rattle.ledger.specs.Shows.{allocation, slot_at, Live, fixed_warp, Shows, or_busy, size_of, Taken, name_of, name_at, Stays, Tells}
 use Rattle.ledger.proofs.BookingLaws.{legal_range}
 use Rattle.ledger.proofs.FoundLaws.{slot_own, slot_some, found_live, found_size}
 use Rattle.ledger.proofs.SlotLaws.{place-slot, place-empty, slot_other, live_none, live_alloc, live_release}
@@ -220,7 +218,7 @@ module _ (l : Ledger) (s : State) (h : Shows l s) where
       subst (λ (b : Booking). Stays l b.next i)
       (sym (booked-next l (with_allocation l (place l k) n w k) (first_broken (alloc_rules l n w k)) (place l k * 32) a.4))
       (stays_other (Some (record { name = n; columns = k })) (place l k) i
-      (λ q. clash t (ap (λ (o : Option Holding). code.is_some (option_map (allocation i) o)) (subst (λ j. slot_i l.slots j ≡ None) (sym q) z))))
+      (λ q. absurd (omega (arith, t, ap (λ (o : Option Holding). size_of (option_map (allocation i) o)) (subst (λ j. slot_i l.slots j ≡ None) (sym q) z)))))
 
   release_stays : (n : Name) (w k i : ℕ) → (release_of l n w k).reason ≡ 0 → (name_at l i ≡ n → ⊥) → Stays l (release_of l n w k).next i
   unfolding release_of

@@ -49,9 +49,14 @@ pub record Shows (l : Ledger) (s : State) : Type 0 where
   pub relinquished : l.relinquished ≡ s.relinquished
 
 -- ---- the claims
--- slot i has an allocation; and its name, if it has
+-- the columns of what a slot has, 0 for nothing
+abbrev pub size_of : Option Allocation → ℕ
+size_of (Some a) = a.columns
+size_of None = 0
+
+-- slot i has an allocation, its columns not 0; and its name, if it has
 abbrev pub Taken : Ledger → ℕ → Type 0
-Taken l i = is_some (slot_at l i) ≡ true
+Taken l i = 0 < size_of (slot_at l i)
 
 abbrev pub name_of : Option Allocation → Name
 name_of (Some a) = a.name
@@ -69,6 +74,8 @@ pub record HoldsIn (l : Ledger) (i : ℕ) (n : Name) : Type 0 where
 pub record FindsIn (l : Ledger) (all : List Allocation) : Type 0 where
   pub live : (n : Name) → is_some (found l n) ≡ rules.is_live n all
   pub size : (n : Name) → columns_in (found l n) ≡ rules.columns_of n all
+  -- at least one
+  pub held : (n : Name) (s : Span) → found l n ≡ Some s → 0 < s.columns
   -- where it starts is the one slot that has the name
   pub own : (n : Name) (s : Span) → found l n ≡ Some s → (s.start / 32 < 16) × HoldsIn l (s.start / 32) n
   pub sole : (n : Name) (i : ℕ) → i < 16 → HoldsIn l i n → (s : Span) × (found l n ≡ Some s) × (i ≡ s.start / 32)

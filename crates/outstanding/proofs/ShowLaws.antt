@@ -21,7 +21,7 @@ use Rattle.std.proofs.lemmas.Option.{same_Some}
 use Rattle.ledger.specs.declared.Ledger.{Ledger}
 use Rattle.ledger.specs.declared.Span.{Span}
 use Rattle.ledger.specs.Booking.{found}
-use Rattle.ledger.specs.Shows.{Live, FindsIn, Taken, HoldsIn, name_of, name_at, Stays}
+use Rattle.ledger.specs.Shows.{Live, FindsIn, size_of, Taken, HoldsIn, name_of, name_at, Stays}
 use Rattle.ledger.proofs.FoundLaws.{finds_in}
 use Rattle.outstanding.specs.declared.Outstanding.{Outstanding}
 use Rattle.outstanding.specs.Words.{word_of, bit_at, marked, none, begun, waited, slots_of, busy_on, busy_at}
@@ -197,17 +197,20 @@ module _ (o : Outstanding) (l : Ledger) (marks : List Mark) (h : ShowsIn o l mar
   stays : (next : Ledger) → ((i : ℕ) → i < 16 → Taken l i → is_busy (name_at l i) marks ≡ true → Stays l next i) → ShowsIn o next marks
   stays next f = record { size = h.size; down = down; up = up }
     where
+      taken_still : (i : ℕ) → Stays l next i → Taken l i → Taken next i
+      taken_still i e t = subst (λ a. 0 < size_of a) (sym e) t
+
       down : (m : Mark) → Among m marks → (m.warp < 4) × ((i : ℕ) × (i < 16) × HoldsIn next i m.name × (marked o m.transfer m.warp i ≡ true))
       down m a =
           let d = h.down m a in
           let e = f d.1.0 d.1.1 d.1.2.taken (among_busy m marks (name_at l d.1.0) a (sym d.1.2.name)) in
-          (d.0, (d.1.0, d.1.1, record { taken = ap is_some e ∙ d.1.2.taken; name = ap name_of e ∙ d.1.2.name }, d.1.3))
+          (d.0, (d.1.0, d.1.1, record { taken = taken_still d.1.0 e d.1.2.taken; name = ap name_of e ∙ d.1.2.name }, d.1.3))
 
       up : (x : Transfer) (w i : ℕ) → w < 4 → i < 16 → marked o x w i ≡ true → Taken next i × Among (mark_at next x w i) marks
       up x w i p q e =
           let u = h.up x w i p q e in
           let b = f i q u.0 (among_busy _ marks (name_at l i) u.1 refl) in
-          (ap is_some b ∙ u.0, subst (λ (n : Name). Among (record { name = n; warp = w; transfer = x }) marks) (sym (ap name_of b)) u.1)
+          (taken_still i b u.0, subst (λ (n : Name). Among (record { name = n; warp = w; transfer = x }) marks) (sym (ap name_of b)) u.1)
 
   -- THE CLAIM
   pub tells_in : TellsIn o l marks
