@@ -1,5 +1,5 @@
 -- The words in which the judge keeps what is outstanding: what each of its functions answers. Assumes nothing.
-use Rattle.std.specs.Prelude.{ℕ, ◌+◌, ◌/◌, ◌%◌, ◌^◌, Bool, false, eqb, fold, get_or, set, replicate, Option, Some, None}
+use Rattle.std.specs.Prelude.{ℕ, ◌+◌, ◌/◌, ◌%◌, ◌^◌, Bool, eqb, fold, get_or, set, replicate, Option, Some, None}
 use Rattle.std.specs.Int.Bits.{bit_or}
 use Rattle.tokens.specs.declared.Name.{Name}
 use Rattle.statement.specs.declared.Transfer.{Transfer}
@@ -38,10 +38,10 @@ waited o x w = record { words = set o.words (word_of x w) 0 }
 unfoldable pub slots_of : Outstanding → ℕ
 slots_of o = fold bit_or 0 o.words
 
--- anything is outstanding on the allocation that is found, if one is; and on that which a ledger finds of a name
+-- anything is outstanding on the allocation that is found of a name, which is to be live (of another name slot 0 is looked at)
 abbrev pub busy_at : Outstanding → Option Span → Bool
 busy_at o (Some span) = bit_at (slots_of o) (span.start / 32)
-busy_at o None = false
+busy_at o None = bit_at (slots_of o) 0
 
 abbrev pub busy_on : Outstanding → Ledger → Name → Bool
 busy_on o l n = busy_at o (found l n)

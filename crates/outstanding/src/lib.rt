@@ -80,14 +80,11 @@ impl Outstanding {
         self.words.iter().fold(0, |all, word| all | word)
     }
 
-    // Whether anything is outstanding on the allocation of a name. It is not looked for where nothing is outstanding at all.
+    // Whether anything is outstanding on the allocation of a live name. It is not looked for where nothing is outstanding at all.
     pub fn is_busy(&self, ledger: &Ledger, name: Name) -> bool
         ensures { result ≡ busy_on self.now ledger.now name }
     {
         let slots = self.slots();
-        slots != 0
-            && ledger
-                .find(name)
-                .is_some_and(|span| has_slot(slots, span.start / 32))
+        slots != 0 && has_slot(slots, ledger.find(name).map_or(0, |span| span.start / 32))
     }
 }
