@@ -16,6 +16,9 @@ use statement::{Access, Mma, Num, Shape};
 use tokens::Name;
 
 // An opcode's word, a name and a number up to a limit, with the bytes between these two.
+// Inlined, as the word of a ld or st is: the bytes that come in are constants then, and are copied by C's memcpy, not by memmove, which
+// nothing else in the library needs.
+#[inline(always)]
 pub fn name_number(t: &mut Text, start: &[u8], n: Name, between: &[u8], v: u64, limit: u64)
     ensures { t.new ≡ add_c (start.now ++ (name_bytes n ++ (between.now ++ (decimal v ++ bytes ";")))) (name_given n && (leb v limit && true)) t.old }
 {
@@ -27,6 +30,7 @@ pub fn name_number(t: &mut Text, start: &[u8], n: Name, between: &[u8], v: u64, 
 }
 
 // The word of a ld or st, which starts with `start`, and a space.
+#[inline(always)]
 fn access_word(t: &mut Text, start: &[u8], shape: Shape, num: Num)
     ensures { t.new ≡ add_c ((start.now ++ (shape_text shape ++ (num_text num ++ bytes ".b32"))) ++ bytes " ") true t.old }
 {
