@@ -1,6 +1,6 @@
 -- What each arm of a statement gives, from any state that is kept: the claims of the ledger, of the table of value names and of what is outstanding give
 -- reasons and next states, and a refusal changes nothing. Assumes nothing.
-use Rattle.std.proofs.Common.{◌≡◌, ℕ, ◌+◌, ◌*◌, ◌/◌, ◌<◌, Bool, true, false, not, ◌&&◌, cond, eqb, List, [], ◌∷◌, Option, Some, None, Result, Ok, Err, refl, sym, ap, ◌∙◌, subst, arith}
+use Rattle.std.proofs.Common.{◌≡◌, ℕ, ◌/◌, ◌<◌, Bool, true, false, cond, eqb, List, [], ◌∷◌, Some, None, Result, Ok, Err, refl, sym, ap, ◌∙◌, subst}
 use Rattle.std.specs.Prelude.{is_some}
 use types.Run.{OneOf}
 use denote.Enum.Declared.{tag_of}
@@ -21,20 +21,18 @@ use Rattle.statement.specs.Views as act
 use Rattle.statement.specs.Views.{act_of, nothing}
 use Rattle.statement.specs.contracts.Statement.{enum, the_type}
 use Rattle.statement.proofs.Variants.{at_each}
-use Rattle.rules.specs.State.{State, Binding, Mark, lowest, opened, is_live, is_busy, after_wait}
+use Rattle.rules.specs.State.{State, Binding, Mark, lowest, opened, is_live, is_busy}
 use Rattle.rules.specs.Rows.{rules_of}
 use Rattle.rules.specs.Reasons.{open_rows, open_rules, closed_rows, closed_rules, rows, rules}
 use Rattle.rules.proofs.ByAct.{mov_rules, first_broken_lem}
 use Rattle.rules.specs.Sheet.{statement, effect, given, requested, released, moved, marked}
 use Rattle.ledger.specs.declared.Ledger.{Ledger}
 use Rattle.ledger.specs.declared.Booked.{Booked}
-use Rattle.ledger.specs.declared.Span.{Span}
-use Rattle.ledger.specs.Booking.{Booking, booking, started, found, alloc_of, release_of, relinquish_of}
+use Rattle.ledger.specs.Booking.{Booking, booking, unchanged, started, found, alloc_rules, release_rules, relinquish_rules, alloc_of, release_of, relinquish_of}
 use Rattle.ledger.specs.Shows as ledger
 use Rattle.ledger.specs.Shows.{Taken, name_at, Stays}
 use Rattle.ledger.proofs.FoundLaws.{finds_in}
 use Rattle.ledger.proofs.ShowLaws as ledger-laws
-use Rattle.bindings.specs.declared.Bindings.{Bindings}
 use Rattle.bindings.specs.declared.Value.{Value}
 use Rattle.bindings.specs.declared.Value.TheVariants.{B32, B64}
 use Rattle.bindings.specs.Table.{bind_answer, after_bind, width, number as number_of_value}
@@ -48,7 +46,7 @@ use Rattle.outstanding.proofs.ShowLaws as outstanding-laws
 use Rattle.checks.specs.Checks.{AccessJudged, StartsAt, MmaJudged}
 use Rattle.steps.specs.declared.Books.{Books}
 use Rattle.steps.specs.declared.Step.{Step}
-use Rattle.steps.specs.Steps.{opening, Kept, Made, Gives, StatementDone, OpenDone, quiet, mov_by, access_by, wait_by}
+use Rattle.steps.specs.Steps.{opening, Kept, Made, Gives, StatementDone, OpenDone, quiet, mov_by, access_by, wait_by, with_ledger, with_values, with_outstanding, after_alloc, after_release, after_relinquish}
 
 -- nothing is kept where nothing was said
 pub opening_kept : Kept opening opened
@@ -117,9 +115,6 @@ module _ (b : Books) (s : State) (k : Kept b s) where
   mark_tells = outstanding-laws.tells_in b.outstanding b.ledger s.outstanding k.marks
 
 -- ---- bookings
-abbrev with_ledger : Books → Ledger → Books
-with_ledger b l = record { ledger = l; values = b.values; outstanding = b.outstanding; exited = b.exited }
-
 -- the books with the next ledger, of a line that leaves the values and the exit as they were
 next_kept : (b : Books) (s : State) → Kept b s → (l : Ledger) (next : State) → ledger.Shows l next → next.values ≡ s.values → next.exited ≡ s.exited
     → ShowsIn b.outstanding l next.outstanding → Kept (with_ledger b l) next
@@ -148,6 +143,32 @@ module _ (booked : Booked) (made : Booking) (p : booking booked ≡ made) where
 
   next_as : booked.next ≡ made.next
   next_as = ap (λ (x : Booking). x.next) p
+
+-- a booking that is refused leaves the ledger as it was, and so the books
+module _ (l next : Ledger) (reason start : ℕ) (r : Reason) where
+  abbrev chosen : Bool → Booking
+  chosen made = cond made (record { next = next; reason = 0; start = start }) (unchanged l reason)
+
+  unbooked : (made : Bool) → number r ≡ (chosen made).reason → (chosen made).next ≡ l
+  unbooked true e = absurd (clash (ap (λ n. eqb n 0) e) (nonzero r))
+  unbooked false e = refl
+
+either : (kept : Bool) (l next : Ledger) → next ≡ l → l ≡ cond kept l next
+either true l next e = refl
+either false l next e = sym e
+
+module _ (b : Books) (booked : Booked) (r : Reason) (q : booked.start ≡ Err r) where
+  pub alloc_stays : (n : Name) (w x : ℕ) → booking booked ≡ alloc_of b.ledger n w x → b ≡ after_alloc b w n x
+  unfolding alloc_of
+  alloc_stays n w x p = ap (with_ledger b) (either (is_some (table.found b.values n)) _ _ (unbooked _ _ _ _ r (eqb (first_broken (alloc_rules b.ledger n w x)) 0) (refused_as booked _ p r q)))
+
+  pub release_stays : (n : Name) (w x : ℕ) → booking booked ≡ release_of b.ledger n w x → b ≡ after_release b w n x
+  unfolding release_of
+  release_stays n w x p = ap (with_ledger b) (either (busy_on b.outstanding b.ledger n) _ _ (unbooked _ _ _ _ r (eqb (first_broken (release_rules b.ledger n w x)) 0) (refused_as booked _ p r q)))
+
+  pub relinquish_stays : (w : ℕ) → booking booked ≡ relinquish_of b.ledger w → b ≡ after_relinquish b w
+  unfolding relinquish_of
+  relinquish_stays w p = ap (with_ledger b) (sym (unbooked _ _ _ _ r (eqb (first_broken (relinquish_rules b.ledger w)) 0) (refused_as booked _ p r q)))
 
 module _ (held w : ℕ) (b : Books) (n : Name) (x : ℕ) where
   -- ---- alloc
@@ -231,9 +252,6 @@ module _ (held w : ℕ) (b : Books) (booked : Booked) (p : booking booked ≡ re
       )
 
 -- ---- loads, stores and their waits
-abbrev with_outstanding : Books → Outstanding → Books
-with_outstanding b o = record { ledger = b.ledger; values = b.values; outstanding = o; exited = b.exited }
-
 module _ (held w : ℕ) (b : Books) (x : Transfer) where
   marked_kept : (s : State) → Kept b s → (o : Outstanding) (l : List Mark) → ShowsIn o b.ledger l → Kept (with_outstanding b o) (marked s l)
   marked_kept s k o l m = record {
@@ -276,9 +294,6 @@ module _ (held w : ℕ) (b : Books) (x : Transfer) where
         rw (access_act x a) (e, made_quiet _ _ (marked_kept s k _ _ (rw f.2 m)))
 
 -- ---- mov
-abbrev with_values : Books → Bindings → Books
-with_values b t = record { ledger = b.ledger; values = t; outstanding = b.outstanding; exited = b.exited }
-
 module _ (held w : ℕ) (b : Books) (n : Name) where
   -- what either gives, by the rules of a mov at either width
   mov_open : (v : Value) (r : Result Step Reason) (after : Books)

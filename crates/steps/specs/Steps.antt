@@ -1,7 +1,8 @@
 -- What the judge keeps from line to line, beside a state of the rules; and what one statement gives. Assumes nothing.
-use Rattle.std.specs.Prelude.{ℕ, ◌≡◌, false, List, [], ◌∷◌, replicate, Option, Some, None, Result, Ok, Err}
+use Rattle.std.specs.Prelude.{ℕ, ◌≡◌, ◌/◌, Bool, true, false, cond, eqb, List, [], ◌∷◌, Option, Some, None, is_some, Result, Ok, Err}
 use Rattle.laws.specs.Rules.{Rule, first_broken}
 use Rattle.reasons.specs.declared.Reason.{Reason}
+use Rattle.reasons.specs.declared.Reason.TheVariants as reason
 use Rattle.reasons.specs.Reasons.{number}
 use Rattle.tokens.specs.declared.Name.{Name}
 use Rattle.statement.specs.declared.Transfer.{Transfer}
@@ -12,12 +13,15 @@ use Rattle.statement.specs.declared.Statement.TheVariants.{Mov32, Mov64, Load, S
 use Rattle.rules.specs.State.{State, lowest}
 use Rattle.rules.specs.Reasons.{open_rules, rules}
 use Rattle.rules.specs.Sheet.{Line, statement, given, requested, released, line_rules, line_effect}
+use Rattle.ledger.specs.declared.Ledger.{Ledger}
 use Rattle.ledger.specs.declared.Span.{Span}
 use Rattle.ledger.specs.Booking as ledger
 use Rattle.ledger.specs.Shows.{warp_of}
+use Rattle.bindings.specs.declared.Bindings.{Bindings}
 use Rattle.bindings.specs.declared.Value.{Value}
 use Rattle.bindings.specs.declared.Value.TheVariants.{B32, B64}
 use Rattle.bindings.specs.Table as bindings
+use Rattle.outstanding.specs.declared.Outstanding.{Outstanding}
 use Rattle.outstanding.specs.Words as outstanding
 use Rattle.outstanding.specs.Shows.{ShowsIn}
 use Rattle.checks.specs.Tables.{Tables}
@@ -91,3 +95,54 @@ access_by transfer.Store a = Store a
 abbrev pub wait_by : Transfer → Statement
 wait_by transfer.Load = WaitLoad
 wait_by transfer.Store = WaitStore
+
+-- ---- the books after each part, whether or not a state has them
+-- the books with another ledger
+abbrev pub with_ledger : Books → Ledger → Books
+with_ledger b l = record { ledger = l; values = b.values; outstanding = b.outstanding; exited = b.exited }
+
+-- with another table of values
+abbrev pub with_values : Books → Bindings → Books
+with_values b t = record { ledger = b.ledger; values = t; outstanding = b.outstanding; exited = b.exited }
+
+-- with other words of what is outstanding
+abbrev pub with_outstanding : Books → Outstanding → Books
+with_outstanding b o = record { ledger = b.ledger; values = b.values; outstanding = o; exited = b.exited }
+
+-- with exit passed, or not
+abbrev pub with_exited : Books → Bool → Books
+with_exited b e = record { ledger = b.ledger; values = b.values; outstanding = b.outstanding; exited = e }
+
+-- a mov binds its name in the table, unless the name has a live allocation
+abbrev pub after_mov : Books → Name → Value → Books
+after_mov b n v = with_values b (cond (is_some (ledger.found b.ledger n)) b.values (bindings.after_bind b.values n v))
+
+-- an alloc is booked in the ledger, unless its name is bound to a value
+abbrev pub after_alloc : Books → (warp : ℕ) → Name → (columns : ℕ) → Books
+after_alloc b w n x = with_ledger b (cond (is_some (bindings.found b.values n)) b.ledger (ledger.alloc_of b.ledger n w x).next)
+
+-- a dealloc is booked in it, unless something is outstanding on its allocation
+abbrev pub after_release : Books → (warp : ℕ) → Name → (columns : ℕ) → Books
+after_release b w n x = with_ledger b (cond (outstanding.busy_on b.outstanding b.ledger n) b.ledger (ledger.release_of b.ledger n w x).next)
+
+-- a relinquish is booked in it
+abbrev pub after_relinquish : Books → (warp : ℕ) → Books
+after_relinquish b w = with_ledger b (ledger.relinquish_of b.ledger w).next
+
+-- a ld or a st of a warp is outstanding on the allocation that is found
+abbrev pub begun_on : Outstanding → Transfer → (warp : ℕ) → Option Span → Outstanding
+begun_on o x w (Some span) = outstanding.begun o x w (span.start / 32)
+begun_on o x w None = o
+
+-- so it is of one that is accepted, and a refusal changes nothing
+abbrev pub after_access : Books → Transfer → (warp : ℕ) → Name → Result Step Reason → Books
+after_access b x w n (Ok _) = with_outstanding b (begun_on b.outstanding x w (ledger.found b.ledger n))
+after_access b x w n (Err _) = b
+
+-- exit is passed where no columns are held
+abbrev pub after_exit : Books → (held : ℕ) → Books
+after_exit b held = with_exited b (cond (eqb held 0) true b.exited)
+
+-- and it is refused where some are
+abbrev pub exit_of : (held : ℕ) → Result Step Reason
+exit_of held = cond (eqb held 0) (Ok quiet) (Err reason.Exit)

@@ -1,9 +1,11 @@
 // One statement of a sheet, judged and booked: its reason, or what it asks for and gives back; and what the judge keeps.
 #![tactic(auto)]
 
-ghost use Rattle.std.specs.Prelude.{◌≡◌, ℕ, ◌<◌};
+ghost use Rattle.std.specs.Prelude.{◌≡◌, ℕ, ◌<◌, Ok};
 ghost use Rattle.statement.specs.declared.Statement.TheVariants.{Alloc, Dealloc, Relinquish, Multiply, Exit};
-ghost use Rattle.steps.specs.Steps.{opening, mov_by, access_by, wait_by, OpenDone, StatementDone};
+ghost use Rattle.outstanding.specs.Words.{waited};
+ghost use Rattle.steps.specs.Steps.{opening, quiet, mov_by, access_by, wait_by, exit_of, OpenDone, StatementDone};
+ghost use Rattle.steps.specs.Steps.{with_outstanding, after_mov, after_alloc, after_release, after_relinquish, after_access, after_exit};
 
 use bindings::{Bindings, Value};
 use ledger::{Ledger, Span};
@@ -51,7 +53,8 @@ const QUIET: Step = Step {
 
 // A value is bound, unless its name has a live allocation (6) or there is no room (7).
 fn mov(books: &mut Books, name: Name, value: Value) -> Result<Step, Reason>
-    ensures { (held w : ℕ) → OpenDone held w (mov_by name value) books.old result books.new }
+    ensures done { (held w : ℕ) → OpenDone held w (mov_by name value) books.old result books.new }
+    ensures books { books.new ≡ after_mov books.old name value }
 {
     if books.ledger.find(name).is_some() {
         return Err(Reason::Name);
@@ -65,7 +68,8 @@ fn mov(books: &mut Books, name: Name, value: Value) -> Result<Step, Reason>
 // Columns are allocated, unless the name is bound to a value (6) or the ledger refuses.
 #[inline(never)]
 fn alloc(books: &mut Books, warp: u8, name: Name, columns: u32) -> Result<Step, Reason>
-    ensures { (held : ℕ) → OpenDone held warp (Alloc name columns) books.old result books.new }
+    ensures done { (held : ℕ) → OpenDone held warp (Alloc name columns) books.old result books.new }
+    ensures books { books.new ≡ after_alloc books.old warp name columns }
 {
     if books.values.find(name).is_some() {
         return Err(Reason::Name);
@@ -82,7 +86,8 @@ fn alloc(books: &mut Books, warp: u8, name: Name, columns: u32) -> Result<Step, 
 // An allocation is released, unless the ledger refuses, or a load or store is outstanding on it (18).
 #[inline(never)]
 fn release(books: &mut Books, warp: u8, name: Name, columns: u32) -> Result<Step, Reason>
-    ensures { (held : ℕ) → OpenDone held warp (Dealloc name columns) books.old result books.new }
+    ensures done { (held : ℕ) → OpenDone held warp (Dealloc name columns) books.old result books.new }
+    ensures books { books.new ≡ after_release books.old warp name columns }
 {
     let booked = books.ledger.release(name, warp, columns);
     booked.start?;
@@ -99,7 +104,8 @@ fn release(books: &mut Books, warp: u8, name: Name, columns: u32) -> Result<Step
 // No more allocs, unless the ledger refuses.
 #[inline(never)]
 fn relinquish(books: &mut Books, warp: u8) -> Result<Step, Reason>
-    ensures { (held : ℕ) → OpenDone held warp Relinquish books.old result books.new }
+    ensures done { (held : ℕ) → OpenDone held warp Relinquish books.old result books.new }
+    ensures books { books.new ≡ after_relinquish books.old warp }
 {
     let booked = books.ledger.relinquish(warp);
     booked.start?;
@@ -110,7 +116,8 @@ fn relinquish(books: &mut Books, warp: u8) -> Result<Step, Reason>
 // A load or store is outstanding from here on, unless it is refused.
 fn access(books: &mut Books, warp: u8, transfer: Transfer, a: Access) -> Result<Step, Reason>
     requires { warp < 4 }
-    ensures { (held : ℕ) → OpenDone held warp (access_by transfer a) books.old result books.new }
+    ensures done { (held : ℕ) → OpenDone held warp (access_by transfer a) books.old result books.new }
+    ensures books { books.new ≡ after_access books.old transfer warp a.address.base result }
 {
     let start = checks::access_judged(&books.ledger, warp, a)?;
     books.outstanding = books.outstanding.begin(transfer, warp, start / 32);
@@ -120,7 +127,9 @@ fn access(books: &mut Books, warp: u8, transfer: Transfer, a: Access) -> Result<
 // A warp waits for its loads, or for its stores.
 fn wait(books: &mut Books, warp: u8, transfer: Transfer) -> Result<Step, Reason>
     requires { warp < 4 }
-    ensures { (held : ℕ) → OpenDone held warp (wait_by transfer) books.old result books.new }
+    ensures done { (held : ℕ) → OpenDone held warp (wait_by transfer) books.old result books.new }
+    ensures step { result ≡ Ok quiet }
+    ensures books { books.new ≡ with_outstanding books.old (waited books.old.outstanding transfer warp) }
 {
     books.outstanding = books.outstanding.wait(transfer, warp);
     Ok(QUIET)
@@ -136,7 +145,9 @@ fn multiply(books: &Books, m: Mma) -> Result<Step, Reason>
 
 // Exit, unless columns are held (15).
 fn leave(books: &mut Books, held: u32) -> Result<Step, Reason>
-    ensures { (w : ℕ) → OpenDone held w Exit books.old result books.new }
+    ensures done { (w : ℕ) → OpenDone held w Exit books.old result books.new }
+    ensures step { result ≡ exit_of held }
+    ensures books { books.new ≡ after_exit books.old held }
 {
     if held != 0 {
         return Err(Reason::Exit);

@@ -2,5 +2,5 @@
 use Rattle.steps.proofs.StepLaws.{wait_done}
 use Rattle.steps.proofs.wait.Goals as goal
 
-pub returns : goal.returns
-returns c held = rw c.wait-books.ensures (wait_done held _ _ _ c.requires)
+pub returns-clause-done : goal.returns-clause-done
+returns-clause-done c held = rw c.wait-books.ensures (wait_done held _ _ _ c.requires)
