@@ -1,9 +1,9 @@
 // Judges a sheet: each line is read, judged and booked in turn, up to the first that is refused.
 #![tactic(auto)]
 
-ghost use Rattle.std.specs.Prelude.{◌≡◌, true, cond, ◌≤◌, eqb, length, take};
+ghost use Rattle.std.specs.Prelude.{◌≡◌, true, false, cond, ◌≤◌, eqb, length, take};
 ghost use Rattle.reasons.specs.Reasons.{number};
-ghost use Rattle.lines.specs.Sheet.{most_lines, headed, line_count};
+ghost use Rattle.lines.specs.Sheet.{most_lines, oversize, headed, line_count};
 ghost use Rattle.statement.specs.Positions.{start_column};
 ghost use Rattle.rules.specs.Sheet.{answer, closing, answer_of, starts_of};
 ghost use Rattle.judge.specs.Judged.{sheet_of, judged_of, start_count, starts_after, RunKept};
@@ -82,6 +82,23 @@ fn judge_lines(sheet: &[u8], room: usize, given: &mut [u16; lines::LINES]) -> Ju
     finish(p, books.exited, room)
 }
 
+// A sheet that is not too large and begins with its header. Never inlined: the room for the starts would be cleared for a sheet that is refused before it is read.
+#[inline(never)]
+fn judge_headed(sheet: &[u8], starts: &mut [u16]) -> Judged
+    requires small { oversize sheet.now ≡ false }
+    requires headed { headed sheet.now ≡ true }
+    ensures answer { result.answer ≡ judged_of sheet.now (length starts.old) }
+    ensures count { result.starts ≡ start_count sheet.now (length starts.old) }
+    ensures places { starts.new ≡ starts_after sheet.now starts.old }
+    ensures run { RunKept sheet.now result.answer starts.new }
+{
+    let mut given = [0u16; lines::LINES];
+    let judged = judge_lines(sheet, starts.len(), &mut given);
+    let n = judged.starts;
+    starts[..n].copy_from_slice(&given[..n]);
+    judged
+}
+
 // Judges a sheet of any bytes: the answer, and how many starts come with it. Nothing is written to `starts` unless the sheet passes and they have room for all of
 // its starts.
 pub fn judge(sheet: &[u8], starts: &mut [u16]) -> Judged
@@ -96,9 +113,5 @@ pub fn judge(sheet: &[u8], starts: &mut [u16]) -> Judged
     if !lines::is_headed(sheet) {
         return refused(Reason::Layout, 1, 1, 0, 0);
     }
-    let mut given = [0u16; lines::LINES];
-    let judged = judge_lines(sheet, starts.len(), &mut given);
-    let n = judged.starts;
-    starts[..n].copy_from_slice(&given[..n]);
-    judged
+    judge_headed(sheet, starts)
 }

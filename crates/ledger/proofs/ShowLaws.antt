@@ -44,6 +44,11 @@ booked_reason l next reason start = cond_reason l next reason start (eqb reason 
 booked-next : (l next : Ledger) (reason start : ℕ) → reason ≡ 0 → booked l reason start next ≡ record { next = next; reason = 0; start = start }
 booked-next l next reason start e = rw e
 
+cond_start : (l next : Ledger) (reason : ℕ) (t : Bool)
+    → (cond {A = Booking} t (record { next = next; reason = 0; start = 0 }) (record { next = l; reason = reason; start = 0 })).start ≡ 0
+cond_start l next reason true = refl
+cond_start l next reason false = refl
+
 -- a rule that is kept, and the rest
 kept : (b : Bool) (x m : ℕ) → 0 < m → cond b x m ≡ 0 → (b ≡ true) × (x ≡ 0)
 kept true x m p e = (refl, e)
@@ -238,6 +243,15 @@ module _ (l : Ledger) (s : State) (h : Shows l s) where
       let z : first_broken (relinquish_rules l w) ≡ 0 = sym (booked_reason l (after_relinquish l w) (first_broken (relinquish_rules l w)) 0) ∙ e in
       subst (λ (b : Booking). Stays l b.next i) (sym (booked-next l (after_relinquish l w) (first_broken (relinquish_rules l w)) 0 z)) refl
 
+  -- only an alloc has a start
+  release_start : (n : Name) (w k : ℕ) → (release_of l n w k).start ≡ 0
+  unfolding release_of
+  release_start n w k = cond_start l (without_allocation l (slot l n)) (first_broken (release_rules l n w k)) (eqb (first_broken (release_rules l n w k)) 0)
+
+  relinquish_start : (w : ℕ) → (relinquish_of l w).start ≡ 0
+  unfolding relinquish_of
+  relinquish_start w = cond_start l (after_relinquish l w) (first_broken (relinquish_rules l w)) (eqb (first_broken (relinquish_rules l w)) 0)
+
   -- THE CLAIM
   pub tells : Tells l s
   tells = record {
@@ -252,4 +266,6 @@ module _ (l : Ledger) (s : State) (h : Shows l s) where
     alloc_stays = alloc_stays;
     release_stays = release_stays;
     relinquish_stays = relinquish_stays;
+    release_start = release_start;
+    relinquish_start = relinquish_start;
   }

@@ -104,3 +104,6 @@ pub record Tells (l : Ledger) (s : State) : Type 0 where
   pub alloc_stays : (n : Name) (w k i : ℕ) → (alloc_of l n w k).reason ≡ 0 → Taken l i → Stays l (alloc_of l n w k).next i
   pub release_stays : (n : Name) (w k i : ℕ) → (release_of l n w k).reason ≡ 0 → (name_at l i ≡ n → ⊥) → Stays l (release_of l n w k).next i
   pub relinquish_stays : (w i : ℕ) → (relinquish_of l w).reason ≡ 0 → Stays l (relinquish_of l w).next i
+  -- only an alloc has a start
+  pub release_start : (n : Name) (w k : ℕ) → (release_of l n w k).start ≡ 0
+  pub relinquish_start : (w : ℕ) → (relinquish_of l w).start ≡ 0
