@@ -1,6 +1,6 @@
 -- What each arm of a statement gives, from any state that is kept: the claims of the ledger, of the table of value names and of what is outstanding give
 -- reasons and next states, and a refusal changes nothing. Assumes nothing.
-use Rattle.std.proofs.Common.{◌≡◌, ℕ, ◌/◌, ◌<◌, Bool, true, false, cond, eqb, List, [], ◌∷◌, Some, None, Result, Ok, Err, refl, sym, ap, ◌∙◌, subst}
+use Rattle.std.proofs.Common.{◌≡◌, ℕ, ◌/◌, ◌<◌, Bool, true, false, cond, eqb, List, [], ◌∷◌, Option, Some, None, Result, Ok, Err, refl, sym, ap, ◌∙◌, subst}
 use Rattle.std.specs.Prelude.{is_some}
 use types.Run.{OneOf}
 use denote.Enum.Declared.{tag_of}
@@ -47,6 +47,10 @@ use Rattle.checks.specs.Checks.{AccessJudged, StartsAt, MmaJudged}
 use Rattle.steps.specs.declared.Books.{Books}
 use Rattle.steps.specs.declared.Step.{Step}
 use Rattle.steps.specs.Steps.{opening, Kept, Made, Gives, StatementDone, OpenDone, quiet, mov_by, access_by, wait_by, with_ledger, with_values, with_outstanding, after_alloc, after_release, after_relinquish}
+
+-- a test whether something was found tells of what a table has
+pub tested : {T : Type 0} {answer has : Option T} {there b : Bool} → answer ≡ has → there ≡ is_some answer → there ≡ b → is_some has ≡ b
+tested found test b = sym (ap (λ o. is_some o) found) ∙ sym test ∙ b
 
 -- nothing is kept where nothing was said
 pub opening_kept : Kept opening opened
