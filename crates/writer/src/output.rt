@@ -43,23 +43,17 @@ fn halves(h: &[u8], l: &[u8]) -> bool
     full & (shaped & (all_words(rest) & all_words(l)))
 }
 
-// Whether a name is such as reading gives.
-fn given(n: Name) -> bool
-    ensures { result ≡ name_given n }
+// A name, if it is such as reading gives: its first eight bytes, and those after them.
+pub fn name(t: &mut Text, n: Name)
+    ensures { t.new ≡ add_c (name_bytes n) (name_given n) t.old }
 {
     let mut h = [0u8; 8];
     let mut l = [0u8; 8];
     let a = pieces::spread(&mut h, n.hi);
     let b = pieces::spread(&mut l, n.lo);
-    halves(&h[a..], &l[b..])
-}
-
-// A name.
-pub fn name(t: &mut Text, n: Name)
-    ensures { t.new ≡ add_c (name_bytes n) (name_given n) t.old }
-{
-    if given(n) {
-        t.name(n);
+    if halves(&h[a..], &l[b..]) {
+        t.put(&h[a..]);
+        t.put(&l[b..]);
     } else {
         t.refuse();
     }
