@@ -140,8 +140,8 @@ impl Fields {
         }
     }
 
-    // Each number has room in its field; N is in eights and M in sixteens. By `&`: by `&&` each test is a branch, and a call of `encode_fields` on words of all sorts takes a
-    // quarter more time.
+    // Each number has room in its field; N is in eights and M in sixteens. By `&`: by `&&` each test is a branch, and a call of `encode_fields` on fields of all sorts takes
+    // a quarter more time.
     fn in_range(self) -> bool
         ensures { result ≡ all (ranges layout (values self)) }
     {
@@ -230,7 +230,7 @@ impl From<Fields> for [u32; 13] {
 }
 
 impl Opcode {
-    // Sparsity, saturation, negation and shift are such as the opcode allows.
+    // Sparsity, saturation, negation and shift are such as the opcode allows. By `&`, as `in_range`.
     fn allows(self, f: Fields) -> bool
         ensures { result ≡ all (flags self.kind self.ws self.sp (values f)) }
     {

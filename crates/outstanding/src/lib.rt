@@ -80,7 +80,8 @@ impl Outstanding {
         self.words.iter().fold(0, |all, word| all | word)
     }
 
-    // Whether anything is outstanding on the allocation of a live name. It is not looked for where nothing is outstanding at all.
+    // Whether anything is outstanding on the allocation of a live name; of another name slot 0 is looked at. It is not looked for where nothing is outstanding
+    // at all.
     pub fn is_busy(&self, ledger: &Ledger, name: Name) -> bool
         ensures { result ≡ busy_on self.now ledger.now name }
     {

@@ -104,7 +104,7 @@ pub fn registers(s: &[u8], names: &mut [Name; 128]) -> usize
     list_of(s, k, head.opcode, names)
 }
 
-// The number of an answer.
+// The number of a reading, 0 for what reads.
 pub fn reason(t: Reading) -> u32
     ensures { result ≡ reason_of t }
 {

@@ -30,7 +30,7 @@ fn fixed_stand(word: u64) -> bool
         && (word >> 53) % 256 == 0
 }
 
-// An address or offset is a multiple of 16 and has room in its field.
+// An address or offset is a multiple of 16 and has room in its field. By `&`, as `in_range`.
 fn storable(x: u64) -> bool
     ensures { result ≡ (eqb (x % 16) 0 && leb x 262128) }
 {
@@ -65,7 +65,7 @@ impl Shared {
             & (self.swizzle <= 7)
     }
 
-    // The swizzle is one of the five, and there is no base offset without one.
+    // The swizzle is one of the five, and there is no base offset without one. By `&`, as `in_range`.
     fn follows(self) -> bool
         ensures { result ≡ all (rules self) }
     {
