@@ -137,7 +137,7 @@ module _ (l : Ledger) (s : State) (h : Shows l s) where
   unfolding relinquish_of
   relinquish_reason held w =
       first_broken_lem lowest s held w Relinquish
-      ∙ sym (booked_reason l (after_relinquish l w) (first_broken (relinquish_rules l w)) 0 ∙ rw (warp_test w))
+      ∙ sym (booked_reason l (after_relinquish l w) (first_broken (relinquish_rules l w)) _ ∙ rw (warp_test w))
 
   -- what a kept alloc says
   alloc-kept : (n : Name) (w k : ℕ) → (alloc_of l n w k).reason ≡ 0
@@ -205,10 +205,10 @@ module _ (l : Ledger) (s : State) (h : Shows l s) where
   relinquished : (w : ℕ) → (relinquish_of l w).reason ≡ 0 → Shows (relinquish_of l w).next (effect lowest s w act.relinquishes)
   unfolding relinquish_of effect
   relinquished w e =
-      let z : first_broken (relinquish_rules l w) ≡ 0 = sym (booked_reason l (after_relinquish l w) (first_broken (relinquish_rules l w)) 0) ∙ e in
+      let z : first_broken (relinquish_rules l w) ≡ 0 = sym (booked_reason l (after_relinquish l w) (first_broken (relinquish_rules l w)) _) ∙ e in
       let a = kept (may_book l w) 0 8 (omega arith) z in
       subst (λ (b : Booking). Shows b.next (effect lowest s w act.relinquishes))
-      (sym (booked-next l (after_relinquish l w) (first_broken (relinquish_rules l w)) 0 z))
+      (sym (booked-next l (after_relinquish l w) (first_broken (relinquish_rules l w)) _ z))
       (record { slots = record { size = h.slots.size; down = h.slots.down; up = h.slots.up; unique = h.slots.unique; sum = h.slots.sum }; warp = fixes l.warp w a.0 ∙ ap (λ (o : maybe.Option ℕ). fixed o w) h.warp; relinquished = refl })
 
   -- the slots that are not booked
@@ -240,8 +240,8 @@ module _ (l : Ledger) (s : State) (h : Shows l s) where
   relinquish_stays : (w i : ℕ) → (relinquish_of l w).reason ≡ 0 → Stays l (relinquish_of l w).next i
   unfolding relinquish_of
   relinquish_stays w i e =
-      let z : first_broken (relinquish_rules l w) ≡ 0 = sym (booked_reason l (after_relinquish l w) (first_broken (relinquish_rules l w)) 0) ∙ e in
-      subst (λ (b : Booking). Stays l b.next i) (sym (booked-next l (after_relinquish l w) (first_broken (relinquish_rules l w)) 0 z)) refl
+      let z : first_broken (relinquish_rules l w) ≡ 0 = sym (booked_reason l (after_relinquish l w) (first_broken (relinquish_rules l w)) _) ∙ e in
+      subst (λ (b : Booking). Stays l b.next i) (sym (booked-next l (after_relinquish l w) (first_broken (relinquish_rules l w)) _ z)) refl
 
   -- only an alloc has a start
   release_start : (n : Name) (w k : ℕ) → (release_of l n w k).start ≡ 0
