@@ -16,7 +16,7 @@ use Rattle.rules.specs.Sheet.{Line, statement, given, requested, released, line_
 use Rattle.ledger.specs.declared.Ledger.{Ledger}
 use Rattle.ledger.specs.declared.Span.{Span}
 use Rattle.ledger.specs.Booking as ledger
-use Rattle.ledger.specs.Shows.{warp_of}
+use Rattle.ledger.specs.Shows.{warp_of, or_busy}
 use Rattle.bindings.specs.declared.Bindings.{Bindings}
 use Rattle.bindings.specs.declared.Value.{Value}
 use Rattle.bindings.specs.declared.Value.TheVariants.{B32, B64}
@@ -95,6 +95,27 @@ access_by transfer.Store a = Store a
 abbrev pub wait_by : Transfer → Statement
 wait_by transfer.Load = WaitLoad
 wait_by transfer.Store = WaitStore
+
+-- ---- what each booking answers, whether or not a state has the books
+-- the reason of an alloc, or 0: its name is bound to a value (6), else the ledger's
+abbrev pub alloc_reason : Books → (warp : ℕ) → Name → (columns : ℕ) → ℕ
+alloc_reason b w n x = cond (is_some (bindings.found b.values n)) 6 (ledger.alloc_of b.ledger n w x).reason
+
+-- one that is accepted asks for its columns, from the ledger's start on
+abbrev pub alloc_step : Books → (warp : ℕ) → Name → (columns : ℕ) → Step
+alloc_step b w n x = record { asked = Some (record { start = (ledger.alloc_of b.ledger n w x).start; columns = x }); returned = 0 }
+
+-- the reason of a dealloc, or 0: the ledger's, else 18 where something is outstanding on its allocation
+abbrev pub release_reason : Books → (warp : ℕ) → Name → (columns : ℕ) → ℕ
+release_reason b w n x = or_busy (ledger.release_of b.ledger n w x).reason (outstanding.busy_on b.outstanding b.ledger n)
+
+-- one that is accepted gives its columns back
+abbrev pub release_step : (columns : ℕ) → Step
+release_step x = record { asked = None; returned = x }
+
+-- the reason of a relinquish, or 0
+abbrev pub relinquish_reason : Books → (warp : ℕ) → ℕ
+relinquish_reason b w = (ledger.relinquish_of b.ledger w).reason
 
 -- ---- the books after each part, whether or not a state has them
 -- the books with another ledger

@@ -1,10 +1,12 @@
 // One statement of a sheet, judged and booked: its reason, or what it asks for and gives back; and what the judge keeps.
 #![tactic(auto)]
 
-ghost use Rattle.std.specs.Prelude.{◌≡◌, ℕ, ◌<◌, Ok};
+ghost use Rattle.std.specs.Prelude.{◌≡◌, ℕ, ◌<◌, Ok, IfOk};
+ghost use Rattle.reasons.specs.Reasons.{answered};
 ghost use Rattle.statement.specs.declared.Statement.TheVariants.{Alloc, Dealloc, Relinquish, Multiply, Exit};
 ghost use Rattle.outstanding.specs.Words.{waited};
 ghost use Rattle.steps.specs.Steps.{opening, quiet, mov_by, access_by, wait_by, exit_of, OpenDone, StatementDone};
+ghost use Rattle.steps.specs.Steps.{alloc_reason, alloc_step, release_reason, release_step, relinquish_reason};
 ghost use Rattle.steps.specs.Steps.{with_outstanding, after_mov, after_alloc, after_release, after_relinquish, after_access, after_exit};
 
 use bindings::{Bindings, Value};
@@ -69,6 +71,8 @@ fn mov(books: &mut Books, name: Name, value: Value) -> Result<Step, Reason>
 #[inline(never)]
 fn alloc(books: &mut Books, warp: u8, name: Name, columns: u32) -> Result<Step, Reason>
     ensures done { (held : ℕ) → OpenDone held warp (Alloc name columns) books.old result books.new }
+    ensures reason { answered result ≡ alloc_reason books.old warp name columns }
+    ensures step { IfOk result (λ s. s ≡ alloc_step books.old warp name columns) }
     ensures books { books.new ≡ after_alloc books.old warp name columns }
 {
     if books.values.find(name).is_some() {
@@ -87,6 +91,8 @@ fn alloc(books: &mut Books, warp: u8, name: Name, columns: u32) -> Result<Step, 
 #[inline(never)]
 fn release(books: &mut Books, warp: u8, name: Name, columns: u32) -> Result<Step, Reason>
     ensures done { (held : ℕ) → OpenDone held warp (Dealloc name columns) books.old result books.new }
+    ensures reason { answered result ≡ release_reason books.old warp name columns }
+    ensures step { IfOk result (λ s. s ≡ release_step columns) }
     ensures books { books.new ≡ after_release books.old warp name columns }
 {
     let booked = books.ledger.release(name, warp, columns);
@@ -105,6 +111,8 @@ fn release(books: &mut Books, warp: u8, name: Name, columns: u32) -> Result<Step
 #[inline(never)]
 fn relinquish(books: &mut Books, warp: u8) -> Result<Step, Reason>
     ensures done { (held : ℕ) → OpenDone held warp Relinquish books.old result books.new }
+    ensures reason { answered result ≡ relinquish_reason books.old warp }
+    ensures step { IfOk result (λ s. s ≡ quiet) }
     ensures books { books.new ≡ after_relinquish books.old warp }
 {
     let booked = books.ledger.relinquish(warp);
