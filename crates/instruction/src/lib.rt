@@ -63,7 +63,7 @@ fn known_dtype(c: u32) -> bool
 fn fixed_stand(word: u32) -> bool
     ensures { result ≡ all (stands layout word) }
 {
-    (word >> 6) % 2 == 0 && (word >> 23) % 2 == 0 && (word >> 29) % 2 == 0
+    ((word >> 6) % 2 == 0) & ((word >> 23) % 2 == 0) & ((word >> 29) % 2 == 0)
 }
 
 // n is a multiple of `by`, from `least` to `most`.
@@ -91,7 +91,7 @@ impl Kind {
     fn has_types(self, f: Fields) -> bool
         ensures { result ≡ typed self (values f) }
     {
-        known_dtype(f.dtype) && self.has_element(f.atype) && self.has_element(f.btype)
+        known_dtype(f.dtype) & self.has_element(f.atype) & self.has_element(f.btype)
     }
 
     // The dtype is listed for the kind and the two types, by their codes.
@@ -246,7 +246,7 @@ impl Opcode {
     fn admits(self, f: Fields) -> bool
         ensures { result ≡ keeps self.kind self.ws self.sp (named self.kind (values f)) }
     {
-        self.kind.has_types(f) && self.allows(f)
+        self.kind.has_types(f) & self.allows(f)
     }
 
     // M is listed.

@@ -24,17 +24,17 @@ pub struct Shared {
 fn fixed_stand(word: u64) -> bool
     ensures { result ≡ all (stands layout word) }
 {
-    (word >> 14) % 4 == 0
-        && (word >> 30) % 4 == 0
-        && (word >> 46) % 8 == 1
-        && (word >> 53) % 256 == 0
+    ((word >> 14) % 4 == 0)
+        & ((word >> 30) % 4 == 0)
+        & ((word >> 46) % 8 == 1)
+        & ((word >> 53) % 256 == 0)
 }
 
-// An address or offset is a multiple of 16 and has room in its field. By `&`, as `in_range`.
+// An address or offset is a multiple of 16 and has room in its field: below 2^18, which one mask tests for all three together.
 fn storable(x: u64) -> bool
     ensures { result ≡ (eqb (x % 16) 0 && leb x 262128) }
 {
-    (x % 16 == 0) & (x <= 262128)
+    (x % 16 == 0) & (x < 262144)
 }
 
 impl Shared {
@@ -60,9 +60,8 @@ impl Shared {
         storable(self.start)
             & storable(self.leading)
             & storable(self.stride)
-            & (self.base <= 7)
             & (self.mode <= 1)
-            & (self.swizzle <= 7)
+            & ((self.base <= 7) & (self.swizzle <= 7))
     }
 
     // The swizzle is one of the five, and there is no base offset without one. By `&`, as `in_range`.

@@ -53,7 +53,9 @@ pub fn name(t: &mut Text, n: Name)
     let b = pieces::spread(&mut l, n.lo);
     if halves(&h[a..], &l[b..]) {
         t.put(&h[a..]);
-        t.put(&l[b..]);
+        if b < 8 {
+            t.put(&l[b..]);
+        }
     } else {
         t.refuse();
     }
