@@ -64,11 +64,11 @@ impl Shared {
             & ((self.base <= 7) & (self.swizzle <= 7))
     }
 
-    // The swizzle is one of the five, and there is no base offset without one. By `&`, as `in_range`.
+    // A swizzle of 1, 2, 4 or 6 stands with any base offset, and 0 with none. By `|`, as `in_range` by `&`.
     fn follows(self) -> bool
         ensures { result ≡ all (rules self) }
     {
-        matches!(self.swizzle, 0 | 1 | 2 | 4 | 6) & ((self.swizzle != 0) | (self.base == 0))
+        (self.swizzle == 1) | (self.swizzle == 2) | (self.swizzle == 4) | (self.swizzle == 6) | ((self.swizzle == 0) & (self.base == 0))
     }
 
     // The word of numbers that are in range.
