@@ -1,5 +1,5 @@
-// The instruction descriptor: 32 bits, read and written under an opcode: a kind, `.ws` and `.sp`. Its tests go by `&` and `|`: by `&&`, `||` and `matches!` each is a branch,
-// and on fields of all sorts a call of `encode_fields` or `listed_fields` takes 1.4 to 2.3 times the time.
+// The instruction descriptor: 32 bits, read and written under an opcode: a kind, `.ws` and `.sp`. Most tests go by `&` and `|`: by `&&`, `||` and a `matches!` of scattered
+// numbers each is a branch, and on fields of all sorts a call of `encode_fields` or `listed_fields` takes 1.4 to 2.8 times the time.
 #![tactic(auto)]
 
 ghost use Rattle.std.specs.Prelude.{◌<◌, ◌≡◌, ◌&&◌};
