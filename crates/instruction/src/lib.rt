@@ -100,7 +100,8 @@ impl Kind {
         ensures { result ≡ types_listed self f.dtype f.atype f.btype }
     {
         match self {
-            Kind::F16 => (f.atype == f.btype) & ((f.dtype == 1) | ((f.dtype == 0) & (f.atype == 0))),
+            Kind::F16 => (f.atype == f.btype)
+                & ((f.dtype == 1) | ((f.dtype == 0) & (f.atype == 0))),
             Kind::Tf32 => f.dtype == 1,
             Kind::F8f6f4 => (f.dtype == 0) | (f.dtype == 1),
             Kind::I8 => f.dtype == 2,

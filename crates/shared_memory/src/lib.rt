@@ -68,7 +68,11 @@ impl Shared {
     fn follows(self) -> bool
         ensures { result ≡ all (rules self) }
     {
-        (self.swizzle == 1) | (self.swizzle == 2) | (self.swizzle == 4) | (self.swizzle == 6) | ((self.swizzle == 0) & (self.base == 0))
+        (self.swizzle == 1)
+            | (self.swizzle == 2)
+            | (self.swizzle == 4)
+            | (self.swizzle == 6)
+            | ((self.swizzle == 0) & (self.base == 0))
     }
 
     // The word of numbers that are in range.
